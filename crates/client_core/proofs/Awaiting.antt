@@ -5,8 +5,8 @@ use Rattle.rpc_retry.specs.Held.{next_xid}
 use Rattle.world_model.specs.declared.answer.Fault.{Fault}
 use Rattle.world_model.specs.declared.message.Call.{Call}
 use Rattle.world_model.specs.declared.message.Reply.{Reply}
-use Rattle.client_shelf.specs.declared.next.Next.{Next}
-use Rattle.client_shelf.specs.declared.next.Next.TheVariants.{Send, Wait, Done}
+use Rattle.client_shelf.specs.declared.step.Step.{Step}
+use Rattle.client_shelf.specs.declared.step.Step.TheVariants.{Send, Wait, Done}
 use Rattle.client_shelf.specs.declared.shelf.Shelf.{Shelf}
 use Rattle.client_shelf.specs.declared.turn.Turn.{Turn}
 use Rattle.client_shelf.specs.Spelling.{AreSpellable}
@@ -27,7 +27,7 @@ use Rattle.client_core.specs.Numbers.{AreLanes, IsIdle}
 use Rattle.client_core.proofs.Numbers.{pushed-lanes, set-lanes}
 use Rattle.client_core.proofs.Places.{at-last, at-set, all-at, same-machine}
 
-step-awaits : (v : View) (lanes : List Lane) (at number : ℕ) (next : Next) (after : Machine) (shelf : Shelf)
+step-awaits : (v : View) (lanes : List Lane) (at number : ℕ) (next : Step) (after : Machine) (shelf : Shelf)
     → IsSound v → AreLanes lanes → All LaneFits lanes → slice_get lanes at ≡ Some (record { number = number; state = Busy after })
     → shelf.seq ≤ v.moments → AreSpellable shelf.back × AsksSpellable next → IsReady (next_xid v.calls + 1) shelf.seq shelf.back
     → (AsksNothing next → IsReady (next_xid v.calls) shelf.seq shelf.back) → (has_room v ≡ false → AsksNothing next)
@@ -45,7 +45,7 @@ step-awaits v lanes at number next after shelf s few fits there seq spells ready
     room call is true h = h
     room call is false h = absurd (roomless h call is)
 
-    by : (n : Next) → next ≡ n → Awaits (record v { lanes = lanes; shelf = shelf }) at n
+    by : (n : Step) → next ≡ n → Awaits (record v { lanes = lanes; shelf = shelf }) at n
     by (Send call) is = record {
       room = room call is (has_room v) refl;
       spells = spells.1 call is;
@@ -59,7 +59,7 @@ step-awaits v lanes at number next after shelf s few fits there seq spells ready
     by (Done answer) is = sound (λ call sends. absurd (let no-way : Done answer ≡ Send call = sym is ∙ sends in cc))
 
 -- a new operation made its first step
-pub started : (laws : StepLaws) (v : View) (number : ℕ) (machine after : Machine) (next : Next) (shelf : Shelf)
+pub started : (laws : StepLaws) (v : View) (number : ℕ) (machine after : Machine) (next : Step) (shelf : Shelf)
     → IsSound v → v.shelf.seq < v.moments → IsIdle number v.lanes → Fits machine → Starts v.wsize machine (turn_at v) v.shelf next after shelf
     → Awaits (record v { lanes = v.lanes ++ record { number = number; state = Busy after } ∷ []; shelf = shelf }) (length v.lanes) next
 started laws v number machine after next shelf s seq idle fits starts =
@@ -72,13 +72,13 @@ started laws v number machine after next shelf s seq idle fits starts =
     (laws.starts_ready v.wsize machine (turn_at v) v.shelf next after shelf starts s.ready)
     (λ none. laws.starts_unsent v.wsize machine (turn_at v) v.shelf next after shelf starts (next_xid v.calls) none s.ready)
     (λ full. laws.starts_roomless v.wsize machine (turn_at v) v.shelf next after shelf full starts)
-    (λ call is. laws.starts_unmade v.wsize machine (turn_at v) v.shelf call after shelf (subst (λ (n : Next). Starts v.wsize machine (turn_at v) v.shelf n after shelf) is starts) s.ready)
+    (λ call is. laws.starts_unmade v.wsize machine (turn_at v) v.shelf call after shelf (subst (λ (n : Step). Starts v.wsize machine (turn_at v) v.shelf n after shelf) is starts) s.ready)
 
 fitting : (v : View) (at number : ℕ) (machine : Machine) → IsSound v → IsBusyAt v at number machine → Fits machine
 fitting v at number machine s there = all-at LaneFits v.lanes at (record { number = number; state = Busy machine }) s.bound.fits there
 
 -- an operation went on
-pub resumed : (laws : StepLaws) (v : View) (at number : ℕ) (machine after : Machine) (next : Next) (shelf : Shelf)
+pub resumed : (laws : StepLaws) (v : View) (at number : ℕ) (machine after : Machine) (next : Step) (shelf : Shelf)
     → IsSound v → IsBusyAt v at number machine → Resumes v.wsize machine (turn_at v) v.shelf next after shelf
     → Awaits (with_state v at number (Busy after) shelf) at next
 resumed laws v at number machine after next shelf s there resumes =
@@ -91,10 +91,10 @@ resumed laws v at number machine after next shelf s there resumes =
     (laws.resumes_ready v.wsize machine (turn_at v) v.shelf next after shelf resumes s.ready)
     (λ none. laws.resumes_unsent v.wsize machine (turn_at v) v.shelf next after shelf resumes (next_xid v.calls) none s.ready)
     (λ full. laws.resumes_roomless v.wsize machine (turn_at v) v.shelf next after shelf full resumes)
-    (λ call is. laws.resumes_unmade v.wsize machine (turn_at v) v.shelf call after shelf (subst (λ (n : Next). Resumes v.wsize machine (turn_at v) v.shelf n after shelf) is resumes) s.ready)
+    (λ call is. laws.resumes_unmade v.wsize machine (turn_at v) v.shelf call after shelf (subst (λ (n : Step). Resumes v.wsize machine (turn_at v) v.shelf n after shelf) is resumes) s.ready)
 
 -- an operation took what came of its call
-pub took : (laws : StepLaws) (v : View) (at number : ℕ) (machine after : Machine) (sent : Turn) (came : Result Reply Fault) (next : Next) (shelf : Shelf)
+pub took : (laws : StepLaws) (v : View) (at number : ℕ) (machine after : Machine) (sent : Turn) (came : Result Reply Fault) (next : Step) (shelf : Shelf)
     → IsSound v → v.shelf.seq < v.moments → IsBusyAt v at number machine → Takes v.wsize machine sent (turn_at v) came v.shelf next after shelf
     → Awaits (with_state v at number (Busy after) shelf) at next
 took laws v at number machine after sent came next shelf s seq there takes =
@@ -107,4 +107,4 @@ took laws v at number machine after sent came next shelf s seq there takes =
     (laws.takes_ready v.wsize machine sent (turn_at v) came v.shelf next after shelf takes s.ready)
     (λ none. laws.takes_unsent v.wsize machine sent (turn_at v) came v.shelf next after shelf takes (next_xid v.calls) none s.ready)
     (λ full. laws.takes_roomless v.wsize machine sent (turn_at v) came v.shelf next after shelf full takes)
-    (λ call is. laws.takes_unmade v.wsize machine sent (turn_at v) came v.shelf call after shelf (subst (λ (n : Next). Takes v.wsize machine sent (turn_at v) came v.shelf n after shelf) is takes) s.ready)
+    (λ call is. laws.takes_unmade v.wsize machine sent (turn_at v) came v.shelf call after shelf (subst (λ (n : Step). Takes v.wsize machine sent (turn_at v) came v.shelf n after shelf) is takes) s.ready)

@@ -10,7 +10,7 @@ use Rattle.world_model.specs.declared.answer.Answer.{Answer}
 use Rattle.world_model.specs.declared.answer.Answer.TheVariants as answers
 use Rattle.world_model.specs.declared.answer.Fault.TheVariants as faults
 use Rattle.call_replies.specs.Says.{said_of}
-use Rattle.client_shelf.specs.declared.next.Next.{Next}
+use Rattle.client_shelf.specs.declared.step.Step.{Step}
 use Rattle.client_shelf.specs.declared.shelf.Shelf.{Shelf}
 use Rattle.op_machines.specs.declared.machine.Machine.{Machine}
 use Rattle.op_machines.specs.Steps.{Starts}
@@ -146,7 +146,7 @@ started-busy lanes number after = is-busy (lanes ++ record { number = number; st
 pub started-within : (lanes : List Lane) (lane : Lane) → length lanes < length (lanes ++ lane ∷ [])
 started-within lanes lane = let more = length_push lanes lane in omega (arith, more)
 
-pub starts-lane : (v : View) (number : ℕ) (machine after : Machine) (next : Next) (shelf : Shelf) (new : View) → Starts v.wsize machine (turn_at v) v.shelf next after shelf
+pub starts-lane : (v : View) (number : ℕ) (machine after : Machine) (next : Step) (shelf : Shelf) (new : View) → Starts v.wsize machine (turn_at v) v.shelf next after shelf
     → ((other : ℕ) (another : Machine) → IsBusyAt (record v { lanes = v.lanes ++ record { number = number; state = Busy after } ∷ []; shelf = shelf }) (length v.lanes) other another
     → Leads (record v { lanes = v.lanes ++ record { number = number; state = Busy after } ∷ []; shelf = shelf }) (length v.lanes) other another next new)
     → StartsLane v number machine new

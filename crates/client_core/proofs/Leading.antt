@@ -17,8 +17,8 @@ use Rattle.world_model.specs.declared.answer.Answer.{Answer}
 use Rattle.world_model.specs.declared.answer.Fault.{Fault}
 use Rattle.world_model.specs.declared.message.Call.{Call}
 use Rattle.world_model.specs.Messages.{proc_of}
-use Rattle.client_shelf.specs.declared.next.Next.{Next}
-use Rattle.client_shelf.specs.declared.next.Next.TheVariants.{Send, Wait, Done}
+use Rattle.client_shelf.specs.declared.step.Step.{Step}
+use Rattle.client_shelf.specs.declared.step.Step.TheVariants.{Send, Wait, Done}
 use Rattle.client_shelf.specs.declared.shelf.Shelf.{Shelf}
 use Rattle.client_shelf.specs.declared.turn.Turn.{Turn}
 use Rattle.file_ops.specs.Ready.{IsReady}
@@ -63,7 +63,7 @@ makes-sound v at number call new a m =
 
 -- ---- a call that wasn't
 
-refused-fits : (machine : Machine) (next : Next) (state : State) → IsRefused machine next state → Fits machine → StateFits state
+refused-fits : (machine : Machine) (next : Step) (state : State) → IsRefused machine next state → Fits machine → StateFits state
 refused-fits machine Wait state is fits = subst StateFits (sym is) fits
 refused-fits machine (Done answer) state is fits = subst StateFits (sym is) tt
 refused-fits machine (Send call) state is fits = absurd is
@@ -89,12 +89,12 @@ refuses-sound laws v at number machine new a there r =
     })
 
 -- the state to which the refusal leads
-pub record RefusedTo (v : View) (at number : ℕ) (next : Next) (after : Machine) (left : Shelf) (new : View) : Type 0 where
+pub record RefusedTo (v : View) (at number : ℕ) (next : Step) (after : Machine) (left : Shelf) (new : View) : Type 0 where
   pub state : State
   pub leads : IsRefused after next state
   pub is : new ≡ with_state v at number state left
 
-pub refuses-by : (v : View) (at number : ℕ) (machine after : Machine) (fault : Fault) (next : Next) (left : Shelf) (new : View) → IsUnmade v fault
+pub refuses-by : (v : View) (at number : ℕ) (machine after : Machine) (fault : Fault) (next : Step) (left : Shelf) (new : View) → IsUnmade v fault
     → Takes v.wsize machine (turn_at v) (unmade_turn v) (Err fault) v.shelf next after left → RefusedTo v at number next after left new → Refuses v at number machine new
 refuses-by v at number machine after fault next left new unmade takes to = record {
   fault = fault;
@@ -109,22 +109,22 @@ refuses-by v at number machine after fault next left new unmade takes to = recor
 }
 
 -- where the operation has its answer
-pub refused-done : (v : View) (at number : ℕ) (next : Next) (answer : Answer) (after : Machine) (left : Shelf) (mid new : View) → next ≡ Done answer
+pub refused-done : (v : View) (at number : ℕ) (next : Step) (answer : Answer) (after : Machine) (left : Shelf) (mid new : View) → next ≡ Done answer
     → mid ≡ with_state v at number (Busy after) left → slice_get mid.lanes at ≡ Some (record { number = number; state = Busy after }) → EndsAs mid at answer new → RefusedTo v at number next after left new
 refused-done v at number next answer after left mid new is mid_is there ends = record {
   state = Over answer;
-  leads = subst (λ (n : Next). IsRefused after n (Over answer)) (sym is) refl;
+  leads = subst (λ (n : Step). IsRefused after n (Over answer)) (sym is) refl;
   is = ends.is ∙ ap (λ (n : ℕ). with_state mid at n (Over answer) mid.shelf) (sym (same-number mid.lanes at number ends.number (Busy after) ends.state there ends.there))
       ∙ ap (λ (m : View). with_state m at number (Over answer) m.shelf) mid_is
       ∙ ap (λ (ls : List Lane). record v { lanes = ls; shelf = left }) (set-twice v.lanes at (record { number = number; state = Busy after }) (record { number = number; state = Over answer }));
 }
 
 -- where it waits on: it asks for no call, since no call may be made
-pub refused-waits : (v : View) (at number : ℕ) (next : Next) (after : Machine) (left : Shelf) (new : View) → ((call : Call) → next ≡ Send call → ⊥) → ((answer : Answer) → next ≡ Done answer → ⊥)
+pub refused-waits : (v : View) (at number : ℕ) (next : Step) (after : Machine) (left : Shelf) (new : View) → ((call : Call) → next ≡ Send call → ⊥) → ((answer : Answer) → next ≡ Done answer → ⊥)
     → new ≡ with_state v at number (Busy after) left → RefusedTo v at number next after left new
 refused-waits v at number next after left new none undone is = record { state = Busy after; leads = by next none undone; is = is }
   where
-    by : (n : Next) → ((call : Call) → n ≡ Send call → ⊥) → ((answer : Answer) → n ≡ Done answer → ⊥) → IsRefused after n (Busy after)
+    by : (n : Step) → ((call : Call) → n ≡ Send call → ⊥) → ((answer : Answer) → n ≡ Done answer → ⊥) → IsRefused after n (Busy after)
     by Wait none undone = refl
     by (Send call) none undone = absurd (none call refl)
     by (Done answer) none undone = absurd (undone answer refl)

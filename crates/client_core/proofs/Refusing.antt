@@ -3,8 +3,8 @@ use Rattle.std.proofs.Common.{◌≡◌, ℕ, List, Bool, true, false, Some, sli
 use Rattle.world_model.specs.declared.answer.Answer.{Answer}
 use Rattle.world_model.specs.declared.answer.Fault.{Fault}
 use Rattle.world_model.specs.declared.message.Call.{Call}
-use Rattle.client_shelf.specs.declared.next.Next.{Next}
-use Rattle.client_shelf.specs.declared.next.Next.TheVariants.{Send, Wait, Done}
+use Rattle.client_shelf.specs.declared.step.Step.{Step}
+use Rattle.client_shelf.specs.declared.step.Step.TheVariants.{Send, Wait, Done}
 use Rattle.client_shelf.specs.declared.shelf.Shelf.{Shelf}
 use Rattle.op_machines.specs.declared.machine.Machine.{Machine}
 use Rattle.client_core.specs.declared.lane.Lane.{Lane}
@@ -17,7 +17,7 @@ use Rattle.client_core.proofs.Places.{same-number, same-machine}
 use Rattle.client_core.proofs.Leading.{RefusedTo, refuses-by, refuses-sound, refused-done, refused-waits, ends-sound}
 use Rattle.client_core.proofs.Stirring.{stepped, StepsBy, by-there}
 
-module _ (v : View) (at : ℕ) (fault : Fault) (next : Next) (new : Lane) (shelf : Shelf) where
+module _ (v : View) (at : ℕ) (fault : Fault) (next : Step) (new : Lane) (shelf : Shelf) where
   -- the operation has its answer
   pub done-to : (answer : Answer) (last : View) (o : StepsBy v at (turn_at v) (Err fault) (unmade_turn v) next new shelf) → next ≡ Done answer → EndsAs (stepped v at new shelf) at answer last → RefusedTo v at o.number next o.after shelf last
   done-to answer last o is ends =
@@ -48,15 +48,15 @@ on-ok (Err f) p not = absurd (not f refl)
 
 -- ---- what a step leads to
 
-pub waits-sound : (v : View) (at : ℕ) (next : Next) → next ≡ Wait → Awaits v at next → IsSound v
-waits-sound v at next is a = subst (λ (n : Next). Awaits v at n) is a
+pub waits-sound : (v : View) (at : ℕ) (next : Step) → next ≡ Wait → Awaits v at next → IsSound v
+waits-sound v at next is a = subst (λ (n : Step). Awaits v at n) is a
 
-pub done-sound : (v : View) (at : ℕ) (next : Next) (answer : Answer) → next ≡ Done answer → Awaits v at next → IsSound v
-done-sound v at next answer is a = subst (λ (n : Next). Awaits v at n) is a
+pub done-sound : (v : View) (at : ℕ) (next : Step) (answer : Answer) → next ≡ Done answer → Awaits v at next → IsSound v
+done-sound v at next answer is a = subst (λ (n : Step). Awaits v at n) is a
 
-pub asks-call : (v : View) (at : ℕ) (next : Next) (call : Call) → next ≡ Send call → Awaits v at next → AwaitsCall v at call
-asks-call v at next call is a = subst (λ (n : Next). Awaits v at n) is a
+pub asks-call : (v : View) (at : ℕ) (next : Step) (call : Call) → next ≡ Send call → Awaits v at next → AwaitsCall v at call
+asks-call v at next call is a = subst (λ (n : Step). Awaits v at n) is a
 
-pub leads-as : (v : View) (at : ℕ) (next to : Next) (new : View) → next ≡ to → ((number : ℕ) (machine : Machine) → IsBusyAt v at number machine → Leads v at number machine to new)
+pub leads-as : (v : View) (at : ℕ) (next to : Step) (new : View) → next ≡ to → ((number : ℕ) (machine : Machine) → IsBusyAt v at number machine → Leads v at number machine to new)
     → (number : ℕ) (machine : Machine) → IsBusyAt v at number machine → Leads v at number machine next new
-leads-as v at next to new is leads number machine there = subst (λ (n : Next). Leads v at number machine n new) (sym is) (leads number machine there)
+leads-as v at next to new is leads number machine there = subst (λ (n : Step). Leads v at number machine n new) (sym is) (leads number machine there)

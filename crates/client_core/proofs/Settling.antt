@@ -9,8 +9,8 @@ use Rattle.nfs_types.specs.declared.program.TheConstants.{NFS_PROGRAM}
 use Rattle.world_model.specs.declared.answer.Answer.{Answer}
 use Rattle.world_model.specs.declared.message.Call.{Call}
 use Rattle.world_model.specs.Messages.{proc_of}
-use Rattle.client_shelf.specs.declared.next.Next.{Next}
-use Rattle.client_shelf.specs.declared.next.Next.TheVariants.{Send, Wait, Done}
+use Rattle.client_shelf.specs.declared.step.Step.{Step}
+use Rattle.client_shelf.specs.declared.step.Step.TheVariants.{Send, Wait, Done}
 use Rattle.client_shelf.specs.declared.shelf.Shelf.{Shelf}
 use Rattle.op_machines.specs.declared.machine.Machine.{Machine}
 use Rattle.op_machines.specs.Endings.{calls_left}
@@ -98,7 +98,7 @@ refused-less laws old new at number machine after call shelf there resumes r = b
     loads : (state : State) → r.state ≡ state → load new.lanes + (1 + calls_left machine) ≡ load old.lanes + weight state
     loads state is = load-twice old at number machine after state new.lanes there (ap (λ (v : View). v.lanes) r.is ∙ ap (λ (s : State). slice_set (slice_set old.lanes at (record { number = number; state = Busy after })) at (record { number = number; state = s })) is)
 
-    by : (n : Next) → r.next ≡ n → IsRefused r.after n r.state → steps_left new < steps_left old
+    by : (n : Step) → r.next ≡ n → IsRefused r.after n r.state → steps_left new < steps_left old
     by Wait is state =
         let less = laws.refusals_end old.wsize machine (turn_at old) old.shelf call after shelf (unmade_turn mid) r.fault r.next r.after r.left resumes r.takes is in
         fewer-left old new machine (Busy r.after) calls (loads (Busy r.after) state) (omega (arith, less))
@@ -111,14 +111,14 @@ stirs-less laws old new at room s st = by st.next refl st.leads
     mid : View
     mid = with_state old at st.number (Busy st.after) st.shelf
 
-    by : (n : Next) → st.next ≡ n → Leads mid at st.number st.after n new → steps_left new < steps_left old
+    by : (n : Step) → st.next ≡ n → Leads mid at st.number st.after n new → steps_left new < steps_left old
     by Wait is leads = absurd (st.goes is)
     by (Done answer) is leads =
         fewer-left old new st.machine (Over answer) (ap (λ (v : View). v.calls) leads)
         (load-twice old at st.number st.machine st.after (Over answer) new.lanes st.there (ap (λ (v : View). v.lanes) leads)) (omega arith)
     by (Send call) is (inl m) = call-made laws old mid new st.number call room s refl m
     by (Send call) is (inr r) =
-        refused-less laws old new at st.number st.machine st.after call st.shelf st.there (subst (λ (n : Next). Resumes old.wsize st.machine (turn_at old) old.shelf n st.after st.shelf) is st.resumes) r
+        refused-less laws old new at st.number st.machine st.after call st.shelf st.there (subst (λ (n : Step). Resumes old.wsize st.machine (turn_at old) old.shelf n st.after st.shelf) is st.resumes) r
 
 pub one-less : (laws : StepLaws) (old new : View) (b : Bool) → b ≡ true → has_room old ≡ true → IsSound new → StirsOne old b new → steps_left new < steps_left old
 one-less laws old new true e room s st = stirs-less laws old new st.0 room s st.1

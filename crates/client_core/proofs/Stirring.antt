@@ -4,8 +4,8 @@ use Rattle.rpc_retry.specs.Held.{Held}
 use Rattle.world_model.specs.declared.answer.Answer.{Answer}
 use Rattle.world_model.specs.declared.answer.Fault.{Fault}
 use Rattle.world_model.specs.declared.message.Reply.{Reply}
-use Rattle.client_shelf.specs.declared.next.Next.{Next}
-use Rattle.client_shelf.specs.declared.next.Next.TheVariants.{Send, Wait, Done}
+use Rattle.client_shelf.specs.declared.step.Step.{Step}
+use Rattle.client_shelf.specs.declared.step.Step.TheVariants.{Send, Wait, Done}
 use Rattle.client_shelf.specs.declared.shelf.Shelf.{Shelf}
 use Rattle.client_shelf.specs.declared.turn.Turn.{Turn}
 use Rattle.op_machines.specs.declared.machine.Machine.{Machine}
@@ -64,7 +64,7 @@ waits-still laws v at lane new shelf room there r = by lane.state refl r.0
 -- ---- a lane that goes on
 
 -- the step of the operation that is under way there
-pub record StepsOn (v : View) (at : ℕ) (next : Next) (new : Lane) (shelf : Shelf) : Type 0 where
+pub record StepsOn (v : View) (at : ℕ) (next : Step) (new : Lane) (shelf : Shelf) : Type 0 where
   pub number : ℕ
   pub machine : Machine
   pub after : Machine
@@ -72,7 +72,7 @@ pub record StepsOn (v : View) (at : ℕ) (next : Next) (new : Lane) (shelf : She
   pub new_is : new ≡ record { number = number; state = Busy after }
   pub resumes : Resumes v.wsize machine (turn_at v) v.shelf next after shelf
 
-pub steps-on : (v : View) (at : ℕ) (next : Next) (lane new : Lane) (shelf : Shelf) → (next ≡ Wait → ⊥) → slice_get v.lanes at ≡ Some lane → LaneResumes v.wsize lane (turn_at v) v.shelf next new shelf → StepsOn v at next new shelf
+pub steps-on : (v : View) (at : ℕ) (next : Step) (lane new : Lane) (shelf : Shelf) → (next ≡ Wait → ⊥) → slice_get v.lanes at ≡ Some lane → LaneResumes v.wsize lane (turn_at v) v.shelf next new shelf → StepsOn v at next new shelf
 steps-on v at next lane new shelf goes there r = by lane.state refl r.0
   where
     by : (state : State) → lane.state ≡ state → StateResumes v.wsize state (turn_at v) v.shelf next new.state shelf → StepsOn v at next new shelf
@@ -86,17 +86,17 @@ steps-on v at next lane new shelf goes there r = by lane.state refl r.0
     }
     by (Over answer) is o = absurd (goes o.next_is)
 
-pub on-awaits : (laws : StepLaws) (v : View) (at : ℕ) (next : Next) (new : Lane) (shelf : Shelf) → IsSound v → StepsOn v at next new shelf → Awaits (stepped v at new shelf) at next
+pub on-awaits : (laws : StepLaws) (v : View) (at : ℕ) (next : Step) (new : Lane) (shelf : Shelf) → IsSound v → StepsOn v at next new shelf → Awaits (stepped v at new shelf) at next
 on-awaits laws v at next new shelf s o =
     subst (λ (l : Lane). Awaits (stepped v at l shelf) at next) (sym o.new_is) (resumed laws v at o.number o.machine o.after next shelf s o.there o.resumes)
 
-on-there : (v : View) (at : ℕ) (next : Next) (new : Lane) (shelf : Shelf) (o : StepsOn v at next new shelf) → IsBusyAt (stepped v at new shelf) at o.number o.after
+on-there : (v : View) (at : ℕ) (next : Step) (new : Lane) (shelf : Shelf) (o : StepsOn v at next new shelf) → IsBusyAt (stepped v at new shelf) at o.number o.after
 on-there v at next new shelf o = at-set v.lanes at (record { number = o.number; state = Busy o.machine }) new o.there ∙ ap (λ (l : Lane). Some l) o.new_is
 
-pub on-busy : (v : View) (at : ℕ) (next : Next) (new : Lane) (shelf : Shelf) → StepsOn v at next new shelf → is_busy_at at (slice_set v.lanes at new) ≡ true
+pub on-busy : (v : View) (at : ℕ) (next : Step) (new : Lane) (shelf : Shelf) → StepsOn v at next new shelf → is_busy_at at (slice_set v.lanes at new) ≡ true
 on-busy v at next new shelf o = is-busy (slice_set v.lanes at new) at o.number o.after (on-there v at next new shelf o)
 
-pub on-stirs : (v : View) (at : ℕ) (next : Next) (new : Lane) (shelf : Shelf) (last : View) → StepsOn v at next new shelf → (next ≡ Wait → ⊥)
+pub on-stirs : (v : View) (at : ℕ) (next : Step) (new : Lane) (shelf : Shelf) (last : View) → StepsOn v at next new shelf → (next ≡ Wait → ⊥)
     → ((number : ℕ) (machine : Machine) → IsBusyAt (stepped v at new shelf) at number machine → Leads (stepped v at new shelf) at number machine next last) → Stirs v at last
 on-stirs v at next new shelf last o goes leads = record {
   number = o.number;
@@ -112,7 +112,7 @@ on-stirs v at next new shelf last o goes leads = record {
 
 -- ---- a lane whose operation takes what came of a call
 
-pub record StepsBy (v : View) (at : ℕ) (sent : Turn) (came : Result Reply Fault) (turn : Turn) (next : Next) (new : Lane) (shelf : Shelf) : Type 0 where
+pub record StepsBy (v : View) (at : ℕ) (sent : Turn) (came : Result Reply Fault) (turn : Turn) (next : Step) (new : Lane) (shelf : Shelf) : Type 0 where
   pub number : ℕ
   pub machine : Machine
   pub after : Machine
@@ -120,7 +120,7 @@ pub record StepsBy (v : View) (at : ℕ) (sent : Turn) (came : Result Reply Faul
   pub new_is : new ≡ record { number = number; state = Busy after }
   pub takes : Takes v.wsize machine sent turn came v.shelf next after shelf
 
-pub steps-by : (v : View) (at : ℕ) (sent : Turn) (came : Result Reply Fault) (turn : Turn) (next : Next) (lane new : Lane) (shelf : Shelf) → is_busy_at at v.lanes ≡ true → slice_get v.lanes at ≡ Some lane
+pub steps-by : (v : View) (at : ℕ) (sent : Turn) (came : Result Reply Fault) (turn : Turn) (next : Step) (lane new : Lane) (shelf : Shelf) → is_busy_at at v.lanes ≡ true → slice_get v.lanes at ≡ Some lane
     → LaneTakes v.wsize lane sent turn came v.shelf next new shelf → StepsBy v at sent came turn next new shelf
 steps-by v at sent came turn next lane new shelf busy there r = by lane.state refl r.0
   where
@@ -138,18 +138,18 @@ steps-by v at sent came turn next lane new shelf busy there r = by lane.state re
     }
     by (Over answer) is o = absurd (not-busy v.lanes at lane.number way.number answer way.machine (there ∙ ap (λ (s : State). Some (lane_of lane.number s)) is) way.there)
 
-pub by-there : (v : View) (at : ℕ) (sent : Turn) (came : Result Reply Fault) (turn : Turn) (next : Next) (new : Lane) (shelf : Shelf) (o : StepsBy v at sent came turn next new shelf) → IsBusyAt (stepped v at new shelf) at o.number o.after
+pub by-there : (v : View) (at : ℕ) (sent : Turn) (came : Result Reply Fault) (turn : Turn) (next : Step) (new : Lane) (shelf : Shelf) (o : StepsBy v at sent came turn next new shelf) → IsBusyAt (stepped v at new shelf) at o.number o.after
 by-there v at sent came turn next new shelf o = at-set v.lanes at (record { number = o.number; state = Busy o.machine }) new o.there ∙ ap (λ (l : Lane). Some l) o.new_is
 
-pub by-busy : (v : View) (at : ℕ) (sent : Turn) (came : Result Reply Fault) (turn : Turn) (next : Next) (new : Lane) (shelf : Shelf) → StepsBy v at sent came turn next new shelf → is_busy_at at (slice_set v.lanes at new) ≡ true
+pub by-busy : (v : View) (at : ℕ) (sent : Turn) (came : Result Reply Fault) (turn : Turn) (next : Step) (new : Lane) (shelf : Shelf) → StepsBy v at sent came turn next new shelf → is_busy_at at (slice_set v.lanes at new) ≡ true
 by-busy v at sent came turn next new shelf o = is-busy (slice_set v.lanes at new) at o.number o.after (by-there v at sent came turn next new shelf o)
 
-pub by-awaits : (laws : StepLaws) (v : View) (at : ℕ) (sent : Turn) (came : Result Reply Fault) (next : Next) (new : Lane) (shelf : Shelf)
+pub by-awaits : (laws : StepLaws) (v : View) (at : ℕ) (sent : Turn) (came : Result Reply Fault) (next : Step) (new : Lane) (shelf : Shelf)
     → IsSound v → v.shelf.seq < v.moments → StepsBy v at sent came (turn_at v) next new shelf → Awaits (stepped v at new shelf) at next
 by-awaits laws v at sent came next new shelf s seq o =
     subst (λ (l : Lane). Awaits (stepped v at l shelf) at next) (sym o.new_is) (took laws v at o.number o.machine o.after sent came next shelf s seq o.there o.takes)
 
-pub by-takes : (v : View) (at : ℕ) (sent : Turn) (came : Result Reply Fault) (next : Next) (new : Lane) (shelf : Shelf) (last : View) → StepsBy v at sent came (turn_at v) next new shelf
+pub by-takes : (v : View) (at : ℕ) (sent : Turn) (came : Result Reply Fault) (next : Step) (new : Lane) (shelf : Shelf) (last : View) → StepsBy v at sent came (turn_at v) next new shelf
     → ((number : ℕ) (machine : Machine) → IsBusyAt (stepped v at new shelf) at number machine → Leads (stepped v at new shelf) at number machine next last) → TakesAt v at sent came last
 by-takes v at sent came next new shelf last o leads = record {
   number = o.number;
@@ -164,24 +164,24 @@ by-takes v at sent came next new shelf last o leads = record {
 
 -- ---- whether a step waits
 
-pub does-wait : (next : Next) → waits next ≡ true → next ≡ Wait
+pub does-wait : (next : Step) → waits next ≡ true → next ≡ Wait
 does-wait (Send call) h = absurd (cc)
 does-wait Wait h = refl
 does-wait (Done answer) h = absurd (cc)
 
-pub goes-on : (next : Next) → waits next ≡ false → next ≡ Wait → ⊥
+pub goes-on : (next : Step) → waits next ≡ false → next ≡ Wait → ⊥
 goes-on next h is = let no-way : true ≡ false = sym (ap waits is) ∙ h in absurd cc
 
 -- ---- a step that was told the turn of the view
 
-pub told-resumes : (v : View) (turn : Turn) (next : Next) (lane new : Lane) (shelf : Shelf) → turn ≡ turn_at v → LaneResumes v.wsize lane turn v.shelf next new shelf → LaneResumes v.wsize lane (turn_at v) v.shelf next new shelf
+pub told-resumes : (v : View) (turn : Turn) (next : Step) (lane new : Lane) (shelf : Shelf) → turn ≡ turn_at v → LaneResumes v.wsize lane turn v.shelf next new shelf → LaneResumes v.wsize lane (turn_at v) v.shelf next new shelf
 told-resumes v turn next lane new shelf is r = subst (λ (t : Turn). LaneResumes v.wsize lane t v.shelf next new shelf) is r
 
-pub told-takes : (v : View) (sent : Turn) (came : Result Reply Fault) (turn to : Turn) (next : Next) (lane new : Lane) (shelf : Shelf) → turn ≡ to → LaneTakes v.wsize lane sent turn came v.shelf next new shelf → LaneTakes v.wsize lane sent to came v.shelf next new shelf
+pub told-takes : (v : View) (sent : Turn) (came : Result Reply Fault) (turn to : Turn) (next : Step) (lane new : Lane) (shelf : Shelf) → turn ≡ to → LaneTakes v.wsize lane sent turn came v.shelf next new shelf → LaneTakes v.wsize lane sent to came v.shelf next new shelf
 told-takes v sent came turn to next lane new shelf is r = subst (λ (t : Turn). LaneTakes v.wsize lane sent t came v.shelf next new shelf) is r
 
-pub waits-as : (v : View) (next : Next) (lane new : Lane) (shelf : Shelf) → waits next ≡ true → LaneResumes v.wsize lane (turn_at v) v.shelf next new shelf → LaneResumes v.wsize lane (turn_at v) v.shelf Wait new shelf
-waits-as v next lane new shelf h r = subst (λ (n : Next). LaneResumes v.wsize lane (turn_at v) v.shelf n new shelf) (does-wait next h) r
+pub waits-as : (v : View) (next : Step) (lane new : Lane) (shelf : Shelf) → waits next ≡ true → LaneResumes v.wsize lane (turn_at v) v.shelf next new shelf → LaneResumes v.wsize lane (turn_at v) v.shelf Wait new shelf
+waits-as v next lane new shelf h r = subst (λ (n : Step). LaneResumes v.wsize lane (turn_at v) v.shelf n new shelf) (does-wait next h) r
 
 -- the view within a core and as it is seen
 pub seen-turn : (v now : View) (turn : Turn) → v ≡ now → turn ≡ turn_at now → turn ≡ turn_at v

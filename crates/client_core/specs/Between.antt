@@ -3,8 +3,8 @@ use Rattle.std.specs.Prelude.{◌≡◌, ◌+◌, ℕ, true}
 use Rattle.rpc_retry.specs.Held.{next_xid}
 use Rattle.client_shelf.specs.Spelling.{IsSpellable}
 use Rattle.file_ops.specs.Ready.{IsReady}
-use Rattle.client_shelf.specs.declared.next.Next.{Next}
-use Rattle.client_shelf.specs.declared.next.Next.TheVariants.{Send, Wait, Done}
+use Rattle.client_shelf.specs.declared.step.Step.{Step}
+use Rattle.client_shelf.specs.declared.step.Step.TheVariants.{Send, Wait, Done}
 use Rattle.world_model.specs.declared.message.Call.{Call}
 use Rattle.op_machines.specs.Laws.{LeavesNothing}
 use Rattle.op_machines.specs.declared.machine.Machine.{Machine}
@@ -23,7 +23,7 @@ pub record AwaitsCall (v : View) (at : ℕ) (call : Call) : Type 0 where
   pub spells : IsSpellable call
   pub refusal : AwaitsRefusal v at
 
-abbrev pub Awaits : View → ℕ → Next → Type 0
+abbrev pub Awaits : View → ℕ → Step → Type 0
 Awaits v at (Send call) = AwaitsCall v at call
 Awaits v at Wait = IsSound v
 Awaits v at (Done answer) = IsSound v

@@ -2,8 +2,8 @@
 use Rattle.std.specs.Prelude.{◌≡◌, ℕ, List, Option, Some, None, Bool, true, false, ◌==◌, slice_get, Result}
 use Rattle.client_shelf.specs.declared.shelf.Shelf.{Shelf}
 use Rattle.client_shelf.specs.declared.turn.Turn.{Turn}
-use Rattle.client_shelf.specs.declared.next.Next.{Next}
-use Rattle.client_shelf.specs.declared.next.Next.TheVariants.{Send, Wait, Done}
+use Rattle.client_shelf.specs.declared.step.Step.{Step}
+use Rattle.client_shelf.specs.declared.step.Step.TheVariants.{Send, Wait, Done}
 use Rattle.world_model.specs.declared.answer.Answer.{Answer}
 use Rattle.world_model.specs.declared.answer.Fault.{Fault}
 use Rattle.world_model.specs.declared.message.Reply.{Reply}
@@ -56,36 +56,36 @@ is_busy_at at lanes = busy_in (slice_get lanes at)
 
 -- ---- steps of an operation, where it is under way
 
-pub record OperationResumes (wsize : ℕ) (machine : Machine) (turn : Turn) (old : Shelf) (next : Next) (state : State) (shelf : Shelf) : Type 0 where
+pub record OperationResumes (wsize : ℕ) (machine : Machine) (turn : Turn) (old : Shelf) (next : Step) (state : State) (shelf : Shelf) : Type 0 where
   pub after : Machine
   pub state_is : state ≡ Busy after
   pub resumes : Resumes wsize machine turn old next after shelf
 
-pub record OperationTakes (wsize : ℕ) (machine : Machine) (sent turn : Turn) (came : Result Reply Fault) (old : Shelf) (next : Next) (state : State)
+pub record OperationTakes (wsize : ℕ) (machine : Machine) (sent turn : Turn) (came : Result Reply Fault) (old : Shelf) (next : Step) (state : State)
     (shelf : Shelf) : Type 0 where
   pub after : Machine
   pub state_is : state ≡ Busy after
   pub takes : Takes wsize machine sent turn came old next after shelf
 
 -- an operation that has its answer does nothing
-pub record DoesNothing (answer : Answer) (old : Shelf) (next : Next) (state : State) (shelf : Shelf) : Type 0 where
+pub record DoesNothing (answer : Answer) (old : Shelf) (next : Step) (state : State) (shelf : Shelf) : Type 0 where
   pub next_is : next ≡ Wait
   pub state_is : state ≡ Over answer
   pub shelf_is : shelf ≡ old
 
-abbrev pub StateResumes : ℕ → State → Turn → Shelf → Next → State → Shelf → Type 0
+abbrev pub StateResumes : ℕ → State → Turn → Shelf → Step → State → Shelf → Type 0
 StateResumes wsize (Busy machine) turn old next new shelf = OperationResumes wsize machine turn old next new shelf
 StateResumes wsize (Over answer) turn old next new shelf = DoesNothing answer old next new shelf
 
-abbrev pub StateTakes : ℕ → State → Turn → Turn → Result Reply Fault → Shelf → Next → State → Shelf → Type 0
+abbrev pub StateTakes : ℕ → State → Turn → Turn → Result Reply Fault → Shelf → Step → State → Shelf → Type 0
 StateTakes wsize (Busy machine) sent turn came old next new shelf = OperationTakes wsize machine sent turn came old next new shelf
 StateTakes wsize (Over answer) sent turn came old next new shelf = DoesNothing answer old next new shelf
 
 -- the same of the lane, whose number stays
-abbrev pub LaneResumes : ℕ → Lane → Turn → Shelf → Next → Lane → Shelf → Type 0
+abbrev pub LaneResumes : ℕ → Lane → Turn → Shelf → Step → Lane → Shelf → Type 0
 LaneResumes wsize lane turn old next new shelf = StateResumes wsize lane.state turn old next new.state shelf × (new.number ≡ lane.number)
 
-abbrev pub LaneTakes : ℕ → Lane → Turn → Turn → Result Reply Fault → Shelf → Next → Lane → Shelf → Type 0
+abbrev pub LaneTakes : ℕ → Lane → Turn → Turn → Result Reply Fault → Shelf → Step → Lane → Shelf → Type 0
 LaneTakes wsize lane sent turn came old next new shelf = StateTakes wsize lane.state sent turn came old next new.state shelf × (new.number ≡ lane.number)
 
 -- the lane at a place has this number, and has come so far
@@ -101,7 +101,7 @@ abbrev pub lane_rests : Lane → Bool
 lane_rests lane = state_rests lane.state
 
 -- whether a step waits
-abbrev pub waits : Next → Bool
+abbrev pub waits : Step → Bool
 waits (Send call) = false
 waits Wait = true
 waits (Done answer) = false

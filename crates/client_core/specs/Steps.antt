@@ -20,8 +20,8 @@ use Rattle.world_model.specs.Messages.{HasXid, proc_of, SpellsArguments}
 use Rattle.client_shelf.specs.declared.shelf.Shelf.{Shelf}
 use Rattle.client_shelf.specs.declared.turn.Turn.{Turn}
 use Rattle.client_shelf.specs.Spelling.{IsSpellable}
-use Rattle.client_shelf.specs.declared.next.Next.{Next}
-use Rattle.client_shelf.specs.declared.next.Next.TheVariants.{Send, Wait, Done}
+use Rattle.client_shelf.specs.declared.step.Step.{Step}
+use Rattle.client_shelf.specs.declared.step.Step.TheVariants.{Send, Wait, Done}
 use Rattle.call_replies.specs.Says.{said_of, IsCallOf, Says}
 use Rattle.op_machines.specs.declared.machine.Machine.{Machine}
 use Rattle.op_machines.specs.Steps.{Starts, Resumes, Takes}
@@ -91,7 +91,7 @@ IsUnmade old faults.Memory = check_of old.calls ≡ Ok tt
 IsUnmade old fault = ⊥
 
 -- the state that a refusal in place of the call leads to; no call is asked for then
-abbrev pub IsRefused : Machine → Next → State → Type 0
+abbrev pub IsRefused : Machine → Step → State → Type 0
 IsRefused machine Wait state = state ≡ Busy machine
 IsRefused machine (Done answer) state = state ≡ Over answer
 IsRefused machine (Send call) state = ⊥
@@ -99,7 +99,7 @@ IsRefused machine (Send call) state = ⊥
 -- A call that isn't made reaches its machine as a refusal, in the same step.
 pub record Refuses (old : View) (at number : ℕ) (machine : Machine) (new : View) : Type 0 where
   pub fault : Fault
-  pub next : Next
+  pub next : Step
   pub after : Machine
   pub left : Shelf
   pub state : State
@@ -118,7 +118,7 @@ pub record EndsAs (old : View) (at : ℕ) (answer : Answer) (new : View) : Type 
 abbrev pub Asks : View → ℕ → ℕ → Machine → Call → View → Type 0
 Asks old at number machine call new = Makes old number call new ⊎ Refuses old at number machine new
 
-abbrev pub Leads : View → ℕ → ℕ → Machine → Next → View → Type 0
+abbrev pub Leads : View → ℕ → ℕ → Machine → Step → View → Type 0
 Leads old at number machine (Send call) new = Asks old at number machine call new
 Leads old at number machine Wait new = new ≡ old
 Leads old at number machine (Done answer) new = new ≡ with_state old at number (Over answer) old.shelf
@@ -130,7 +130,7 @@ pub record Stirs (old : View) (at : ℕ) (new : View) : Type 0 where
   pub number : ℕ
   pub machine : Machine
   pub there : IsBusyAt old at number machine
-  pub next : Next
+  pub next : Step
   pub after : Machine
   pub shelf : Shelf
   pub resumes : Resumes old.wsize machine (turn_at old) old.shelf next after shelf
@@ -166,7 +166,7 @@ counted v now = record v { clock = max v.clock now; moments = v.moments + 1; beg
 
 -- the operation of a new lane, the last, makes its first step
 pub record StartsLane (old : View) (number : ℕ) (machine : Machine) (new : View) : Type 0 where
-  pub next : Next
+  pub next : Step
   pub after : Machine
   pub shelf : Shelf
   pub starts : Starts old.wsize machine (turn_at old) old.shelf next after shelf
@@ -199,7 +199,7 @@ pub record TakesAt (old : View) (at : ℕ) (sent : Turn) (came : Result Reply Fa
   pub number : ℕ
   pub machine : Machine
   pub there : IsBusyAt old at number machine
-  pub next : Next
+  pub next : Step
   pub after : Machine
   pub shelf : Shelf
   pub takes : Takes old.wsize machine sent (turn_at old) came old.shelf next after shelf

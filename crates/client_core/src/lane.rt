@@ -6,7 +6,7 @@ ghost use Rattle.op_machines.specs.MayStep.{MayStep};
 ghost use Rattle.client_core.specs.Lanes.{is_busy, is_over, state_rests, lane_rests, lost_state, lost_lane, StateFits, LaneFits, StateResumes, StateTakes, LaneResumes, LaneTakes};
 ghost use Rattle.client_core.specs.declared.lane.State.TheVariants as states;
 
-use client_shelf::{Came, Next, Shelf, Turn};
+use client_shelf::{Came, Shelf, Step, Turn};
 use op_machines::Machine;
 use std::alloc::Global;
 use world_model::{Answer, Fault};
@@ -52,13 +52,13 @@ impl State {
     }
 
     /// The operation goes on, as far as it can. One that has its answer waits.
-    fn resume(&mut self, alloc: Global, wsize: u32, turn: Turn, shelf: &mut Shelf) -> Next
+    fn resume(&mut self, alloc: Global, wsize: u32, turn: Turn, shelf: &mut Shelf) -> Step
         requires may { MayStep wsize turn shelf.old }
         ensures { StateResumes wsize self.old turn shelf.old result self.new shelf.new }
     {
         match self {
             State::Busy(machine) => machine.resume(alloc, wsize, turn, shelf),
-            State::Over(_) => Next::Wait,
+            State::Over(_) => Step::Wait,
         }
     }
 
@@ -72,14 +72,14 @@ impl State {
         came: &Came<'_>,
         turn: Turn,
         shelf: &mut Shelf,
-    ) -> Next
+    ) -> Step
         requires fits { StateFits self.old }
         requires may { MayStep wsize turn shelf.old }
         ensures { StateTakes wsize self.old sent turn (reply_of came.now) shelf.old result self.new shelf.new }
     {
         match self {
             State::Busy(machine) => machine.took(alloc, wsize, sent, came, turn, shelf),
-            State::Over(_) => Next::Wait,
+            State::Over(_) => Step::Wait,
         }
     }
 }
@@ -99,7 +99,7 @@ impl Lane {
         wsize: u32,
         turn: Turn,
         shelf: &mut Shelf,
-    ) -> Next
+    ) -> Step
         requires may { MayStep wsize turn shelf.old }
         ensures { LaneResumes wsize self.old turn shelf.old result self.new shelf.new }
     {
@@ -115,7 +115,7 @@ impl Lane {
         came: &Came<'_>,
         turn: Turn,
         shelf: &mut Shelf,
-    ) -> Next
+    ) -> Step
         requires fits { LaneFits self.old }
         requires may { MayStep wsize turn shelf.old }
         ensures { LaneTakes wsize self.old sent turn (reply_of came.now) shelf.old result self.new shelf.new }

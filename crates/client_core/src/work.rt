@@ -29,7 +29,7 @@ use crate::laws::steps_hold;
 use crate::setup::Setup;
 use attr_cache::AttrCache;
 use call_replies::came_of;
-use client_shelf::{Came, Next, Shelf, Turn};
+use client_shelf::{Came, Shelf, Step, Turn};
 use limits::{CALLS_IN_FLIGHT, LANE_COUNT};
 use mount_calls::{mount_proc, write_mount_call};
 use nfs_dir_calls::{dir_proc, write_dir_call};
@@ -417,7 +417,7 @@ impl Work {
     }
 
     /// What a step of the lane at a place leads to.
-    fn lead(&mut self, at: usize, turn: Turn, next: Next)
+    fn lead(&mut self, at: usize, turn: Turn, next: Step)
         requires within { at < length self.old.lanes }
         requires busy { is_busy_at at self.old.lanes ≡ true }
         requires turn { turn ≡ turn_at self.old }
@@ -426,9 +426,9 @@ impl Work {
         ensures sound { IsSound self.new }
     {
         match next {
-            Next::Send(call) => self.ask(at, turn, &call),
-            Next::Wait => {}
-            Next::Done(answer) => self.end(at, answer),
+            Step::Send(call) => self.ask(at, turn, &call),
+            Step::Wait => {}
+            Step::Done(answer) => self.end(at, answer),
         }
     }
 
@@ -532,7 +532,7 @@ impl Work {
         let turn = self.unmade_turn();
         let came = Came::Refused(fault);
         let next = self.lanes[at].took(self.alloc, self.wsize, sent, &came, turn, &mut self.shelf);
-        let Next::Done(answer) = next else {
+        let Step::Done(answer) = next else {
             return;
         };
         self.end(at, answer);
@@ -540,12 +540,12 @@ impl Work {
 }
 
 /// Whether the step of an operation waits.
-fn waits(next: &Next) -> bool
+fn waits(next: &Step) -> bool
     ensures { result ≡ waits next.now }
 {
     match next {
-        Next::Wait => true,
-        Next::Send(_) | Next::Done(_) => false,
+        Step::Wait => true,
+        Step::Send(_) | Step::Done(_) => false,
     }
 }
 

@@ -4,14 +4,14 @@
 pub mod busy;
 mod lane_files;
 pub mod learning;
-mod next;
 mod repeats;
 mod shelf;
+mod step;
 mod turn;
 pub mod unmade;
 
 pub use lane_files::{LaneFile, LaneFiles};
-pub use next::Next;
 pub use repeats::{Repeat, Repeats};
 pub use shelf::Shelf;
+pub use step::Step;
 pub use turn::{Came, Turn};

@@ -28,8 +28,8 @@ pub use Rattle.client_core.specs.declared.setup.Setup.{Setup}
 pub use Rattle.client_shelf.specs.Busy.{fails_busy, goes_again}
 pub use Rattle.client_shelf.specs.LaneFiles.{is_first, left}
 pub use Rattle.client_shelf.specs.declared.lane_files.LaneFile.{LaneFile}
-pub use Rattle.client_shelf.specs.declared.next.Next.{Next}
-pub use Rattle.client_shelf.specs.declared.next.Next.TheVariants.{Done, Send, Wait}
+pub use Rattle.client_shelf.specs.declared.step.Step.{Step}
+pub use Rattle.client_shelf.specs.declared.step.Step.TheVariants.{Done, Send, Wait}
 pub use Rattle.client_shelf.specs.declared.repeats.Repeat.{Repeat}
 pub use Rattle.client_shelf.specs.declared.shelf.Shelf.{Shelf}
 pub use Rattle.client_shelf.specs.declared.turn.Turn.{Turn}
@@ -45,7 +45,7 @@ pub use Rattle.core_answers.specs.writes.Carried.{write_of}
 pub use Rattle.core_facts.proofs.AllAwaited.{Awaits, PathOr, PutAwaits, awaits-laws}
 pub use Rattle.core_facts.proofs.AllCounts.{begins-unbegun, counts-calls, of_path, path-file, path-walk}
 pub use Rattle.core_facts.proofs.Answered.{HadStory}
-pub use Rattle.core_facts.proofs.Awaited.{OwnOr, WalkAwaits, WalkStep, go-step, took-step}
+pub use Rattle.core_facts.proofs.Awaited.{OwnOr, WalkAwaits, WalkMoves, go-step, took-step}
 pub use Rattle.core_facts.proofs.Cases.{FailedNow, Heard, answered_now, dropped, failed_now, gives_up, goes_on, replied, sent_now, taken_one}
 pub use Rattle.core_facts.proofs.Counting.{calls-some, hears-count, reached-count, starts-count, stirs-count}
 pub use Rattle.core_facts.proofs.Expects.{ExpectLaws}
@@ -80,8 +80,8 @@ pub use Rattle.core_facts.specs.Tries.{IsMade, IsOutstanding}
 pub use Rattle.dir_list.specs.Listings.{last_cookie}
 unfoldable pub use Rattle.dir_list.specs.Listings.{listing_limit, page_step}
 pub use Rattle.dir_list.specs.declared.progress.ListFault.{ListFault}
-pub use Rattle.dir_list.specs.declared.progress.Step.{Step}
-pub use Rattle.dir_list.specs.declared.progress.Step.TheVariants.{End, More}
+pub use Rattle.dir_list.specs.declared.progress.ListStep.{ListStep}
+pub use Rattle.dir_list.specs.declared.progress.ListStep.TheVariants.{End, More}
 pub use Rattle.file_ops.proofs.SaveCounts.{by-step, ends_as}
 pub use Rattle.file_ops.specs.Adding.{is_full}
 pub use Rattle.file_ops.specs.Base.{Bytes, nothing_of, place_after}
@@ -98,8 +98,8 @@ pub use Rattle.file_ops.specs.declared.closing.Removal.{Removal}
 pub use Rattle.file_ops.specs.declared.open_file.OpenFile.{OpenFile}
 pub use Rattle.file_ops.specs.declared.opening.Led.{Led}
 pub use Rattle.file_ops.specs.declared.opening.Opening.{Opening}
-pub use Rattle.file_ops.specs.declared.opening.OpeningNext.{OpeningNext}
 pub use Rattle.file_ops.specs.declared.opening.OpeningStep.{OpeningStep}
+pub use Rattle.file_ops.specs.declared.opening.OpeningPhase.{OpeningPhase}
 pub use Rattle.file_ops.specs.declared.put_file.PutFile.{PutFile}
 pub use Rattle.file_ops.specs.declared.put_file.Putting.{Putting}
 pub use Rattle.file_ops.specs.declared.read_file.ReadFile.{ReadFile}
@@ -128,7 +128,7 @@ pub use Rattle.name_ops.specs.declared.dir_change.DirDeed.{DirDeed}
 pub use Rattle.name_ops.specs.declared.link.Link.{Link}
 pub use Rattle.name_ops.specs.declared.list_dir.ListDir.{ListDir}
 pub use Rattle.name_ops.specs.declared.pair.Pair.{Pair}
-pub use Rattle.name_ops.specs.declared.pair.PairNext.{PairNext}
+pub use Rattle.name_ops.specs.declared.pair.PairStep.{PairStep}
 pub use Rattle.name_ops.specs.declared.remove_file.Deed.{Deed}
 pub use Rattle.name_ops.specs.declared.remove_file.Deed.TheVariants.{Look, Move, Remove, Seek}
 pub use Rattle.name_ops.specs.declared.remove_file.RemoveFile.{RemoveFile}
@@ -136,9 +136,9 @@ pub use Rattle.name_ops.specs.declared.rename.Rename.{Rename}
 pub use Rattle.name_ops.specs.declared.stat.Stat.{Stat}
 pub use Rattle.name_ops.specs.declared.sym_link.SymLink.{SymLink}
 pub use Rattle.name_ops.specs.declared.visit.Visit.{Visit}
-pub use Rattle.name_ops.specs.declared.visit.VisitNext.{VisitNext}
+pub use Rattle.name_ops.specs.declared.visit.VisitStep.{VisitStep}
 pub use Rattle.name_ops.specs.declared.walk.Walk.{Walk}
-pub use Rattle.name_ops.specs.declared.walk.WalkNext.{WalkNext}
+pub use Rattle.name_ops.specs.declared.walk.WalkStep.{WalkStep}
 pub use Rattle.nfs_dir_calls.specs.declared.keeping.DirKept.{DirKept}
 pub use Rattle.nfs_dir_calls.specs.declared.keeping.DirKept.TheVariants.{Lookup}
 pub use Rattle.nfs_dir_calls.specs.declared.plus_page.PlusRow.{PlusRow}

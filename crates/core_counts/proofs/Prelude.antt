@@ -33,8 +33,8 @@ pub use Rattle.client_shelf.specs.Busy.{fails_busy, goes_again, repeats_after}
 pub use Rattle.client_shelf.specs.LaneFiles.{is_first}
 pub use Rattle.client_shelf.specs.Repeats.{ended, repeated}
 pub use Rattle.client_shelf.specs.declared.lane_files.LaneFile.{LaneFile}
-pub use Rattle.client_shelf.specs.declared.next.Next.{Next}
-pub use Rattle.client_shelf.specs.declared.next.Next.TheVariants.{Done, Send, Wait}
+pub use Rattle.client_shelf.specs.declared.step.Step.{Step}
+pub use Rattle.client_shelf.specs.declared.step.Step.TheVariants.{Done, Send, Wait}
 pub use Rattle.client_shelf.specs.declared.repeats.Repeat.{Repeat}
 pub use Rattle.client_shelf.specs.declared.shelf.Shelf.{Shelf}
 pub use Rattle.client_shelf.specs.declared.turn.Turn.{Turn}
@@ -144,8 +144,8 @@ pub use Rattle.file_ops.specs.declared.closing.Removal.{Removal}
 pub use Rattle.file_ops.specs.declared.gather.Found.{Found}
 pub use Rattle.file_ops.specs.declared.opening.Led.{Led}
 pub use Rattle.file_ops.specs.declared.opening.Opening.{Opening}
-pub use Rattle.file_ops.specs.declared.opening.OpeningNext.{OpeningNext}
 pub use Rattle.file_ops.specs.declared.opening.OpeningStep.{OpeningStep}
+pub use Rattle.file_ops.specs.declared.opening.OpeningPhase.{OpeningPhase}
 pub use Rattle.file_ops.specs.declared.put_file.PutFile.{PutFile}
 pub use Rattle.file_ops.specs.declared.put_file.Putting.{Putting}
 pub use Rattle.file_ops.specs.declared.read_file.ReadFile.{ReadFile}
@@ -173,7 +173,7 @@ pub use Rattle.name_ops.specs.SymLink.{TakesSymLink, sym_link_call}
 pub use Rattle.name_ops.specs.declared.link.Link.{Link}
 pub use Rattle.name_ops.specs.declared.list_dir.ListDir.{ListDir}
 pub use Rattle.name_ops.specs.declared.pair.Pair.{Pair}
-pub use Rattle.name_ops.specs.declared.pair.PairNext.{PairNext}
+pub use Rattle.name_ops.specs.declared.pair.PairStep.{PairStep}
 pub use Rattle.name_ops.specs.declared.remove_file.Deed.{Deed}
 pub use Rattle.name_ops.specs.declared.remove_file.Deed.TheVariants.{Look, Move, Remove, Seek}
 pub use Rattle.name_ops.specs.declared.remove_file.RemoveFile.{RemoveFile}
@@ -182,7 +182,7 @@ pub use Rattle.name_ops.specs.declared.stat.Stat.{Stat}
 pub use Rattle.name_ops.specs.declared.sym_link.SymLink.{SymLink}
 pub use Rattle.name_ops.specs.declared.visit.Visit.{Visit}
 pub use Rattle.name_ops.specs.declared.walk.Walk.{Walk}
-pub use Rattle.name_ops.specs.declared.walk.WalkNext.{WalkNext}
+pub use Rattle.name_ops.specs.declared.walk.WalkStep.{WalkStep}
 pub use Rattle.nfs_dir_calls.specs.declared.keeping.DirKept.{DirKept}
 pub use Rattle.nfs_file_calls.specs.declared.call.FileCall.{FileCall}
 pub use Rattle.nfs_file_calls.specs.declared.owned.FileKept.{FileKept}

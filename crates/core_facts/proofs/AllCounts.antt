@@ -1,11 +1,11 @@
 -- How many calls of any operation wait after each of its steps.
-use Rattle.core_facts.proofs.Prelude.{◌≡◌, ◌+◌, ◌-◌, ℕ, Bool, true, false, List, Result, refl, sym, ap, subst, ◌∙◌, Fault, Reply, Op, Next, Shelf, Turn, WalkNext, Opening, Putting, Writing, file_to_write, file_at, found_file, Mounted, FileMachine, Machine, Opener, PathMachine, machine_of, file_of, slot_taken, begun_at, placed, Starts, Resumes, Takes, of_walk, of_opening, of_writing, of_syncing, of_closing, of_truncating, of_putting, in_flight, IsUnbegun, IsCounted, Counts}
+use Rattle.core_facts.proofs.Prelude.{◌≡◌, ◌+◌, ◌-◌, ℕ, Bool, true, false, List, Result, refl, sym, ap, subst, ◌∙◌, Fault, Reply, Op, Step, Shelf, Turn, WalkStep, Opening, Putting, Writing, file_to_write, file_at, found_file, Mounted, FileMachine, Machine, Opener, PathMachine, machine_of, file_of, slot_taken, begun_at, placed, Starts, Resumes, Takes, of_walk, of_opening, of_writing, of_syncing, of_closing, of_truncating, of_putting, in_flight, IsUnbegun, IsCounted, Counts}
 use Rattle.core_facts.specs.InFlight.{of_reading, of_file, path_by, FileUnbegun, FileCounted, Leaves, CountsCalls}
 use Rattle.std.specs.FinMap as finite
 use Rattle.world_model.specs.declared.answer.Answer.TheVariants as answers
 use Rattle.world_model.specs.declared.answer.Fault.TheVariants as faults
 use Rattle.world_model.specs.declared.op.Op.TheVariants as ops
-use Rattle.name_ops.specs.declared.walk.WalkNext.TheVariants as walks
+use Rattle.name_ops.specs.declared.walk.WalkStep.TheVariants as walks
 use Rattle.name_ops.specs.Walking as walking
 use Rattle.file_ops.specs.declared.put_file.Putting.TheVariants as putting
 use Rattle.file_ops.specs.OpenFile.{is_taken}
@@ -22,13 +22,13 @@ use Rattle.core_facts.proofs.PutCounts.{of_put, put-starts, put-resumes, put-tak
 
 -- ---- operations on files
 
-abbrev pub FileLeaves : Next → ℕ → FileMachine → Type 0
+abbrev pub FileLeaves : Step → ℕ → FileMachine → Type 0
 FileLeaves next before new = Leaves next before (of_file new) (FileCounted new)
 
-file-as : (to : FileMachine) (next : Next) (before : ℕ) (new : FileMachine) → new ≡ to → FileLeaves next before to → FileLeaves next before new
+file-as : (to : FileMachine) (next : Step) (before : ℕ) (new : FileMachine) → new ≡ to → FileLeaves next before to → FileLeaves next before new
 file-as to next before new is l = subst (λ (m : FileMachine). FileLeaves next before m) (sym is) l
 
-file-starts : (m : FileMachine) (wsize : ℕ) (turn : Turn) (old : Shelf) (next : Next) (new : FileMachine) (after : Shelf) → FileUnbegun m
+file-starts : (m : FileMachine) (wsize : ℕ) (turn : Turn) (old : Shelf) (next : Step) (new : FileMachine) (after : Shelf) → FileUnbegun m
     → steps.Starts wsize m turn old next new after → FileLeaves next 0 new
 file-starts (files.Open m) wsize turn old next new after none s = file-as (files.Open _) next 0 new s.machine_is (open-starts (is_taken m old.opens) m turn next none s.next_is)
 file-starts (files.Read m) wsize turn old next new after none s =
@@ -43,7 +43,7 @@ file-starts (files.Truncate m) wsize turn old next new after none s =
     file-as (files.Truncate _) next 0 new s.machine_is (truncate-starts (found_file m old) m turn old next _ s.next_is refl)
 file-starts (files.Put m) wsize turn old next new after none s = file-as (files.Put _) next 0 new s.machine_is (put-starts m turn next none s.next_is)
 
-file-resumes : (m : FileMachine) (wsize : ℕ) (turn : Turn) (old : Shelf) (next : Next) (new : FileMachine) (after : Shelf) → FileCounted m
+file-resumes : (m : FileMachine) (wsize : ℕ) (turn : Turn) (old : Shelf) (next : Step) (new : FileMachine) (after : Shelf) → FileCounted m
     → steps.Resumes wsize m turn old next new after → FileLeaves next (of_file m) new
 file-resumes (files.Open m) wsize turn old next new after counted s =
     file-as (files.Open _) next (of_opening m.opening) new s.machine_is (opening-leaves _ next (of_opening m.opening) _ s.next_is (opening-goes m.opening turn))
@@ -60,7 +60,7 @@ file-resumes (files.Truncate m) wsize turn old next new after counted s =
 file-resumes (files.Put m) wsize turn old next new after counted s =
     file-as (files.Put s.machine) next (of_put m) new s.machine_is (put-resumes m.state wsize m turn old next s.machine after refl s.step)
 
-file-takes : (m : FileMachine) (wsize : ℕ) (sent turn : Turn) (came : Result Reply Fault) (old : Shelf) (next : Next) (new : FileMachine) (after : Shelf) (others : ℕ)
+file-takes : (m : FileMachine) (wsize : ℕ) (sent turn : Turn) (came : Result Reply Fault) (old : Shelf) (next : Step) (new : FileMachine) (after : Shelf) (others : ℕ)
     → of_file m ≡ others + 1 → steps.Takes wsize m sent turn came old next new after → FileLeaves next others new
 file-takes (files.Open m) wsize sent turn came old next new after others one s =
     let again = opening_again m.opening sent turn came old.repeats in
@@ -96,7 +96,7 @@ opener-counted : (o : Opener) → FileCounted (file_of o)
 opener-counted (openers.Open m) = tt
 opener-counted (openers.Put m) = tt
 
-as-plain : (next : Next) (before : ℕ) (o : Opener) → FileLeaves next before (file_of o) → Plain next before (of_file (file_of o))
+as-plain : (next : Step) (before : ℕ) (o : Opener) → FileLeaves next before (file_of o) → Plain next before (of_file (file_of o))
 as-plain next before (openers.Open m) l = l
 as-plain next before (openers.Put m) l = l
 
@@ -118,13 +118,13 @@ begun-same moment (openers.Put m) = putting-same m.state m.opening m.write.state
 path-as : (m : PathMachine) (opener : Opener) (new : PathMachine) → m.arrived ≡ true → new ≡ record m { opener = opener } → of_path new ≡ of_file (file_of opener)
 path-as m opener new there is = ap of_path is ∙ path-file (record m { opener = opener }) there
 
-then-resumes : (wsize : ℕ) (m : PathMachine) (turn : Turn) (old : Shelf) (next : Next) (new : PathMachine) (after : Shelf) → m.arrived ≡ true
+then-resumes : (wsize : ℕ) (m : PathMachine) (turn : Turn) (old : Shelf) (next : Step) (new : PathMachine) (after : Shelf) → m.arrived ≡ true
     → paths.ThenResumes wsize m turn old next new after → Plain next (of_file (file_of m.opener)) (of_path new)
 then-resumes wsize m turn old next new after there t =
     leaves-after next (of_file (file_of m.opener)) (of_path new) (of_file (file_of t.opener)) (Unit {0}) (path-as m t.opener new there t.machine_is)
     (as-plain next (of_file (file_of m.opener)) t.opener (file-resumes (file_of m.opener) wsize turn old next (file_of t.opener) after (opener-counted m.opener) t.step))
 
-follows-path : (step : WalkNext) (wsize : ℕ) (m : PathMachine) (turn : Turn) (old : Shelf) (next : Next) (new : PathMachine) (after : Shelf) (before : ℕ) → m.arrived ≡ false
+follows-path : (step : WalkStep) (wsize : ℕ) (m : PathMachine) (turn : Turn) (old : Shelf) (next : Step) (new : PathMachine) (after : Shelf) (before : ℕ) → m.arrived ≡ false
     → WalkCounts step before (of_walk m.walk) → paths.Follows step wsize m turn old next new after → Plain next before (of_path new)
 follows-path (walks.Send call) wsize m turn old next new after before on_way c f = sends-leaves call next before (of_path new) (Unit {0}) f.0 (ap of_path f.1 ∙ path-walk m on_way ∙ c) tt
 follows-path walks.Wait wsize m turn old next new after before on_way c f = waits-leaves next before (of_path new) (Unit {0}) f.0 (ap of_path f.1 ∙ path-walk m on_way ∙ c) tt
@@ -134,7 +134,7 @@ follows-path (walks.At dir) wsize m turn old next new after before on_way c f =
     (then-resumes wsize (record m { opener = placed dir m.opener; arrived = true }) turn old next new after refl f))
 follows-path (walks.Refused fault) wsize m turn old next new after before on_way c f = done-leaves (answers.Refused fault) next before (of_path new) (Unit {0}) f.0 c
 
-path-resumes : (b : Bool) (wsize : ℕ) (m : PathMachine) (turn : Turn) (old : Shelf) (next : Next) (new : PathMachine) (after : Shelf) → m.arrived ≡ b
+path-resumes : (b : Bool) (wsize : ℕ) (m : PathMachine) (turn : Turn) (old : Shelf) (next : Step) (new : PathMachine) (after : Shelf) → m.arrived ≡ b
     → paths.PathResumes b wsize m turn old next new after → Plain next (of_path m) (of_path new)
 path-resumes true wsize m turn old next new after is r = subst (λ (n : ℕ). Plain next n (of_path new)) (sym (path-file m is)) (then-resumes wsize m turn old next new after is r)
 path-resumes false wsize m turn old next new after is r =
@@ -142,7 +142,7 @@ path-resumes false wsize m turn old next new after is r =
     (follows-path (walking.go_next m.walk turn old) wsize (record m { walk = walking.go_after m.walk turn old }) turn (walking.go_shelf m.walk turn old) next new after (of_walk m.walk) is
     (walk-counts m.walk turn old) r)
 
-path-starts : (taken : Bool) (wsize : ℕ) (m : PathMachine) (turn : Turn) (old : Shelf) (next : Next) (new : PathMachine) (after : Shelf) → of_path m ≡ 0
+path-starts : (taken : Bool) (wsize : ℕ) (m : PathMachine) (turn : Turn) (old : Shelf) (next : Step) (new : PathMachine) (after : Shelf) → of_path m ≡ 0
     → paths.StartsIf taken wsize m turn old next new after → Plain next 0 (of_path new)
 path-starts true wsize m turn old next new after none s = done-leaves (answers.Refused faults.Slot) next 0 (of_path new) (Unit {0}) s.0 refl
 path-starts false wsize m turn old next new after none s =
@@ -150,7 +150,7 @@ path-starts false wsize m turn old next new after none s =
     let same : of_path begun ≡ of_path m = ap (λ (n : ℕ). path_by m.arrived (of_walk m.walk) n) (begun-same (turn.moment - 1) m.opener) in
     subst (λ (n : ℕ). Plain next n (of_path new)) (same ∙ none) (path-resumes m.arrived wsize begun turn old next new after refl s)
 
-path-takes : (b : Bool) (wsize : ℕ) (m : PathMachine) (sent turn : Turn) (came : Result Reply Fault) (old : Shelf) (next : Next) (new : PathMachine) (after : Shelf) (others : ℕ)
+path-takes : (b : Bool) (wsize : ℕ) (m : PathMachine) (sent turn : Turn) (came : Result Reply Fault) (old : Shelf) (next : Step) (new : PathMachine) (after : Shelf) (others : ℕ)
     → m.arrived ≡ b → of_path m ≡ others + 1 → paths.PathTakes b wsize m sent turn came old next new after → Plain next others (of_path new)
 path-takes true wsize m sent turn came old next new after others is one t =
     leaves-after next others (of_path new) (of_file (file_of t.opener)) (Unit {0}) (path-as m t.opener new is t.machine_is)
@@ -162,10 +162,10 @@ path-takes false wsize m sent turn came old next new after others is one t =
 
 -- ---- any operation
 
-all-as : (to : Machine) (next : Next) (before : ℕ) (new : Machine) → new ≡ to → Counts next before to → Counts next before new
+all-as : (to : Machine) (next : Step) (before : ℕ) (new : Machine) → new ≡ to → Counts next before to → Counts next before new
 all-as to next before new is l = subst (λ (m : Machine). Counts next before m) (sym is) l
 
-all-starts : (m : Machine) (wsize : ℕ) (turn : Turn) (old : Shelf) (next : Next) (new : Machine) (after : Shelf) → IsUnbegun m
+all-starts : (m : Machine) (wsize : ℕ) (turn : Turn) (old : Shelf) (next : Step) (new : Machine) (after : Shelf) → IsUnbegun m
     → Starts wsize m turn old next new after → Counts next 0 new
 all-starts (machines.File m) wsize turn old next new after none s = all-as (machines.File s.machine) next 0 new s.machine_is (file-starts m wsize turn old next s.machine after none s.step)
 all-starts (machines.Path m) wsize turn old next new after none s =
@@ -173,7 +173,7 @@ all-starts (machines.Path m) wsize turn old next new after none s =
 all-starts (machines.Name m) wsize turn old next new after none s =
     all-as (machines.Name s.machine) next 0 new s.machine_is (subst (λ (n : ℕ). Plain next n (in_flight (machines.Name s.machine))) none (name-goes m turn old next s.machine after s.step))
 
-all-resumes : (m : Machine) (wsize : ℕ) (turn : Turn) (old : Shelf) (next : Next) (new : Machine) (after : Shelf) → IsCounted m
+all-resumes : (m : Machine) (wsize : ℕ) (turn : Turn) (old : Shelf) (next : Step) (new : Machine) (after : Shelf) → IsCounted m
     → Resumes wsize m turn old next new after → Counts next (in_flight m) new
 all-resumes (machines.File m) wsize turn old next new after counted s =
     all-as (machines.File s.machine) next (of_file m) new s.machine_is (file-resumes m wsize turn old next s.machine after counted s.step)
@@ -182,7 +182,7 @@ all-resumes (machines.Path m) wsize turn old next new after counted s =
 all-resumes (machines.Name m) wsize turn old next new after counted s =
     all-as (machines.Name s.machine) next (in_flight (machines.Name m)) new s.machine_is (name-goes m turn old next s.machine after s.step)
 
-all-takes : (m : Machine) (wsize : ℕ) (sent turn : Turn) (came : Result Reply Fault) (old : Shelf) (next : Next) (new : Machine) (after : Shelf) (others : ℕ)
+all-takes : (m : Machine) (wsize : ℕ) (sent turn : Turn) (came : Result Reply Fault) (old : Shelf) (next : Step) (new : Machine) (after : Shelf) (others : ℕ)
     → in_flight m ≡ others + 1 → Takes wsize m sent turn came old next new after → Counts next others new
 all-takes (machines.File m) wsize sent turn came old next new after others one s =
     all-as (machines.File s.machine) next others new s.machine_is (file-takes m wsize sent turn came old next s.machine after others one s.step)

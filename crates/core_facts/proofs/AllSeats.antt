@@ -1,12 +1,12 @@
 -- Where any operation has a place in the order of a file, as its machine says; and that it never waits for nothing.
-use Rattle.core_facts.proofs.Prelude.{◌≡◌, ◌+◌, ◌-◌, ◌⊎◌, ℕ, Bool, true, false, List, Option, Some, None, Result, inl, inr, refl, sym, ap, subst, ◌∙◌, Fault, Reply, Op, left, LaneFile, Next, Shelf, Turn, WalkNext, Mounted, Machine, Opener, PathMachine, machine_of, file_of, slot_taken, begun_at, placed, Starts, Resumes, Takes, of_walk, of_names, in_flight, IsCounted}
+use Rattle.core_facts.proofs.Prelude.{◌≡◌, ◌+◌, ◌-◌, ◌⊎◌, ℕ, Bool, true, false, List, Option, Some, None, Result, inl, inr, refl, sym, ap, subst, ◌∙◌, Fault, Reply, Op, left, LaneFile, Step, Shelf, Turn, WalkStep, Mounted, Machine, Opener, PathMachine, machine_of, file_of, slot_taken, begun_at, placed, Starts, Resumes, Takes, of_walk, of_names, in_flight, IsCounted}
 use Rattle.client_shelf.specs.LaneFiles.{added}
 use Rattle.core_facts.specs.InFlight.{of_file, path_by, FileCounted}
 use Rattle.world_model.specs.declared.answer.Answer.TheVariants as answers
 use Rattle.world_model.specs.declared.answer.Fault.TheVariants as faults
 use Rattle.world_model.specs.declared.op.Op.TheVariants as ops
-use Rattle.client_shelf.specs.declared.next.Next.TheVariants as nexts
-use Rattle.name_ops.specs.declared.walk.WalkNext.TheVariants as walks
+use Rattle.client_shelf.specs.declared.step.Step.TheVariants as nexts
+use Rattle.name_ops.specs.declared.walk.WalkStep.TheVariants as walks
 use Rattle.name_ops.specs.Walking as walking
 use Rattle.op_machines.specs.declared.machine.Machine.TheVariants as machines
 use Rattle.op_machines.specs.declared.opener.Opener.TheVariants as openers
@@ -80,38 +80,38 @@ on-way lane m is live fresh = subst (λ (b : Bool). OnPath b lane m) (sym is) (l
 
 module _ (lane : ℕ) (P : Option (List ℕ) → List LaneFile → Type 0) (leaves : (seat : Option (List ℕ)) (order : List LaneFile) → P seat order → P None (left lane order))
     (joins : (seat : Option (List ℕ)) (file : List ℕ) (order : List LaneFile) → P seat order → P (Some file) (added (record { lane = lane; file = file }) (left lane order))) where
-  abbrev pub OfMachine : Next → Machine → List LaneFile → Type 0
+  abbrev pub OfMachine : Step → Machine → List LaneFile → Type 0
   OfMachine next m order = Seats lane P leaves joins next (IsLive lane m) (seat_of m) order
 
-  abbrev pub OfPath : Next → PathMachine → List LaneFile → Type 0
+  abbrev pub OfPath : Step → PathMachine → List LaneFile → Type 0
   OfPath next m order = Seats lane P leaves joins next (OnPath m.arrived lane m) (path_seat m.arrived m.opener) order
 
-  all-as : (next : Next) (to new : Machine) (order : List LaneFile) → new ≡ to → OfMachine next to order → OfMachine next new order
+  all-as : (next : Step) (to new : Machine) (order : List LaneFile) → new ≡ to → OfMachine next to order → OfMachine next new order
   all-as next to new order is s = subst (λ (m : Machine). OfMachine next m order) (sym is) s
 
   -- ---- opens and puts on their way
 
-  then-as : (next : Next) (m : PathMachine) (opener : Opener) (new : PathMachine) (order : List LaneFile) → m.arrived ≡ true → new ≡ record m { opener = opener }
+  then-as : (next : Step) (m : PathMachine) (opener : Opener) (new : PathMachine) (order : List LaneFile) → m.arrived ≡ true → new ≡ record m { opener = opener }
       → Seats lane P leaves joins next (FileLive lane (file_of opener)) (seat_file (file_of opener)) order → OfPath next new order
   then-as next m opener new order there is s =
       subst (λ (n : PathMachine). OfPath next n order) (sym is)
       (subst (λ (b : Bool). Seats lane P leaves joins next (OnPath b lane (record m { opener = opener })) (path_seat b opener) order) (sym there) s)
 
-  then-resumes : (wsize : ℕ) (m : PathMachine) (turn : Turn) (old : Shelf) (next : Next) (new : PathMachine) (after : Shelf) → m.arrived ≡ true
+  then-resumes : (wsize : ℕ) (m : PathMachine) (turn : Turn) (old : Shelf) (next : Step) (new : PathMachine) (after : Shelf) → m.arrived ≡ true
       → FileLive lane (file_of m.opener) → P (seat_file (file_of m.opener)) old.order → paths.ThenResumes wsize m turn old next new after → OfPath next new after.order
   then-resumes wsize m turn old next new after there live p t =
       then-as next m t.opener new after.order there t.machine_is
       (file-resumes lane P leaves joins (file_of m.opener) wsize turn old next (file_of t.opener) after live p t.step)
 
   -- it stays on its way, with no place
-  way-any : (next : Next) (m : PathMachine) (new : PathMachine) (old order : List LaneFile) → new ≡ m → m.arrived ≡ false → WalkLive m.walk → OpenerFresh lane m.opener
+  way-any : (next : Step) (m : PathMachine) (new : PathMachine) (old order : List LaneFile) → new ≡ m → m.arrived ≡ false → WalkLive m.walk → OpenerFresh lane m.opener
       → order ≡ old → P None old → OfPath next new order
   way-any next m new old order is way live fresh o p =
       subst (λ (n : PathMachine). OfPath next n order) (sym is)
       (to-any lane P leaves joins next (OnPath m.arrived lane m) (path_seat m.arrived m.opener) old order (ap (λ (b : Bool). path_seat b m.opener) way) o
       (on-way lane m way live fresh) p)
 
-  follows-path : (step : WalkNext) (wsize : ℕ) (m : PathMachine) (turn : Turn) (old : Shelf) (next : Next) (new : PathMachine) (after : Shelf) → m.arrived ≡ false
+  follows-path : (step : WalkStep) (wsize : ℕ) (m : PathMachine) (turn : Turn) (old : Shelf) (next : Step) (new : PathMachine) (after : Shelf) → m.arrived ≡ false
       → WalkLives step m.walk → OpenerFresh lane m.opener → P None old.order → paths.Follows step wsize m turn old next new after → OfPath next new after.order
   follows-path (walks.Send call) wsize m turn old next new after way l fresh p f =
       way-any next m new old.order after.order f.1 way (λ asked. l) fresh (ap (λ (s : Shelf). s.order) f.2) p
@@ -124,14 +124,14 @@ module _ (lane : ℕ) (P : Option (List ℕ) → List LaneFile → Type 0) (leav
       to-done lane P leaves joins (answers.Refused fault) next (OnPath new.arrived lane new) (path_seat new.arrived new.opener) old.order after.order f.0
       (ap (λ (s : Shelf). s.order) f.2) p
 
-  path-resumes : (b : Bool) (wsize : ℕ) (m : PathMachine) (turn : Turn) (old : Shelf) (next : Next) (new : PathMachine) (after : Shelf) → m.arrived ≡ b → OnPath b lane m
+  path-resumes : (b : Bool) (wsize : ℕ) (m : PathMachine) (turn : Turn) (old : Shelf) (next : Step) (new : PathMachine) (after : Shelf) → m.arrived ≡ b → OnPath b lane m
       → P (path_seat b m.opener) old.order → paths.PathResumes b wsize m turn old next new after → OfPath next new after.order
   path-resumes true wsize m turn old next new after is live p r = then-resumes wsize m turn old next new after is live p r
   path-resumes false wsize m turn old next new after is live p r =
       follows-path (walking.go_next m.walk turn old) wsize (record m { walk = walking.go_after m.walk turn old }) turn (walking.go_shelf m.walk turn old) next new after is
       (walk-lives m.walk turn old live.0) live.1 p r
 
-  path-starts : (taken : Bool) (wsize : ℕ) (m : PathMachine) (turn : Turn) (old : Shelf) (next : Next) (new : PathMachine) (after : Shelf) → PathFresh lane m
+  path-starts : (taken : Bool) (wsize : ℕ) (m : PathMachine) (turn : Turn) (old : Shelf) (next : Step) (new : PathMachine) (after : Shelf) → PathFresh lane m
       → P None old.order → paths.StartsIf taken wsize m turn old next new after → OfPath next new after.order
   path-starts true wsize m turn old next new after fresh p s =
       to-done lane P leaves joins (answers.Refused faults.Slot) next (OnPath new.arrived lane new) (path_seat new.arrived new.opener) old.order after.order s.0
@@ -142,7 +142,7 @@ module _ (lane : ℕ) (P : Option (List ℕ) → List LaneFile → Type 0) (leav
       (on-way lane begun fresh.on_way fresh.walk (begun-fresh lane (turn.moment - 1) m.opener fresh.opener))
       (subst (λ (b : Bool). P (path_seat b (begun_at (turn.moment - 1) m.opener)) old.order) (sym fresh.on_way) p) s
 
-  path-takes : (b : Bool) (wsize : ℕ) (m : PathMachine) (sent turn : Turn) (came : Result Reply Fault) (old : Shelf) (next : Next) (new : PathMachine) (after : Shelf) (others : ℕ)
+  path-takes : (b : Bool) (wsize : ℕ) (m : PathMachine) (sent turn : Turn) (came : Result Reply Fault) (old : Shelf) (next : Step) (new : PathMachine) (after : Shelf) (others : ℕ)
       → m.arrived ≡ b → OnPath b lane m → of_path m ≡ others + 1 → P (path_seat b m.opener) old.order → paths.PathTakes b wsize m sent turn came old next new after
       → OfPath next new after.order
   path-takes true wsize m sent turn came old next new after others is live one p t =
@@ -157,12 +157,12 @@ module _ (lane : ℕ) (P : Option (List ℕ) → List LaneFile → Type 0) (leav
 
   -- ---- any operation
 
-  name-seats : (next : Next) (Live : Type 0) (old order : List LaneFile) → WhileGoing next Live → order ≡ old → P None old → Seats lane P leaves joins next Live None order
+  name-seats : (next : Step) (Live : Type 0) (old order : List LaneFile) → WhileGoing next Live → order ≡ old → P None old → Seats lane P leaves joins next Live None order
   name-seats (nexts.Send call) Live old order w o p = (w, subst (P None) (sym o) p)
   name-seats nexts.Wait Live old order w o p = (w, subst (P None) (sym o) p)
   name-seats (nexts.Done answer) Live old order w o p = subst (P None) (sym o) p
 
-  pub all-starts : (m : Machine) (wsize : ℕ) (turn : Turn) (old : Shelf) (next : Next) (new : Machine) (after : Shelf) → IsFreshFor lane m → P None old.order
+  pub all-starts : (m : Machine) (wsize : ℕ) (turn : Turn) (old : Shelf) (next : Step) (new : Machine) (after : Shelf) → IsFreshFor lane m → P None old.order
       → Starts wsize m turn old next new after → OfMachine next new after.order
   all-starts (machines.File m) wsize turn old next new after fresh p s =
       all-as next (machines.File s.machine) new after.order s.machine_is (file-starts lane P leaves joins m wsize turn old next s.machine after fresh p s.step)
@@ -173,7 +173,7 @@ module _ (lane : ℕ) (P : Option (List ℕ) → List LaneFile → Type 0) (leav
       (name-seats next (NameLive s.machine) old.order after.order (names.name-goes m turn old next s.machine after fresh s.step)
       (ap (λ (r : Rest). r.order) (rests.name-goes m turn old next s.machine after s.step)) p)
 
-  pub all-resumes : (m : Machine) (wsize : ℕ) (turn : Turn) (old : Shelf) (next : Next) (new : Machine) (after : Shelf) → IsLive lane m → P (seat_of m) old.order
+  pub all-resumes : (m : Machine) (wsize : ℕ) (turn : Turn) (old : Shelf) (next : Step) (new : Machine) (after : Shelf) → IsLive lane m → P (seat_of m) old.order
       → Resumes wsize m turn old next new after → OfMachine next new after.order
   all-resumes (machines.File m) wsize turn old next new after live p s =
       all-as next (machines.File s.machine) new after.order s.machine_is (file-resumes lane P leaves joins m wsize turn old next s.machine after live p s.step)
@@ -184,7 +184,7 @@ module _ (lane : ℕ) (P : Option (List ℕ) → List LaneFile → Type 0) (leav
       (name-seats next (NameLive s.machine) old.order after.order (names.name-goes m turn old next s.machine after live s.step)
       (ap (λ (r : Rest). r.order) (rests.name-goes m turn old next s.machine after s.step)) p)
 
-  pub all-takes : (m : Machine) (wsize : ℕ) (sent turn : Turn) (came : Result Reply Fault) (old : Shelf) (next : Next) (new : Machine) (after : Shelf) (others : ℕ)
+  pub all-takes : (m : Machine) (wsize : ℕ) (sent turn : Turn) (came : Result Reply Fault) (old : Shelf) (next : Step) (new : Machine) (after : Shelf) (others : ℕ)
       → IsLive lane m → in_flight m ≡ others + 1 → P (seat_of m) old.order → Takes wsize m sent turn came old next new after → OfMachine next new after.order
   all-takes (machines.File m) wsize sent turn came old next new after others live one p s =
       all-as next (machines.File s.machine) new after.order s.machine_is (file-takes lane P leaves joins m wsize sent turn came old next s.machine after others live one p s.step)
@@ -197,11 +197,11 @@ module _ (lane : ℕ) (P : Option (List ℕ) → List LaneFile → Type 0) (leav
 
 -- ---- it goes on
 
-none-held : (lane : ℕ) (seat : Option (List ℕ)) (shelf : Shelf) (next : Next) → seat ≡ None → OnOr lane seat shelf next → GoesOn next
+none-held : (lane : ℕ) (seat : Option (List ℕ)) (shelf : Shelf) (next : Step) → seat ≡ None → OnOr lane seat shelf next → GoesOn next
 none-held lane seat shelf next is (inl on) = on
 none-held lane seat shelf next is (inr held) = absurd (subst (λ (s : Option (List ℕ)). HeldUp lane s shelf) is held)
 
-follows-on : (step : WalkNext) (lane wsize : ℕ) (m : PathMachine) (turn : Turn) (old : Shelf) (next : Next) (new : PathMachine) (after : Shelf) → turn.room ≡ true
+follows-on : (step : WalkStep) (lane wsize : ℕ) (m : PathMachine) (turn : Turn) (old : Shelf) (next : Step) (new : PathMachine) (after : Shelf) → turn.room ≡ true
     → OpenerFresh lane m.opener → Walks step → paths.Follows step wsize m turn old next new after → GoesOn next
 follows-on (walks.Send call) lane wsize m turn old next new after room fresh w f = on-as (nexts.Send call) next f.0 tt
 follows-on walks.Wait lane wsize m turn old next new after room fresh w f = absurd w
@@ -211,7 +211,7 @@ follows-on (walks.At dir) lane wsize m turn old next new after room fresh w f =
     (opener-counted (placed dir m.opener)) (placed-none dir m.opener) f.step)
 follows-on (walks.Refused fault) lane wsize m turn old next new after room fresh w f = on-as (nexts.Done (answers.Refused fault)) next f.0 tt
 
-path-on : (b : Bool) (lane wsize : ℕ) (m : PathMachine) (turn : Turn) (old : Shelf) (next : Next) (new : PathMachine) (after : Shelf) → m.arrived ≡ b → turn.room ≡ true
+path-on : (b : Bool) (lane wsize : ℕ) (m : PathMachine) (turn : Turn) (old : Shelf) (next : Step) (new : PathMachine) (after : Shelf) → m.arrived ≡ b → turn.room ≡ true
     → OnPath b lane m → of_path m ≡ 0 → paths.PathResumes b wsize m turn old next new after → OnOr lane (path_seat b m.opener) old next
 path-on true lane wsize m turn old next new after is room live none r =
     file-on (file_of m.opener) lane wsize turn old next (file_of r.opener) after room live (opener-counted m.opener) (sym (path-file m is) ∙ none) r.step
@@ -219,7 +219,7 @@ path-on false lane wsize m turn old next new after is room live none r =
     inl (follows-on (walking.go_next m.walk turn old) lane wsize (record m { walk = walking.go_after m.walk turn old }) turn (walking.go_shelf m.walk turn old) next new after
     room live.1 (walk-on m.walk turn old live.0 (sym (path-walk m is) ∙ none) room) r)
 
-pub all-on : (m : Machine) (lane wsize : ℕ) (turn : Turn) (old : Shelf) (next : Next) (new : Machine) (after : Shelf) → turn.room ≡ true → IsLive lane m → IsCounted m
+pub all-on : (m : Machine) (lane wsize : ℕ) (turn : Turn) (old : Shelf) (next : Step) (new : Machine) (after : Shelf) → turn.room ≡ true → IsLive lane m → IsCounted m
     → in_flight m ≡ 0 → Resumes wsize m turn old next new after → OnOr lane (seat_of m) old next
 all-on (machines.File m) lane wsize turn old next new after room live counted none s =
     file-on m lane wsize turn old next s.machine after room live counted none s.step

@@ -1,12 +1,12 @@
 -- For which call an operation on names, and an open on its way, waits: for one at most.
-use Rattle.core_facts.proofs.Prelude.{◌≡◌, ◌<◌, ◌≤◌, ◌+◌, ◌-◌, ◌⊎◌, inl, inr, ◌||◌, ℕ, not, Bool, true, false, List, Option, Some, None, Result, Ok, Err, refl, sym, ap, subst, ◌∙◌, arith, if◌then◌else◌, Attr, Step, More, End, ListFault, Answer, Fault, Call, Reply, Next, Shelf, Turn, ListDir, Pair, PairNext, Stat, Visit, VisitNext, Walk, WalkNext, look_up, found_by, look_again, of_walk, visit_by, of_visit, pair_by, of_pair}
+use Rattle.core_facts.proofs.Prelude.{◌≡◌, ◌<◌, ◌≤◌, ◌+◌, ◌-◌, ◌⊎◌, inl, inr, ◌||◌, ℕ, not, Bool, true, false, List, Option, Some, None, Result, Ok, Err, refl, sym, ap, subst, ◌∙◌, arith, if◌then◌else◌, Attr, ListStep, More, End, ListFault, Answer, Fault, Call, Reply, Step, Shelf, Turn, ListDir, Pair, PairStep, Stat, Visit, VisitStep, Walk, WalkStep, look_up, found_by, look_again, of_walk, visit_by, of_visit, pair_by, of_pair}
 use Rattle.core_facts.specs.InFlight.{of_name}
 use Rattle.attr_cache.specs.Attrs as attrs
 use Rattle.world_model.specs.declared.answer.Answer.TheVariants as answers
-use Rattle.client_shelf.specs.declared.next.Next.TheVariants as nexts
-use Rattle.name_ops.specs.declared.pair.PairNext.TheVariants as two
-use Rattle.name_ops.specs.declared.visit.VisitNext.TheVariants as visits
-use Rattle.name_ops.specs.declared.walk.WalkNext.TheVariants as walks
+use Rattle.client_shelf.specs.declared.step.Step.TheVariants as nexts
+use Rattle.name_ops.specs.declared.pair.PairStep.TheVariants as two
+use Rattle.name_ops.specs.declared.visit.VisitStep.TheVariants as visits
+use Rattle.name_ops.specs.declared.walk.WalkStep.TheVariants as walks
 use Rattle.name_ops.specs.Pairs as pairs
 use Rattle.name_ops.specs.Visiting as visiting
 use Rattle.name_ops.specs.Walking as walking
@@ -19,33 +19,33 @@ abbrev pub WalkAwaits : Walk → Call → Type 0
 WalkAwaits w call = (name : List ℕ) → walking.waiting_name w ≡ Some name → call ≡ look_up w.spot.dir name
 
 -- What a step of a walk comes to: a call for which it waits then, or the object at which it is, with no name left.
-abbrev pub WalkStep : WalkNext → Walk → Type 0
-WalkStep (walks.Send call) new = WalkAwaits new call × (new.asked ≡ true)
-WalkStep walks.Wait new = Unit {0}
-WalkStep (walks.At object) new = (object ≡ new.spot.dir) × (walking.next_name new ≡ None) × (new.asked ≡ false)
-WalkStep (walks.Refused fault) new = Unit {0}
+abbrev pub WalkMoves : WalkStep → Walk → Type 0
+WalkMoves (walks.Send call) new = WalkAwaits new call × (new.asked ≡ true)
+WalkMoves walks.Wait new = Unit {0}
+WalkMoves (walks.At object) new = (object ≡ new.spot.dir) × (walking.next_name new ≡ None) × (new.asked ≡ false)
+WalkMoves (walks.Refused fault) new = Unit {0}
 
 same-name : (a b : List ℕ) → Some a ≡ Some b → a ≡ b
 same-name a b e = cc
 
-asks-step : (name : Option (List ℕ)) (room : Bool) (w : Walk) → walking.next_name w ≡ name → w.asked ≡ false → WalkStep (walking.asks name room w) (walking.asked_after name room w)
+asks-step : (name : Option (List ℕ)) (room : Bool) (w : Walk) → walking.next_name w ≡ name → w.asked ≡ false → WalkMoves (walking.asks name room w) (walking.asked_after name room w)
 asks-step None room w is idle = (refl, is, idle)
 asks-step (Some name) true w is idle = (λ other waits. ap (look_up w.spot.dir) (same-name name other (sym is ∙ waits)), refl)
 asks-step (Some name) false w is idle = tt
 
-pub on-step : (w : Walk) (turn : Turn) (shelf : Shelf) → w.asked ≡ false → WalkStep (walking.on_next w turn shelf.attrs shelf.names) (walking.on_after w turn shelf.attrs shelf.names)
+pub on-step : (w : Walk) (turn : Turn) (shelf : Shelf) → w.asked ≡ false → WalkMoves (walking.on_next w turn shelf.attrs shelf.names) (walking.on_after w turn shelf.attrs shelf.names)
 on-step w turn shelf idle =
     asks-step (walking.next_name (walking.walked w turn.now shelf.attrs shelf.names)) turn.room (walking.walked w turn.now shelf.attrs shelf.names) refl idle
 
 go-if : (b : Bool) (w : Walk) (turn : Turn) (shelf : Shelf) → w.asked ≡ b
-    → WalkStep (if b then walks.Wait else walking.on_next w turn shelf.attrs shelf.names) (if b then w else walking.on_after w turn shelf.attrs shelf.names)
+    → WalkMoves (if b then walks.Wait else walking.on_next w turn shelf.attrs shelf.names) (if b then w else walking.on_after w turn shelf.attrs shelf.names)
 go-if true w turn shelf is = tt
 go-if false w turn shelf is = on-step w turn shelf is
 
-pub go-step : (w : Walk) (turn : Turn) (shelf : Shelf) → WalkStep (walking.go_next w turn shelf) (walking.go_after w turn shelf)
+pub go-step : (w : Walk) (turn : Turn) (shelf : Shelf) → WalkMoves (walking.go_next w turn shelf) (walking.go_after w turn shelf)
 go-step w turn shelf = go-if w.asked w turn shelf refl
 
-told-step : (told : Result (List ℕ) Fault) (w : Walk) (turn : Turn) (heard : Shelf) → WalkStep (walking.told_next w told turn heard) (walking.told_walk w told turn heard)
+told-step : (told : Result (List ℕ) Fault) (w : Walk) (turn : Turn) (heard : Shelf) → WalkMoves (walking.told_next w told turn heard) (walking.told_walk w told turn heard)
 told-step (Ok found) w turn heard = on-step (walking.arrived w found) turn heard refl
 told-step (Err fault) w turn heard = tt
 
@@ -54,20 +54,20 @@ asked-some true w name is = refl
 asked-some false w name is = absurd cc
 
 followed-step : (busy : Bool) (w : Walk) (name : List ℕ) (told : Result (List ℕ) Fault) (turn : Turn) (heard : Shelf) → walking.waiting_name w ≡ Some name
-    → WalkStep (walking.followed_next busy w name told turn heard) (walking.followed_walk busy w told turn heard)
+    → WalkMoves (walking.followed_next busy w name told turn heard) (walking.followed_walk busy w told turn heard)
 followed-step true w name told turn heard is = (λ other waits. ap (look_up w.spot.dir) (same-name name other (sym is ∙ waits)), asked-some w.asked w name is)
 followed-step false w name told turn heard is = told-step told w turn heard
 
-took-name : (name : Option (List ℕ)) (w : Walk) (sent turn : Turn) (came : Result Reply Fault) (old : Shelf) (next : WalkNext) (new : Walk) (after : Shelf)
-    → walking.waiting_name w ≡ name → walking.Takes name w sent turn came old next new after → WalkStep next new
-took-name None w sent turn came old next new after is t = subst (λ (n : WalkNext). WalkStep n new) (sym t.next_is) tt
+took-name : (name : Option (List ℕ)) (w : Walk) (sent turn : Turn) (came : Result Reply Fault) (old : Shelf) (next : WalkStep) (new : Walk) (after : Shelf)
+    → walking.waiting_name w ≡ name → walking.Takes name w sent turn came old next new after → WalkMoves next new
+took-name None w sent turn came old next new after is t = subst (λ (n : WalkStep). WalkMoves n new) (sym t.next_is) tt
 took-name (Some name) w sent turn came old next new after is t =
     let busy : Bool = look_again sent turn came old in
-    subst (λ (n : WalkNext). WalkStep n new) (sym t.next_is)
-    (subst (λ (v : Walk). WalkStep (walking.followed_next busy w name (found_by came) turn t.heard) v) (sym t.walk_is) (followed-step busy w name (found_by came) turn t.heard is))
+    subst (λ (n : WalkStep). WalkMoves n new) (sym t.next_is)
+    (subst (λ (v : Walk). WalkMoves (walking.followed_next busy w name (found_by came) turn t.heard) v) (sym t.walk_is) (followed-step busy w name (found_by came) turn t.heard is))
 
-pub took-step : (w : Walk) (sent turn : Turn) (came : Result Reply Fault) (old : Shelf) (next : WalkNext) (new : Walk) (after : Shelf)
-    → walking.Takes (walking.waiting_name w) w sent turn came old next new after → WalkStep next new
+pub took-step : (w : Walk) (sent turn : Turn) (came : Result Reply Fault) (old : Shelf) (next : WalkStep) (new : Walk) (after : Shelf)
+    → walking.Takes (walking.waiting_name w) w sent turn came old next new after → WalkMoves next new
 took-step w sent turn came old next new after t = took-name (walking.waiting_name w) w sent turn came old next new after refl t
 
 -- a step before which one of its calls waits leaves it as it is
@@ -99,11 +99,11 @@ abbrev pub VisitAwaits : (List ℕ → Call) → Visit → Call → Type 0
 VisitAwaits own v call = OwnOr v.asked own v.walk call
 
 -- what a step of a visit comes to
-abbrev pub VisitStep : (List ℕ → Call) → VisitNext → Visit → Type 0
-VisitStep own (visits.Look call) new = VisitAwaits own new call
-VisitStep own visits.Wait new = Unit {0}
-VisitStep own (visits.Ask object) new = (new.asked ≡ true) × (object ≡ new.walk.spot.dir) × (walking.next_name new.walk ≡ None)
-VisitStep own (visits.Refused fault) new = Unit {0}
+abbrev pub VisitMoves : (List ℕ → Call) → VisitStep → Visit → Type 0
+VisitMoves own (visits.Look call) new = VisitAwaits own new call
+VisitMoves own visits.Wait new = Unit {0}
+VisitMoves own (visits.Ask object) new = (new.asked ≡ true) × (object ≡ new.walk.spot.dir) × (walking.next_name new.walk ≡ None)
+VisitMoves own (visits.Refused fault) new = Unit {0}
 
 own-or : (b : Bool) (own : List ℕ → Call) (w : Walk) (call : Call) → b ≡ false → WalkAwaits w call → OwnOr b own w call
 own-or b own w call is a = subst (λ (c : Bool). OwnOr c own w call) (sym is) a
@@ -111,8 +111,8 @@ own-or b own w call is a = subst (λ (c : Bool). OwnOr c own w call) (sym is) a
 pub own-true : (b : Bool) (own : List ℕ → Call) (w : Walk) (call : Call) → b ≡ true → call ≡ own w.spot.dir → OwnOr b own w call
 own-true b own w call is a = subst (λ (c : Bool). OwnOr c own w call) (sym is) a
 
-follow-step : (own : List ℕ → Call) (step : WalkNext) (room : Bool) (v : Visit) → v.asked ≡ false → WalkStep step v.walk
-    → VisitStep own (visiting.follow_next step room) (visiting.follow_after step room v)
+follow-step : (own : List ℕ → Call) (step : WalkStep) (room : Bool) (v : Visit) → v.asked ≡ false → WalkMoves step v.walk
+    → VisitMoves own (visiting.follow_next step room) (visiting.follow_after step room v)
 follow-step own (walks.Send call) room v idle s = own-or v.asked own v.walk call idle s.0
 follow-step own walks.Wait room v idle s = tt
 follow-step own (walks.At object) true v idle s = (refl, s.0, s.1)
@@ -120,20 +120,20 @@ follow-step own (walks.At object) false v idle s = tt
 follow-step own (walks.Refused fault) room v idle s = tt
 
 visit-if : (own : List ℕ → Call) (b : Bool) (v : Visit) (turn : Turn) (shelf : Shelf) → v.asked ≡ b
-    → VisitStep own (if b then visits.Wait else visiting.follow_next (walking.go_next v.walk turn shelf) turn.room)
+    → VisitMoves own (if b then visits.Wait else visiting.follow_next (walking.go_next v.walk turn shelf) turn.room)
     (if b then v else visiting.follow_after (walking.go_next v.walk turn shelf) turn.room (record v { walk = walking.go_after v.walk turn shelf }))
 visit-if own true v turn shelf is = tt
 visit-if own false v turn shelf is = follow-step own (walking.go_next v.walk turn shelf) turn.room (record v { walk = walking.go_after v.walk turn shelf }) is (go-step v.walk turn shelf)
 
-pub visit-step : (own : List ℕ → Call) (v : Visit) (turn : Turn) (shelf : Shelf) → VisitStep own (visiting.visit_next v turn shelf) (visiting.visit_after v turn shelf)
+pub visit-step : (own : List ℕ → Call) (v : Visit) (turn : Turn) (shelf : Shelf) → VisitMoves own (visiting.visit_next v turn shelf) (visiting.visit_after v turn shelf)
 visit-step own v turn shelf = visit-if own v.asked v turn shelf refl
 
-pub visit-took-step : (own : List ℕ → Call) (v : Visit) (sent turn : Turn) (came : Result Reply Fault) (old : Shelf) (next : VisitNext) (new : Visit) (after : Shelf) → v.asked ≡ false
-    → visiting.VisitTakes v sent turn came old next new after → VisitStep own next new
+pub visit-took-step : (own : List ℕ → Call) (v : Visit) (sent turn : Turn) (came : Result Reply Fault) (old : Shelf) (next : VisitStep) (new : Visit) (after : Shelf) → v.asked ≡ false
+    → visiting.VisitTakes v sent turn came old next new after → VisitMoves own next new
 visit-took-step own v sent turn came old next new after idle t =
     let still : t.walked.asked ≡ false = ap (λ (w : Visit). w.asked) t.walked_is ∙ idle in
-    subst (λ (n : VisitNext). VisitStep own n new) (sym t.next_is)
-    (subst (λ (w : Visit). VisitStep own (visiting.follow_next t.step turn.room) w) (sym t.visit_is)
+    subst (λ (n : VisitStep). VisitMoves own n new) (sym t.next_is)
+    (subst (λ (w : Visit). VisitMoves own (visiting.follow_next t.step turn.room) w) (sym t.visit_is)
     (follow-step own t.step turn.room t.walked still (took-step v.walk sent turn came old t.step t.walked.walk after t.takes)))
 
 -- a step before which one of its calls waits leaves it as it is
@@ -149,7 +149,7 @@ visit-rests v turn shelf = by v.asked refl (walk-rests v.walk turn shelf)
     by false is (inl none) = inl (ap (λ (b : Bool). visit_by b (of_walk v.walk)) is ∙ none)
     by false is (inr w) = inr (
         ap to is
-        ∙ ap (λ (n : WalkNext). visiting.follow_after n turn.room (record v { walk = walking.go_after v.walk turn shelf })) w.0
+        ∙ ap (λ (n : WalkStep). visiting.follow_after n turn.room (record v { walk = walking.go_after v.walk turn shelf })) w.0
         ∙ ap (λ (k : Walk). record v { walk = k }) w.1
         )
 
@@ -180,22 +180,22 @@ pair-second : (own : List ℕ → List ℕ → Call) (p : Pair) (call : Call) �
 pair-second own p call is at a = subst (λ (b : Bool). PairOr b p.first.asked own p call) (sym is) (subst (λ (b : Bool). PairOr false b own p call) (sym at) a)
 
 -- what a step of a pair of walks comes to
-abbrev pub PairStep : (List ℕ → List ℕ → Call) → PairNext → Pair → Type 0
-PairStep own (two.Look call) new = PairAwaits own new call
-PairStep own two.Wait new = Unit {0}
-PairStep own (two.Ask a b) new = (new.asked ≡ true) × (a ≡ new.first.spot.dir) × (b ≡ new.second.spot.dir) × (walking.next_name new.second ≡ None)
-PairStep own (two.Refused fault) new = Unit {0}
+abbrev pub PairMoves : (List ℕ → List ℕ → Call) → PairStep → Pair → Type 0
+PairMoves own (two.Look call) new = PairAwaits own new call
+PairMoves own two.Wait new = Unit {0}
+PairMoves own (two.Ask a b) new = (new.asked ≡ true) × (a ≡ new.first.spot.dir) × (b ≡ new.second.spot.dir) × (walking.next_name new.second ≡ None)
+PairMoves own (two.Refused fault) new = Unit {0}
 
-led-second : (own : List ℕ → List ℕ → Call) (first : List ℕ) (step : WalkNext) (room : Bool) (p : Pair) → p.asked ≡ false → p.first.asked ≡ false → first ≡ p.first.spot.dir
-    → WalkStep step p.second → PairStep own (pairs.led_second first step room) (pairs.second_kept step room p)
+led-second : (own : List ℕ → List ℕ → Call) (first : List ℕ) (step : WalkStep) (room : Bool) (p : Pair) → p.asked ≡ false → p.first.asked ≡ false → first ≡ p.first.spot.dir
+    → WalkMoves step p.second → PairMoves own (pairs.led_second first step room) (pairs.second_kept step room p)
 led-second own first (walks.Send call) room p idle done at s = pair-second own p call idle done s.0
 led-second own first walks.Wait room p idle done at s = tt
 led-second own first (walks.At second) true p idle done at s = (refl, at, s.0, s.1)
 led-second own first (walks.At second) false p idle done at s = tt
 led-second own first (walks.Refused fault) room p idle done at s = tt
 
-led-first : (own : List ℕ → List ℕ → Call) (step : WalkNext) (p : Pair) (turn : Turn) (shelf : Shelf) → p.asked ≡ false → WalkStep step p.first
-    → PairStep own (pairs.led_first step p turn shelf) (pairs.first_kept step p turn shelf)
+led-first : (own : List ℕ → List ℕ → Call) (step : WalkStep) (p : Pair) (turn : Turn) (shelf : Shelf) → p.asked ≡ false → WalkMoves step p.first
+    → PairMoves own (pairs.led_first step p turn shelf) (pairs.first_kept step p turn shelf)
 led-first own (walks.Send call) p turn shelf idle s = pair-first own p call idle s.1 s.0
 led-first own walks.Wait p turn shelf idle s = tt
 led-first own (walks.At first) p turn shelf idle s =
@@ -203,27 +203,27 @@ led-first own (walks.At first) p turn shelf idle s =
 led-first own (walks.Refused fault) p turn shelf idle s = tt
 
 pair-if : (own : List ℕ → List ℕ → Call) (a b : Bool) (p : Pair) (turn : Turn) (shelf : Shelf) → p.asked ≡ a
-    → PairStep own (if a || b then two.Wait else pairs.on_next p turn shelf) (if a || b then p else pairs.on_after p turn shelf)
+    → PairMoves own (if a || b then two.Wait else pairs.on_next p turn shelf) (if a || b then p else pairs.on_after p turn shelf)
 pair-if own true b p turn shelf is = tt
 pair-if own false true p turn shelf is = tt
 pair-if own false false p turn shelf is = led-first own (walking.go_next p.first turn shelf) (pairs.walked_first p turn shelf) turn (walking.go_shelf p.first turn shelf) is (go-step p.first turn shelf)
 
-pub pair-step : (own : List ℕ → List ℕ → Call) (p : Pair) (turn : Turn) (shelf : Shelf) → PairStep own (pairs.pair_next p turn shelf) (pairs.pair_after p turn shelf)
+pub pair-step : (own : List ℕ → List ℕ → Call) (p : Pair) (turn : Turn) (shelf : Shelf) → PairMoves own (pairs.pair_next p turn shelf) (pairs.pair_after p turn shelf)
 pair-step own p turn shelf = pair-if own p.asked p.second.asked p turn shelf refl
 
-pub pair-took-step : (own : List ℕ → List ℕ → Call) (b : Bool) (p : Pair) (sent turn : Turn) (came : Result Reply Fault) (old : Shelf) (next : PairNext) (new : Pair) (after : Shelf)
-    → p.asked ≡ false → p.first.asked ≡ b → pairs.PairTakes b p sent turn came old next new after → PairStep own next new
+pub pair-took-step : (own : List ℕ → List ℕ → Call) (b : Bool) (p : Pair) (sent turn : Turn) (came : Result Reply Fault) (old : Shelf) (next : PairStep) (new : Pair) (after : Shelf)
+    → p.asked ≡ false → p.first.asked ≡ b → pairs.PairTakes b p sent turn came old next new after → PairMoves own next new
 pair-took-step own true p sent turn came old next new after idle is t =
     let still : t.walked.asked ≡ false = ap (λ (w : Pair). w.asked) t.walked_is ∙ idle in
-    subst (λ (n : PairNext). PairStep own n new) (sym t.next_is)
-    (subst (λ (w : Pair). PairStep own (pairs.led_first t.step t.walked turn t.heard) w) (sym t.pair_is)
+    subst (λ (n : PairStep). PairMoves own n new) (sym t.next_is)
+    (subst (λ (w : Pair). PairMoves own (pairs.led_first t.step t.walked turn t.heard) w) (sym t.pair_is)
     (led-first own t.step t.walked turn t.heard still (took-step p.first sent turn came old t.step t.walked.first t.heard t.takes)))
 pair-took-step own false p sent turn came old next new after idle is t =
     let still : t.walked.asked ≡ false = ap (λ (w : Pair). w.asked) t.walked_is ∙ idle in
     let done : t.walked.first.asked ≡ false = ap (λ (w : Pair). w.first.asked) t.walked_is ∙ is in
     let at : p.first.spot.dir ≡ t.walked.first.spot.dir = sym (ap (λ (w : Pair). w.first.spot.dir) t.walked_is) in
-    subst (λ (n : PairNext). PairStep own n new) (sym t.next_is)
-    (subst (λ (w : Pair). PairStep own (pairs.led_second p.first.spot.dir t.step turn.room) w) (sym t.pair_is)
+    subst (λ (n : PairStep). PairMoves own n new) (sym t.next_is)
+    (subst (λ (w : Pair). PairMoves own (pairs.led_second p.first.spot.dir t.step turn.room) w) (sym t.pair_is)
     (led-second own p.first.spot.dir t.step turn.room t.walked still done at (took-step p.second sent turn came old t.step t.walked.second after t.takes)))
 
 pub one-pair : (p : Pair) → of_pair p ≤ 1
@@ -257,6 +257,6 @@ pair-rests p turn shelf = by p.asked p.second.asked refl refl (walk-rests p.firs
         inl (ap (λ (c : Bool). count c p.second.asked) is ∙ ap (λ (c : Bool). count false c) at ∙ one p.first.asked none refl (unasked p.second at))
     by false false is at (inr w) = inr (
         ap (λ (c : Bool). to c p.second.asked) is ∙ ap (λ (c : Bool). to false c) at
-        ∙ ap (λ (n : WalkNext). pairs.first_kept n (pairs.walked_first p turn shelf) turn (walking.go_shelf p.first turn shelf)) w.0
+        ∙ ap (λ (n : WalkStep). pairs.first_kept n (pairs.walked_first p turn shelf) turn (walking.go_shelf p.first turn shelf)) w.0
         ∙ ap (λ (k : Walk). record p { first = k }) w.1
         )

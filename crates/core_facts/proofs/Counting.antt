@@ -1,5 +1,5 @@
 -- As many calls wait as the operations know of.
-use Rattle.core_facts.proofs.Prelude.{◌≡◌, ◌≤◌, ◌+◌, ◌-◌, inl, inr, ℕ, zero, suc, List, [], ◌∷◌, ◌++◌, length, remove, Bool, true, false, cond, nat_eq, Option, Some, None, MatchOption, position, slice_get, slice_set, Err, refl, sym, ap, subst, ◌∙◌, arith, eq-eqb, ne_eqb, Waiting, failed_after, Held, next_xid, made_call, waiting_at, without, Answer, Entry, Began, Answered, Dialed, Sent, Executed, Foreign, Flushed, Reboot, Delivered, Failed, Clock, Op, proc_of, said_of, Next, Send, Wait, Done, Shelf, Machine, Lane, Purpose, State, Busy, Over, Setup, IsFresh, is_busy, IsOther, numbers_of, IsBusyAt, with_state, record_of, IsRefused, Leads, Stirs, Moves, moves_none, moves_more, counted, StartsLane, BeginsIf, TakesAt, AnswersAt, View, turn_at, unmade_turn, in_flight, IsUnbegun, IsCounted, Counts, where_, calls_for, StepsTo, Reaches, begins, goes, loses, last_reading}
+use Rattle.core_facts.proofs.Prelude.{◌≡◌, ◌≤◌, ◌+◌, ◌-◌, inl, inr, ℕ, zero, suc, List, [], ◌∷◌, ◌++◌, length, remove, Bool, true, false, cond, nat_eq, Option, Some, None, MatchOption, position, slice_get, slice_set, Err, refl, sym, ap, subst, ◌∙◌, arith, eq-eqb, ne_eqb, Waiting, failed_after, Held, next_xid, made_call, waiting_at, without, Answer, Entry, Began, Answered, Dialed, Sent, Executed, Foreign, Flushed, Reboot, Delivered, Failed, Clock, Op, proc_of, said_of, Step, Send, Wait, Done, Shelf, Machine, Lane, Purpose, State, Busy, Over, Setup, IsFresh, is_busy, IsOther, numbers_of, IsBusyAt, with_state, record_of, IsRefused, Leads, Stirs, Moves, moves_none, moves_more, counted, StartsLane, BeginsIf, TakesAt, AnswersAt, View, turn_at, unmade_turn, in_flight, IsUnbegun, IsCounted, Counts, where_, calls_for, StepsTo, Reaches, begins, goes, loses, last_reading}
 use Rattle.rpc_retry.specs.Waiting.{sent, sent_call, failed}
 use Rattle.core_facts.specs.Counted.{known_in, known_by, AreCounted}
 use Rattle.std.proofs.lemmas.Option.{get_or_from_slice_get, slice_get_within}
@@ -159,7 +159,7 @@ owes-all : (v : View) (at number before : ℕ) (machine : Machine) → Owes v at
 owes-all v at number before machine o right =
     subst AllCounted (set-same v.lanes at (record { number = number; state = Busy machine }) o.there) (o.rest (Busy machine) right)
 
-leads-count : (v new : View) (at number before : ℕ) (machine : Machine) (next : Next) → Owes v at number before machine → Counts next before machine → Leads v at number machine next new → IsKnown new
+leads-count : (v new : View) (at number before : ℕ) (machine : Machine) (next : Step) → Owes v at number before machine → Counts next before machine → Leads v at number machine next new → IsKnown new
 leads-count v new at number before machine (Send call) o c (inl m) =
     let row : ℕ × Waiting Purpose = (next_xid v.calls, made_call (record_of v call m.args) (record { lane = number; proc = proc_of call; sent = turn_at v })) in
     subst IsKnown (sym m.is) (record {
@@ -171,7 +171,7 @@ leads-count v new at number before machine (Send call) o c (inl m) =
 leads-count v new at number before machine (Send call) o c (inr r) =
     subst IsKnown (sym r.is) (by r.next r.state (counts-calls.take v.wsize machine (turn_at v) (unmade_turn v) (Err r.fault) v.shelf r.next r.after r.left before r.takes c.1 c.0) r.leads)
   where
-    by : (next : Next) (state : State) → Counts next before r.after → IsRefused r.after next state → IsKnown (with_state v at number state r.left)
+    by : (next : Step) (state : State) → Counts next before r.after → IsRefused r.after next state → IsKnown (with_state v at number state r.left)
     by (Send call) state counts is = absurd is
     by Wait state counts is = ends-with v at number before machine state r.left o (ap known_in is ∙ counts.0) (subst StateCounted (sym is) counts.1)
     by (Done answer) state counts is = ends-with v at number before machine state r.left o (ap known_in is ∙ sym counts) (subst StateCounted (sym is) tt)
@@ -231,7 +231,7 @@ abbrev pub IfFound : View → Type 0
 IfFound v = v.lost ≡ false → IsKnown v
 
 -- a lost session stays so
-leads-lost : (v new : View) (at number : ℕ) (machine : Machine) (next : Next) → Leads v at number machine next new → new.lost ≡ v.lost
+leads-lost : (v new : View) (at number : ℕ) (machine : Machine) (next : Step) → Leads v at number machine next new → new.lost ≡ v.lost
 leads-lost v new at number machine (Send call) (inl m) = ap (λ (w : View). w.lost) m.is
 leads-lost v new at number machine (Send call) (inr r) = ap (λ (w : View). w.lost) r.is
 leads-lost v new at number machine Wait is = ap (λ (w : View). w.lost) is

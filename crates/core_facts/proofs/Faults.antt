@@ -1,11 +1,11 @@
 -- What holds of the faults that operations give: of a fault, of what gave it, of an answer, and of a step.
-use Rattle.core_facts.proofs.Prelude.{◌≡◌, ℕ, Bool, true, false, Option, Some, None, Result, Ok, Err, sym, subst, if◌then◌else◌, Answer, Fault, Call, Reply, Next}
+use Rattle.core_facts.proofs.Prelude.{◌≡◌, ℕ, Bool, true, false, Option, Some, None, Result, Ok, Err, sym, subst, if◌then◌else◌, Answer, Fault, Call, Reply, Step}
 use Rattle.nfs_dir_calls.specs.declared.keeping.DirKept.TheVariants as found
 use Rattle.nfs_file_calls.specs.declared.owned.FileKept.TheVariants as kept
 use Rattle.world_model.specs.declared.answer.Answer.TheVariants as answers
 use Rattle.world_model.specs.declared.answer.Fault.TheVariants as faults
 use Rattle.world_model.specs.declared.message.Reply.TheVariants as replies
-use Rattle.client_shelf.specs.declared.next.Next.TheVariants as nexts
+use Rattle.client_shelf.specs.declared.step.Step.TheVariants as nexts
 
 -- that the link is lost is none of them
 abbrev pub NotLost : Fault → Type 0
@@ -78,12 +78,12 @@ module _ (P : Fault → Type 0) where
   FineAnswer (answers.Done value) = Unit {0}
   FineAnswer (answers.Refused fault) = P fault
 
-  abbrev pub FineNext : Next → Type 0
+  abbrev pub FineNext : Step → Type 0
   FineNext (nexts.Send call) = Unit {0}
   FineNext nexts.Wait = Unit {0}
   FineNext (nexts.Done answer) = FineAnswer answer
 
-  pub fine-as : (to next : Next) → next ≡ to → FineNext to → FineNext next
+  pub fine-as : (to next : Step) → next ≡ to → FineNext to → FineNext next
   fine-as to next is f = subst FineNext (sym is) f
 
   -- the fault is this one
@@ -94,7 +94,7 @@ module _ (P : Fault → Type 0) where
   fine-some fault o is f = subst FineOption (sym is) f
 
   -- the call is made again, or the answer is there
-  pub again-fine : (again : Bool) (call : Call) (answer : Answer) (next : Next) → next ≡ (if again then nexts.Send call else nexts.Done answer) → FineAnswer answer → FineNext next
+  pub again-fine : (again : Bool) (call : Call) (answer : Answer) (next : Step) → next ≡ (if again then nexts.Send call else nexts.Done answer) → FineAnswer answer → FineNext next
   again-fine true call answer next is f = fine-as (nexts.Send call) next is tt
   again-fine false call answer next is f = fine-as (nexts.Done answer) next is f
 

@@ -1,13 +1,13 @@
 -- Where the operation of a lane has a place in the order of a file, as its machine says; and that it never waits for nothing.
-use Rattle.core_facts.proofs.Prelude.{◌≡◌, ◌+◌, ◌-◌, ℕ, Bool, true, false, List, Option, Some, None, Result, Ok, Err, inl, inr, refl, sym, ap, subst, ◌∙◌, arith, if◌then◌else◌, Pages, Pending, of_file, last_end, Answer, Fault, Call, Reply, goes_again, left, is_first, LaneFile, Next, Repeat, Shelf, Turn, CloseFile, Closing, Removal, OpeningNext, PutFile, Putting, ReadFile, Reading, Saving, SyncFile, Syncing, TruncateFile, Truncating, WriteFile, Writing, closed_answer, refusal_of, remove_of, file_to_write, file_at, joined, by-step, ends_as, FileMachine, of_saving, of_writing, of_syncing, of_closing, of_truncating, of_putting}
+use Rattle.core_facts.proofs.Prelude.{◌≡◌, ◌+◌, ◌-◌, ℕ, Bool, true, false, List, Option, Some, None, Result, Ok, Err, inl, inr, refl, sym, ap, subst, ◌∙◌, arith, if◌then◌else◌, Pages, Pending, of_file, last_end, Answer, Fault, Call, Reply, goes_again, left, is_first, LaneFile, Step, Repeat, Shelf, Turn, CloseFile, Closing, Removal, OpeningStep, PutFile, Putting, ReadFile, Reading, Saving, SyncFile, Syncing, TruncateFile, Truncating, WriteFile, Writing, closed_answer, refusal_of, remove_of, file_to_write, file_at, joined, by-step, ends_as, FileMachine, of_saving, of_writing, of_syncing, of_closing, of_truncating, of_putting}
 use Rattle.client_shelf.specs.LaneFiles.{added}
 use Rattle.file_ops.specs.Closings.{remove_busy}
 use Rattle.world_model.specs.declared.answer.Answer.TheVariants as answers
 use Rattle.world_model.specs.declared.answer.Fault.TheVariants as faults
 use Rattle.world_model.specs.declared.answer.Value.TheVariants as values
-use Rattle.client_shelf.specs.declared.next.Next.TheVariants as nexts
+use Rattle.client_shelf.specs.declared.step.Step.TheVariants as nexts
 use Rattle.file_ops.specs.declared.close_file.Closing.TheVariants as closing
-use Rattle.file_ops.specs.declared.opening.OpeningNext.TheVariants as openings
+use Rattle.file_ops.specs.declared.opening.OpeningStep.TheVariants as openings
 use Rattle.file_ops.specs.declared.put_file.Putting.TheVariants as putting
 use Rattle.file_ops.specs.declared.sync_file.Syncing.TheVariants as syncing
 use Rattle.file_ops.specs.declared.truncate_file.Truncating.TheVariants as truncating
@@ -134,27 +134,27 @@ takes-file wsize sent turn came repeats s back next new after later others one t
 module _ (lane : ℕ) (P : Option (List ℕ) → List LaneFile → Type 0) (leaves : (seat : Option (List ℕ)) (order : List LaneFile) → P seat order → P None (left lane order))
     (joins : (seat : Option (List ℕ)) (file : List ℕ) (order : List LaneFile) → P seat order → P (Some file) (added (record { lane = lane; file = file }) (left lane order))) where
   -- as long as it goes on it is at work, and P holds of its place
-  abbrev pub Seats : Next → Type 0 → Option (List ℕ) → List LaneFile → Type 0
+  abbrev pub Seats : Step → Type 0 → Option (List ℕ) → List LaneFile → Type 0
   Seats (nexts.Send call) Live seat order = Live × P seat order
   Seats nexts.Wait Live seat order = Live × P seat order
   Seats (nexts.Done answer) Live seat order = P None order
 
   -- ---- a step that leads to a state
 
-  pub to-send : {S : Type 0} → (Live : S → Type 0) (seat : S → Option (List ℕ)) (call : Call) (to : S) (next : Next) (new : S) (old order : List LaneFile)
+  pub to-send : {S : Type 0} → (Live : S → Type 0) (seat : S → Option (List ℕ)) (call : Call) (to : S) (next : Step) (new : S) (old order : List LaneFile)
       → next ≡ nexts.Send call → new ≡ to → order ≡ old → Live to → P (seat to) old → Seats next (Live new) (seat new) order
   to-send Live seat call to next new old order n s o live p = rw (n, s, o) (live, p)
 
-  pub to-wait : {S : Type 0} → (Live : S → Type 0) (seat : S → Option (List ℕ)) (to : S) (next : Next) (new : S) (old order : List LaneFile)
+  pub to-wait : {S : Type 0} → (Live : S → Type 0) (seat : S → Option (List ℕ)) (to : S) (next : Step) (new : S) (old order : List LaneFile)
       → next ≡ nexts.Wait → new ≡ to → order ≡ old → Live to → P (seat to) old → Seats next (Live new) (seat new) order
   to-wait Live seat to next new old order n s o live p = rw (n, s, o) (live, p)
 
-  pub to-done : (answer : Answer) (next : Next) (Live : Type 0) (seat : Option (List ℕ)) (old order : List LaneFile) → next ≡ nexts.Done answer → order ≡ old → P None old
+  pub to-done : (answer : Answer) (next : Step) (Live : Type 0) (seat : Option (List ℕ)) (old order : List LaneFile) → next ≡ nexts.Done answer → order ≡ old → P None old
       → Seats next Live seat order
   to-done answer next Live seat old order n o p = rw (n, o) p
 
   -- where it has no place, whatever comes
-  pub to-any : (next : Next) (Live : Type 0) (seat : Option (List ℕ)) (old order : List LaneFile) → seat ≡ None → order ≡ old → Live → P None old → Seats next Live seat order
+  pub to-any : (next : Step) (Live : Type 0) (seat : Option (List ℕ)) (old order : List LaneFile) → seat ≡ None → order ≡ old → Live → P None old → Seats next Live seat order
   to-any (nexts.Send call) Live seat old order s o live p = (live, rw (s, o) p)
   to-any nexts.Wait Live seat old order s o live p = (live, rw (s, o) p)
   to-any (nexts.Done answer) Live seat old order s o live p = rw o p
@@ -164,7 +164,7 @@ module _ (lane : ℕ) (P : Option (List ℕ) → List LaneFile → Type 0) (leav
 
   -- ---- syncs
 
-  sync-as : (gives : _) (saved : Saving) (next : Next) (state : Syncing) (old order : List LaneFile) → next ≡ syncs.sync_next gives → state ≡ syncs.sync_state gives saved
+  sync-as : (gives : _) (saved : Saving) (next : Step) (state : Syncing) (old order : List LaneFile) → next ≡ syncs.sync_next gives → state ≡ syncs.sync_state gives saved
       → order ≡ syncs.sync_order gives lane old → SaveGoing (syncs.sync_next gives) saved → P (Some saved.file) old → Seats next (SyncLive state) (seat_sync state) order
   sync-as gives saved next state old order n s o live p = by-step
       (λ g. next ≡ syncs.sync_next g → state ≡ syncs.sync_state g saved → order ≡ syncs.sync_order g lane old → SaveGoing (syncs.sync_next g) saved
@@ -173,7 +173,7 @@ module _ (lane : ℕ) (P : Option (List ℕ) → List LaneFile → Type 0) (leav
       (λ n s o live. to-wait SyncLive seat_sync (syncing.Saves saved) next state old order n s o live p)
       (λ result n s o live. to-done (syncs.answer_of result) next (SyncLive state) (seat_sync state) (left lane old) order n o (leaves (Some saved.file) old p)) gives n s o live
 
-  sync-queues : (b : Bool) (wsize : ℕ) (turn : Turn) (saving : Saving) (old : Shelf) (next : Next) (state : Syncing) (new : Shelf) → SaveLive saving
+  sync-queues : (b : Bool) (wsize : ℕ) (turn : Turn) (saving : Saving) (old : Shelf) (next : Step) (state : Syncing) (new : Shelf) → SaveLive saving
       → P (Some saving.file) old.order → syncs.QueuesIf b wsize lane turn saving old next state new → Seats next (SyncLive state) (seat_sync state) new.order
   sync-queues true wsize turn saving old next state new live p q =
       sync-as q.gives q.saved next state old.order new.order q.follows.next_is q.follows.state_is q.follows.order_is
@@ -182,7 +182,7 @@ module _ (lane : ℕ) (P : Option (List ℕ) → List LaneFile → Type 0) (leav
   sync-queues false wsize turn saving old next state new live p q =
       to-wait SyncLive seat_sync (syncing.Saves saving) next state old.order new.order q.next_is q.state_is (same-order old new q.shelf_is) live p
 
-  sync-starts : (found : Option (List ℕ)) (wsize : ℕ) (m : SyncFile) (turn : Turn) (old : Shelf) (next : Next) (state : Syncing) (new : Shelf) → m.lane ≡ lane
+  sync-starts : (found : Option (List ℕ)) (wsize : ℕ) (m : SyncFile) (turn : Turn) (old : Shelf) (next : Step) (state : Syncing) (new : Shelf) → m.lane ≡ lane
       → P None old.order → syncs.StartsAt found wsize m turn old next state new → Seats next (SyncLive state) (seat_sync state) new.order
   sync-starts None wsize m turn old next state new own p s =
       to-done (answers.Refused faults.Slot) next (SyncLive state) (seat_sync state) old.order new.order s.next_is (same-order old new s.shelf_is) p
@@ -191,14 +191,14 @@ module _ (lane : ℕ) (P : Option (List ℕ) → List LaneFile → Type 0) (leav
       (joins None file old.order p)
       (subst (λ (n : ℕ). syncs.QueuesIf (is_first n (joined n file old).order) wsize n turn (saves.begun file old.seq) (joined n file old) next state new) own s)
 
-  sync-resumes : (at : Syncing) (wsize : ℕ) (m : SyncFile) (turn : Turn) (old : Shelf) (next : Next) (state : Syncing) (new : Shelf) → m.lane ≡ lane → SyncLive at
+  sync-resumes : (at : Syncing) (wsize : ℕ) (m : SyncFile) (turn : Turn) (old : Shelf) (next : Step) (state : Syncing) (new : Shelf) → m.lane ≡ lane → SyncLive at
       → P (seat_sync at) old.order → syncs.Resumes at wsize m turn old next state new → Seats next (SyncLive state) (seat_sync state) new.order
   sync-resumes syncing.Idle wsize m turn old next state new own live p r = absurd live
   sync-resumes (syncing.Saves saving) wsize m turn old next state new own live p r =
       sync-queues (is_first lane old.order) wsize turn saving old next state new live p
       (subst (λ (n : ℕ). syncs.QueuesIf (is_first n old.order) wsize n turn saving old next state new) own r)
 
-  sync-takes : (at : Syncing) (wsize : ℕ) (m : SyncFile) (sent turn : Turn) (came : Result Reply Fault) (old : Shelf) (next : Next) (state : Syncing) (new : Shelf) (others : ℕ)
+  sync-takes : (at : Syncing) (wsize : ℕ) (m : SyncFile) (sent turn : Turn) (came : Result Reply Fault) (old : Shelf) (next : Step) (state : Syncing) (new : Shelf) (others : ℕ)
       → m.lane ≡ lane → SyncLive at → of_syncing at ≡ others + 1 → P (seat_sync at) old.order → syncs.Takes at wsize m sent turn came old next state new
       → Seats next (SyncLive state) (seat_sync state) new.order
   sync-takes syncing.Idle wsize m sent turn came old next state new others own live one p t = absurd live
@@ -211,37 +211,37 @@ module _ (lane : ℕ) (P : Option (List ℕ) → List LaneFile → Type 0) (leav
 
   -- ---- closes
 
-  close-ends : (file : List ℕ) (refusal : Option Fault) (old : Shelf) (next : Next) (state : Closing) (new : Shelf) → P (Some file) old.order
+  close-ends : (file : List ℕ) (refusal : Option Fault) (old : Shelf) (next : Step) (state : Closing) (new : Shelf) → P (Some file) old.order
       → closes.Ends lane file refusal old next state new → Seats next (CloseLive state) (seat_close state) new.order
   close-ends file refusal old next state new p e =
       to-done (closed_answer refusal) next (CloseLive state) (seat_close state) (left lane old.order) new.order e.next_is (ap (λ (s : Shelf). s.order) e.others)
       (leaves (Some file) old.order p)
 
-  close-asks : (room : Bool) (removal : Removal) (old : Shelf) (next : Next) (state : Closing) (new : Shelf) → P (Some removal.file) old.order
+  close-asks : (room : Bool) (removal : Removal) (old : Shelf) (next : Step) (state : Closing) (new : Shelf) → P (Some removal.file) old.order
       → closes.Asks room removal old next state new → Seats next (CloseLive state) (seat_close state) new.order
   close-asks true removal old next state new p a =
       to-send CloseLive seat_close (remove_of removal) (closing.Removing removal) next state old.order new.order a.next_is a.state_is (same-order old new a.shelf_is) tt p
   close-asks false removal old next state new p a =
       to-wait CloseLive seat_close (closing.ToRemove removal) next state old.order new.order a.next_is a.state_is (same-order old new a.shelf_is) tt p
 
-  close-ends-at : (place : Option (List ℕ × List ℕ)) (room : Bool) (file : List ℕ) (refusal : Option Fault) (old : Shelf) (next : Next) (state : Closing) (new : Shelf)
+  close-ends-at : (place : Option (List ℕ × List ℕ)) (room : Bool) (file : List ℕ) (refusal : Option Fault) (old : Shelf) (next : Step) (state : Closing) (new : Shelf)
       → P (Some file) old.order → closes.EndsAt place lane room file refusal old next state new → Seats next (CloseLive state) (seat_close state) new.order
   close-ends-at None room file refusal old next state new p e = close-ends file refusal old next state new p e
   close-ends-at (Some place) room file refusal old next state new p e =
       close-asks room (record { file = file; dir = place.0; name = place.1; refusal = refusal }) old next state new p e
 
-  close-frees : (slot : ℕ) (room : Bool) (file : List ℕ) (refusal : Option Fault) (old : Shelf) (next : Next) (state : Closing) (new : Shelf) → P (Some file) old.order
+  close-frees : (slot : ℕ) (room : Bool) (file : List ℕ) (refusal : Option Fault) (old : Shelf) (next : Step) (state : Closing) (new : Shelf) → P (Some file) old.order
       → closes.Frees lane slot room file refusal old next state new → Seats next (CloseLive state) (seat_close state) new.order
   close-frees slot room file refusal old next state new p f =
       close-ends-at f.place room file refusal f.freed next state new
       (subst (λ (order : List LaneFile). P (Some file) order) (sym (ap (λ (s : Shelf). s.order) f.slot_is)) p) f.ends
 
-  close-waits : (begun : Bool) (saving : Saving) (next : Next) (state : Closing) (old order : List LaneFile) → next ≡ nexts.Wait → state ≡ closes.waits_as begun saving
+  close-waits : (begun : Bool) (saving : Saving) (next : Step) (state : Closing) (old order : List LaneFile) → next ≡ nexts.Wait → state ≡ closes.waits_as begun saving
       → order ≡ old → SaveLive saving → P (Some saving.file) old → Seats next (CloseLive state) (seat_close state) order
   close-waits true saving next state old order n s o live p = to-wait CloseLive seat_close (closing.Saves saving) next state old order n s o live p
   close-waits false saving next state old order n s o live p = to-wait CloseLive seat_close (closing.Queued saving) next state old order n s o live p
 
-  close-follows : (gives : _) (slot : ℕ) (room begun : Bool) (saving : Saving) (old : Shelf) (next : Next) (state : Closing) (new : Shelf)
+  close-follows : (gives : _) (slot : ℕ) (room begun : Bool) (saving : Saving) (old : Shelf) (next : Step) (state : Closing) (new : Shelf)
       → SaveGoing (syncs.sync_next gives) saving → P (Some saving.file) old.order → closes.Follows gives lane slot room begun saving old next state new
       → Seats next (CloseLive state) (seat_close state) new.order
   close-follows gives slot room begun saving old next state new live p f = by-step
@@ -250,7 +250,7 @@ module _ (lane : ℕ) (P : Option (List ℕ) → List LaneFile → Type 0) (leav
       (λ live f. close-waits begun saving next state old.order new.order f.0 f.1 (same-order old new f.2) live p)
       (λ result live f. close-frees slot room saving.file (refusal_of result) old next state new p f) gives live f
 
-  close-on : (wsize slot : ℕ) (turn : Turn) (begun : Bool) (saving : Saving) (old : Shelf) (next : Next) (state : Closing) (new : Shelf) → SaveLive saving
+  close-on : (wsize slot : ℕ) (turn : Turn) (begun : Bool) (saving : Saving) (old : Shelf) (next : Step) (state : Closing) (new : Shelf) → SaveLive saving
       → P (Some saving.file) old.order → closes.GoesOn wsize lane slot turn begun saving old next state new → Seats next (CloseLive state) (seat_close state) new.order
   close-on wsize slot turn begun saving old next state new live p g =
       close-follows g.gives slot turn.room begun g.saved g.gone next state new
@@ -258,25 +258,25 @@ module _ (lane : ℕ) (P : Option (List ℕ) → List LaneFile → Type 0) (leav
       (subst (λ (order : List LaneFile). P (Some g.saved.file) order) (sym (ap (λ (s : Shelf). s.order) g.others))
       (subst (λ (f : List ℕ). P (Some f) old.order) (sym (goes-file wsize turn.xid turn.room false saving old.back g.gives g.saved g.gone.back g.goes)) p)) g.follows
 
-  close-begins : (end : Option ℕ) (wsize slot : ℕ) (turn : Turn) (saving : Saving) (old : Shelf) (next : Next) (state : Closing) (new : Shelf) → SaveLive saving
+  close-begins : (end : Option ℕ) (wsize slot : ℕ) (turn : Turn) (saving : Saving) (old : Shelf) (next : Step) (state : Closing) (new : Shelf) → SaveLive saving
       → P (Some saving.file) old.order → closes.Begins end wsize lane slot turn saving old next state new → Seats next (CloseLive state) (seat_close state) new.order
   close-begins None wsize slot turn saving old next state new live p b = close-frees slot turn.room saving.file None old next state new p b
   close-begins (Some end) wsize slot turn saving old next state new live p b = close-on wsize slot turn false saving old next state new live p b
 
-  close-queues : (b : Bool) (wsize slot : ℕ) (turn : Turn) (saving : Saving) (old : Shelf) (next : Next) (state : Closing) (new : Shelf) → SaveLive saving
+  close-queues : (b : Bool) (wsize slot : ℕ) (turn : Turn) (saving : Saving) (old : Shelf) (next : Step) (state : Closing) (new : Shelf) → SaveLive saving
       → P (Some saving.file) old.order → closes.QueuesIf b wsize lane slot turn saving old next state new → Seats next (CloseLive state) (seat_close state) new.order
   close-queues true wsize slot turn saving old next state new live p q =
       close-begins (last_end (of_file saving.file old.back).segments) wsize slot turn saving old next state new live p q
   close-queues false wsize slot turn saving old next state new live p q =
       to-wait CloseLive seat_close (closing.Queued saving) next state old.order new.order q.next_is q.state_is (same-order old new q.shelf_is) live p
 
-  close-on-if : (b : Bool) (wsize slot : ℕ) (turn : Turn) (saving : Saving) (old : Shelf) (next : Next) (state : Closing) (new : Shelf) → SaveLive saving
+  close-on-if : (b : Bool) (wsize slot : ℕ) (turn : Turn) (saving : Saving) (old : Shelf) (next : Step) (state : Closing) (new : Shelf) → SaveLive saving
       → P (Some saving.file) old.order → closes.GoesOnIf b wsize lane slot turn saving old next state new → Seats next (CloseLive state) (seat_close state) new.order
   close-on-if true wsize slot turn saving old next state new live p g = close-on wsize slot turn true saving old next state new live p g
   close-on-if false wsize slot turn saving old next state new live p g =
       to-wait CloseLive seat_close (closing.Saves saving) next state old.order new.order g.next_is g.state_is (same-order old new g.shelf_is) live p
 
-  close-starts : (found : Option (List ℕ)) (wsize : ℕ) (m : CloseFile) (turn : Turn) (old : Shelf) (next : Next) (state : Closing) (new : Shelf) → m.lane ≡ lane
+  close-starts : (found : Option (List ℕ)) (wsize : ℕ) (m : CloseFile) (turn : Turn) (old : Shelf) (next : Step) (state : Closing) (new : Shelf) → m.lane ≡ lane
       → P None old.order → closes.StartsAt found wsize m turn old next state new → Seats next (CloseLive state) (seat_close state) new.order
   close-starts None wsize m turn old next state new own p s =
       to-done (answers.Refused faults.Slot) next (CloseLive state) (seat_close state) old.order new.order s.next_is (same-order old new s.shelf_is) p
@@ -285,7 +285,7 @@ module _ (lane : ℕ) (P : Option (List ℕ) → List LaneFile → Type 0) (leav
       (begun-live file old.seq) (joins None file old.order p)
       (subst (λ (n : ℕ). closes.QueuesIf (is_first n (joined n file old).order) wsize n m.slot turn (saves.begun file old.seq) (joined n file old) next state new) own s)
 
-  close-resumes : (at : Closing) (wsize : ℕ) (m : CloseFile) (turn : Turn) (old : Shelf) (next : Next) (state : Closing) (new : Shelf) → m.lane ≡ lane → CloseLive at
+  close-resumes : (at : Closing) (wsize : ℕ) (m : CloseFile) (turn : Turn) (old : Shelf) (next : Step) (state : Closing) (new : Shelf) → m.lane ≡ lane → CloseLive at
       → P (seat_close at) old.order → closes.Resumes at wsize m turn old next state new → Seats next (CloseLive state) (seat_close state) new.order
   close-resumes closing.Idle wsize m turn old next state new own live p r = absurd live
   close-resumes (closing.Queued saving) wsize m turn old next state new own live p r =
@@ -298,13 +298,13 @@ module _ (lane : ℕ) (P : Option (List ℕ) → List LaneFile → Type 0) (leav
   close-resumes (closing.Removing removal) wsize m turn old next state new own live p r =
       to-wait CloseLive seat_close (closing.Removing removal) next state old.order new.order r.next_is r.state_is (same-order old new r.shelf_is) tt p
 
-  close-removed : (again : Bool) (removal : Removal) (old : Shelf) (next : Next) (state : Closing) (new : Shelf) → P (Some removal.file) old.order
+  close-removed : (again : Bool) (removal : Removal) (old : Shelf) (next : Step) (state : Closing) (new : Shelf) → P (Some removal.file) old.order
       → closes.EndsIf again lane removal old next state new → Seats next (CloseLive state) (seat_close state) new.order
   close-removed true removal old next state new p e =
       to-send CloseLive seat_close (remove_of removal) (closing.Removing removal) next state old.order new.order e.next_is e.state_is (same-order old new e.shelf_is) tt p
   close-removed false removal old next state new p e = close-ends removal.file removal.refusal old next state new p e
 
-  close-takes : (at : Closing) (wsize : ℕ) (m : CloseFile) (sent turn : Turn) (came : Result Reply Fault) (old : Shelf) (next : Next) (state : Closing) (new : Shelf)
+  close-takes : (at : Closing) (wsize : ℕ) (m : CloseFile) (sent turn : Turn) (came : Result Reply Fault) (old : Shelf) (next : Step) (state : Closing) (new : Shelf)
       (others : ℕ) → m.lane ≡ lane → CloseLive at → of_closing at ≡ others + 1 → P (seat_close at) old.order → closes.Takes at wsize m sent turn came old next state new
       → Seats next (CloseLive state) (seat_close state) new.order
   close-takes closing.Idle wsize m sent turn came old next state new others own live one p t = absurd live
@@ -324,13 +324,13 @@ module _ (lane : ℕ) (P : Option (List ℕ) → List LaneFile → Type 0) (leav
 
   -- ---- truncates
 
-  truncate-queued : (b : Bool) (call : Call) (file : List ℕ) (upto : ℕ) (next : Next) (state : Truncating) (old order : List LaneFile)
+  truncate-queued : (b : Bool) (call : Call) (file : List ℕ) (upto : ℕ) (next : Step) (state : Truncating) (old order : List LaneFile)
       → next ≡ (if b then nexts.Send call else nexts.Wait) → state ≡ (if b then truncating.Asked file upto else truncating.Queued file upto) → order ≡ old → P (Some file) old
       → Seats next (TruncateLive state) (seat_truncate state) order
   truncate-queued true call file upto next state old order n s o p = to-send TruncateLive seat_truncate call (truncating.Asked file upto) next state old order n s o tt p
   truncate-queued false call file upto next state old order n s o p = to-wait TruncateLive seat_truncate (truncating.Queued file upto) next state old order n s o tt p
 
-  truncate-starts : (found : Result (List ℕ) Fault) (m : TruncateFile) (turn : Turn) (old : Shelf) (next : Next) (state : Truncating) (after : Shelf) → m.lane ≡ lane
+  truncate-starts : (found : Result (List ℕ) Fault) (m : TruncateFile) (turn : Turn) (old : Shelf) (next : Step) (state : Truncating) (after : Shelf) → m.lane ≡ lane
       → P None old.order → next ≡ truncates.begun_next found m turn old → state ≡ truncates.begun_state found m turn old → after ≡ truncates.begun_shelf found m old
       → Seats next (TruncateLive state) (seat_truncate state) after.order
   truncate-starts (Ok file) m turn old next state after own p n s a =
@@ -339,7 +339,7 @@ module _ (lane : ℕ) (P : Option (List ℕ) → List LaneFile → Type 0) (leav
   truncate-starts (Err fault) m turn old next state after own p n s a =
       to-done (answers.Refused fault) next (TruncateLive state) (seat_truncate state) old.order after.order n (same-order old after a) p
 
-  truncate-resumes : (at : Truncating) (m : TruncateFile) (turn : Turn) (old : Shelf) (next : Next) (state : Truncating) (after : Shelf) → TruncateLive at
+  truncate-resumes : (at : Truncating) (m : TruncateFile) (turn : Turn) (old : Shelf) (next : Step) (state : Truncating) (after : Shelf) → TruncateLive at
       → P (seat_truncate at) old.order → next ≡ truncates.resumed_next at m turn old → state ≡ truncates.resumed_state at m turn old → after ≡ old
       → Seats next (TruncateLive state) (seat_truncate state) after.order
   truncate-resumes truncating.Idle m turn old next state after live p n s a = absurd live
@@ -348,12 +348,12 @@ module _ (lane : ℕ) (P : Option (List ℕ) → List LaneFile → Type 0) (leav
   truncate-resumes (truncating.Asked file upto) m turn old next state after live p n s a =
       to-wait TruncateLive seat_truncate (truncating.Asked file upto) next state old.order after.order n s (same-order old after a) tt p
 
-  truncate-told : (told : Result _ Fault) (next : Next) (Live : Type 0) (seat : Option (List ℕ)) (old order : List LaneFile) → next ≡ truncates.told_next told → order ≡ old
+  truncate-told : (told : Result _ Fault) (next : Step) (Live : Type 0) (seat : Option (List ℕ)) (old order : List LaneFile) → next ≡ truncates.told_next told → order ≡ old
       → P None old → Seats next Live seat order
   truncate-told (Ok wcc) next Live seat old order n o p = to-done _ next Live seat old order n o p
   truncate-told (Err fault) next Live seat old order n o p = to-done _ next Live seat old order n o p
 
-  truncate-ended : (again : Bool) (m : TruncateFile) (file : List ℕ) (upto : ℕ) (came : Result Reply Fault) (old : List LaneFile) (next : Next) (state : Truncating)
+  truncate-ended : (again : Bool) (m : TruncateFile) (file : List ℕ) (upto : ℕ) (came : Result Reply Fault) (old : List LaneFile) (next : Step) (state : Truncating)
       (order : List LaneFile) → m.lane ≡ lane → P (Some file) old → next ≡ truncates.ended_next again m file came
       → state ≡ truncates.ended_state again (truncating.Asked file upto) → order ≡ truncates.ended_order again m.lane old
       → Seats next (TruncateLive state) (seat_truncate state) order
@@ -363,7 +363,7 @@ module _ (lane : ℕ) (P : Option (List ℕ) → List LaneFile → Type 0) (leav
       truncate-told (truncates.size_told came) next (TruncateLive state) (seat_truncate state) (left lane old) order n (o ∙ ap (λ (k : ℕ). left k old) own)
       (leaves (Some file) old p)
 
-  truncate-takes : (at : Truncating) (m : TruncateFile) (sent turn : Turn) (came : Result Reply Fault) (attrs : _) (back : Pending) (old : Shelf) (next : Next)
+  truncate-takes : (at : Truncating) (m : TruncateFile) (sent turn : Turn) (came : Result Reply Fault) (attrs : _) (back : Pending) (old : Shelf) (next : Step)
       (state : Truncating) (after : Shelf) (others : ℕ) → m.lane ≡ lane → TruncateLive at → of_truncating at ≡ others + 1 → P (seat_truncate at) old.order
       → next ≡ truncates.took_next at m came sent turn old.repeats → state ≡ truncates.took_state at came sent turn old.repeats
       → after ≡ truncates.took_shelf at m came sent turn attrs back old → Seats next (TruncateLive state) (seat_truncate state) after.order
@@ -374,17 +374,17 @@ module _ (lane : ℕ) (P : Option (List ℕ) → List LaneFile → Type 0) (leav
 
   -- ---- writes
 
-  write-to : (to : Next) (state : Writing) (shelf : Shelf) (next : Next) (new : Writing) (after : Shelf) → writes.Leads to state shelf next new after
+  write-to : (to : Step) (state : Writing) (shelf : Shelf) (next : Step) (new : Writing) (after : Shelf) → writes.Leads to state shelf next new after
       → Seats to (WriteLive state) (seat_write state) shelf.order → Seats next (WriteLive new) (seat_write new) after.order
   write-to to state shelf next new after l s = rw (l.gives_next, l.keeps, same-order shelf after l.shelf_is) s
 
-  write-refuses : (fault : Fault) (shelf : Shelf) (next : Next) (new : Writing) (after : Shelf) → P None shelf.order → writes.Refuses fault shelf next new after
+  write-refuses : (fault : Fault) (shelf : Shelf) (next : Step) (new : Writing) (after : Shelf) → P None shelf.order → writes.Refuses fault shelf next new after
       → Seats next (WriteLive new) (seat_write new) after.order
   write-refuses fault shelf next new after p l =
       to-done (answers.Refused fault) next (WriteLive new) (seat_write new) shelf.order after.order l.gives_next (same-order shelf after l.shelf_is) p
 
   -- a save for room, which is one of this file
-  room-as : (gives : _) (file : List ℕ) (saved : Saving) (shelf : Shelf) (next : Next) (new : Writing) (after : Shelf) → SaveLive saved → P (Some saved.file) shelf.order
+  room-as : (gives : _) (file : List ℕ) (saved : Saving) (shelf : Shelf) (next : Step) (new : Writing) (after : Shelf) → SaveLive saved → P (Some saved.file) shelf.order
       → writes.Leads (writes.room_next gives) (writes.room_state gives file saved) (writes.room_shelf gives lane shelf) next new after
       → Seats next (WriteLive new) (seat_write new) after.order
   room-as gives file saved shelf next new after live p l = by-step
@@ -402,7 +402,7 @@ module _ (lane : ℕ) (P : Option (List ℕ) → List LaneFile → Type 0) (leav
           to-done (answers.Refused fault) next (WriteLive new) (seat_write new) (left lane shelf.order) after.order l.gives_next (ap (λ (s : Shelf). s.order) l.shelf_is)
           (leaves (Some saved.file) shelf.order p)
 
-  write-saves : (b : Bool) (wsize : ℕ) (file : List ℕ) (saving : Saving) (turn : Turn) (shelf : Shelf) (next : Next) (new : Writing) (after : Shelf) → SaveLive saving
+  write-saves : (b : Bool) (wsize : ℕ) (file : List ℕ) (saving : Saving) (turn : Turn) (shelf : Shelf) (next : Step) (new : Writing) (after : Shelf) → SaveLive saving
       → P (Some saving.file) shelf.order → writes.SavesIf b wsize lane file saving turn shelf next new after → Seats next (WriteLive new) (seat_write new) after.order
   write-saves true wsize file saving turn shelf next new after live p s =
       room-as s.told file s.saved (record shelf { back = s.back }) next new after
@@ -411,7 +411,7 @@ module _ (lane : ℕ) (P : Option (List ℕ) → List LaneFile → Type 0) (leav
   write-saves false wsize file saving turn shelf next new after live p s =
       to-wait WriteLive seat_write (writing.Room file saving) next new shelf.order after.order s.gives_next s.keeps (same-order shelf after s.shelf_is) live p
 
-  write-if : (b : Bool) (wsize : ℕ) (file : List ℕ) (offset : ℕ) (bytes : List ℕ) (turn : Turn) (shelf : Shelf) (next : Next) (new : Writing) (after : Shelf)
+  write-if : (b : Bool) (wsize : ℕ) (file : List ℕ) (offset : ℕ) (bytes : List ℕ) (turn : Turn) (shelf : Shelf) (next : Step) (new : Writing) (after : Shelf)
       → P None shelf.order → writes.WritesIf b wsize lane file offset bytes turn shelf next new after → Seats next (WriteLive new) (seat_write new) after.order
   write-if true wsize file offset bytes turn shelf next new after p (inl s) =
       write-saves (is_first lane (joined lane s.of shelf).order) wsize file (saves.begun s.of shelf.seq) turn (joined lane s.of shelf) next new after
@@ -422,11 +422,11 @@ module _ (lane : ℕ) (P : Option (List ℕ) → List LaneFile → Type 0) (leav
   write-if false wsize file offset bytes turn shelf next new after p (inr s) = write-refuses faults.Memory shelf next new after p s
 
   -- the bytes become pending, or room is made for them
-  pub write-writes : (wsize : ℕ) (file : List ℕ) (offset : ℕ) (bytes : List ℕ) (turn : Turn) (shelf : Shelf) (next : Next) (new : Writing) (after : Shelf)
+  pub write-writes : (wsize : ℕ) (file : List ℕ) (offset : ℕ) (bytes : List ℕ) (turn : Turn) (shelf : Shelf) (next : Step) (new : Writing) (after : Shelf)
       → P None shelf.order → writes.Writes wsize lane file offset bytes turn shelf next new after → Seats next (WriteLive new) (seat_write new) after.order
   write-writes wsize file offset bytes turn shelf next new after p w = write-if _ wsize file offset bytes turn shelf next new after p w
 
-  write-starts : (found : Result (List ℕ) Fault) (wsize : ℕ) (m : WriteFile) (turn : Turn) (shelf : Shelf) (next : Next) (new : WriteFile) (after : Shelf) → m.lane ≡ lane
+  write-starts : (found : Result (List ℕ) Fault) (wsize : ℕ) (m : WriteFile) (turn : Turn) (shelf : Shelf) (next : Step) (new : WriteFile) (after : Shelf) → m.lane ≡ lane
       → P None shelf.order → writes.StartsAt found wsize m turn shelf next new after → Seats next (WriteLive new.state) (seat_write new.state) after.order
   write-starts (Err fault) wsize m turn shelf next new after own p s = write-refuses fault shelf next new.state after p s.refuses
   write-starts (Ok file) wsize m turn shelf next new after own p (inl s) =
@@ -434,19 +434,19 @@ module _ (lane : ℕ) (P : Option (List ℕ) → List LaneFile → Type 0) (leav
       (subst (λ (n : ℕ). writes.Writes wsize n file m.offset (writes.text_bytes m.text) turn shelf next new.state after) own s.writes)
   write-starts (Ok file) wsize m turn shelf next new after own p (inr s) = write-refuses faults.Memory shelf next new.state after p s.refuses
 
-  write-lane : (found : Result (List ℕ) Fault) (wsize : ℕ) (m : WriteFile) (turn : Turn) (shelf : Shelf) (next : Next) (new : WriteFile) (after : Shelf)
+  write-lane : (found : Result (List ℕ) Fault) (wsize : ℕ) (m : WriteFile) (turn : Turn) (shelf : Shelf) (next : Step) (new : WriteFile) (after : Shelf)
       → writes.StartsAt found wsize m turn shelf next new after → new.lane ≡ m.lane
   write-lane (Err fault) wsize m turn shelf next new after s = ap (λ (k : WriteFile). k.lane) s.text
   write-lane (Ok file) wsize m turn shelf next new after (inl s) = ap (λ (k : WriteFile). k.lane) s.text
   write-lane (Ok file) wsize m turn shelf next new after (inr s) = ap (λ (k : WriteFile). k.lane) s.text
 
-  pub write-resumes : (at : Writing) (wsize : ℕ) (turn : Turn) (shelf : Shelf) (next : Next) (new : Writing) (after : Shelf) → WriteLive at → P (seat_write at) shelf.order
+  pub write-resumes : (at : Writing) (wsize : ℕ) (turn : Turn) (shelf : Shelf) (next : Step) (new : Writing) (after : Shelf) → WriteLive at → P (seat_write at) shelf.order
       → writes.ResumesIn at wsize lane turn shelf next new after → Seats next (WriteLive new) (seat_write new) after.order
   write-resumes writing.Idle wsize turn shelf next new after live p r = absurd live
   write-resumes (writing.Room file saving) wsize turn shelf next new after live p r =
       write-saves (is_first lane shelf.order) wsize file saving turn shelf next new after live p r
 
-  write-follows : (gives : _) (wsize : ℕ) (m : WriteFile) (file : List ℕ) (saved : Saving) (turn : Turn) (shelf : Shelf) (next : Next) (new : Writing) (after : Shelf)
+  write-follows : (gives : _) (wsize : ℕ) (m : WriteFile) (file : List ℕ) (saved : Saving) (turn : Turn) (shelf : Shelf) (next : Step) (new : Writing) (after : Shelf)
       → m.lane ≡ lane → SaveGoing (syncs.sync_next gives) saved → P (Some saved.file) shelf.order → writes.Follows gives wsize m file saved turn shelf next new after
       → Seats next (WriteLive new) (seat_write new) after.order
   write-follows gives wsize m file saved turn shelf next new after own live p f = by-step
@@ -464,7 +464,7 @@ module _ (lane : ℕ) (P : Option (List ℕ) → List LaneFile → Type 0) (leav
           to-done (answers.Refused fault) next (WriteLive new) (seat_write new) (left lane shelf.order) after.order l.gives_next
           (ap (λ (s : Shelf). s.order) l.shelf_is ∙ ap (λ (n : ℕ). left n shelf.order) own) (leaves (Some saved.file) shelf.order p)
 
-  pub write-takes : (at : Writing) (wsize : ℕ) (m : WriteFile) (sent turn : Turn) (came : Result Reply Fault) (shelf : Shelf) (next : Next) (new : Writing) (after : Shelf)
+  pub write-takes : (at : Writing) (wsize : ℕ) (m : WriteFile) (sent turn : Turn) (came : Result Reply Fault) (shelf : Shelf) (next : Step) (new : Writing) (after : Shelf)
       (others : ℕ) → m.lane ≡ lane → WriteLive at → of_writing at ≡ others + 1 → P (seat_write at) shelf.order
       → writes.TakesIn at wsize m sent turn came shelf next new after → Seats next (WriteLive new) (seat_write new) after.order
   write-takes writing.Idle wsize m sent turn came shelf next new after others own live one p t = absurd live
@@ -476,24 +476,24 @@ module _ (lane : ℕ) (P : Option (List ℕ) → List LaneFile → Type 0) (leav
 
   -- ---- puts
 
-  abbrev pub PutSeats : Next → Writing → Putting → List LaneFile → Type 0
+  abbrev pub PutSeats : Step → Writing → Putting → List LaneFile → Type 0
   PutSeats next write state order = Seats next (PutLive state write) (seat_put state write) order
 
-  put-send : (call : Call) (write : Writing) (to : Putting) (next : Next) (state : Putting) (old order : List LaneFile) → next ≡ nexts.Send call → state ≡ to → order ≡ old
+  put-send : (call : Call) (write : Writing) (to : Putting) (next : Step) (state : Putting) (old order : List LaneFile) → next ≡ nexts.Send call → state ≡ to → order ≡ old
       → PutLive to write → P (seat_put to write) old → PutSeats next write state order
   put-send call write to next state old order n s o live p = to-send (λ t. PutLive t write) (λ t. seat_put t write) call to next state old order n s o live p
 
-  put-wait : (write : Writing) (to : Putting) (next : Next) (state : Putting) (old order : List LaneFile) → next ≡ nexts.Wait → state ≡ to → order ≡ old
+  put-wait : (write : Writing) (to : Putting) (next : Step) (state : Putting) (old order : List LaneFile) → next ≡ nexts.Wait → state ≡ to → order ≡ old
       → PutLive to write → P (seat_put to write) old → PutSeats next write state order
   put-wait write to next state old order n s o live p = to-wait (λ t. PutLive t write) (λ t. seat_put t write) to next state old order n s o live p
 
-  put-ends : (write : Writing) (seat : Option (List ℕ)) (file : List ℕ) (refusal : Option Fault) (old : Shelf) (next : Next) (state : Putting) (new : Shelf) → P seat old.order
+  put-ends : (write : Writing) (seat : Option (List ℕ)) (file : List ℕ) (refusal : Option Fault) (old : Shelf) (next : Step) (state : Putting) (new : Shelf) → P seat old.order
       → puts.Ends lane file refusal old next state new → PutSeats next write state new.order
   put-ends write seat file refusal old next state new p e =
       to-done (closed_answer refusal) next (PutLive state write) (seat_put state write) (left lane old.order) new.order e.next_is (ap (λ (s : Shelf). s.order) e.others)
       (leaves seat old.order p)
 
-  put-follows : (gives : _) (write : Writing) (saving : Saving) (old : Shelf) (next : Next) (state : Putting) (new : Shelf) → SaveGoing (syncs.sync_next gives) saving
+  put-follows : (gives : _) (write : Writing) (saving : Saving) (old : Shelf) (next : Step) (state : Putting) (new : Shelf) → SaveGoing (syncs.sync_next gives) saving
       → P (Some saving.file) old.order → puts.Follows gives lane saving old next state new → PutSeats next write state new.order
   put-follows gives write saving old next state new live p f = by-step
       (λ g. SaveGoing (syncs.sync_next g) saving → puts.Follows g lane saving old next state new → PutSeats next write state new.order)
@@ -501,7 +501,7 @@ module _ (lane : ℕ) (P : Option (List ℕ) → List LaneFile → Type 0) (leav
       (λ live f. put-wait write (putting.Saves saving) next state old.order new.order f.0 f.1 (same-order old new f.2) live p)
       (λ result live f. put-ends write (Some saving.file) saving.file (refusal_of result) old next state new p f) gives live f
 
-  put-queues : (b : Bool) (wsize : ℕ) (turn : Turn) (write : Writing) (saving : Saving) (old : Shelf) (next : Next) (state : Putting) (new : Shelf) → SaveLive saving
+  put-queues : (b : Bool) (wsize : ℕ) (turn : Turn) (write : Writing) (saving : Saving) (old : Shelf) (next : Step) (state : Putting) (new : Shelf) → SaveLive saving
       → P (Some saving.file) old.order → puts.QueuesIf b wsize lane turn saving old next state new → PutSeats next write state new.order
   put-queues true wsize turn write saving old next state new live p q =
       put-follows q.gives write q.saved q.gone next state new
@@ -512,7 +512,7 @@ module _ (lane : ℕ) (P : Option (List ℕ) → List LaneFile → Type 0) (leav
       put-wait write (putting.Saves saving) next state old.order new.order q.next_is q.state_is (same-order old new q.shelf_is) live p
 
   -- after a step of its write
-  after-write : (told : Next) (wsize : ℕ) (write : Writing) (file : List ℕ) (turn : Turn) (old : Shelf) (next : Next) (state : Putting) (new : Shelf)
+  after-write : (told : Step) (wsize : ℕ) (write : Writing) (file : List ℕ) (turn : Turn) (old : Shelf) (next : Step) (state : Putting) (new : Shelf)
       → Seats told (WriteLive write) (seat_write write) old.order → puts.AfterWrite told wsize lane file turn old next state new → PutSeats next write state new.order
   after-write (nexts.Send call) wsize write file turn old next state new s a =
       put-send call write (putting.Adds file) next state old.order new.order a.0 a.1 (same-order old new a.2) s.0 s.1
@@ -525,15 +525,15 @@ module _ (lane : ℕ) (P : Option (List ℕ) → List LaneFile → Type 0) (leav
   abbrev pub PutLives : PutFile → Type 0
   PutLives m = (m.write.lane ≡ lane) × PutLive m.state m.write.state
 
-  abbrev pub OfPut : Next → PutFile → List LaneFile → Type 0
+  abbrev pub OfPut : Step → PutFile → List LaneFile → Type 0
   OfPut next m order = Seats next (PutLives m) (seat_put m.state m.write.state) order
 
-  with-lane : (next : Next) (m : PutFile) (order : List LaneFile) → m.write.lane ≡ lane → PutSeats next m.write.state m.state order → OfPut next m order
+  with-lane : (next : Step) (m : PutFile) (order : List LaneFile) → m.write.lane ≡ lane → PutSeats next m.write.state m.state order → OfPut next m order
   with-lane (nexts.Send call) m order own s = ((own, s.0), s.1)
   with-lane nexts.Wait m order own s = ((own, s.0), s.1)
   with-lane (nexts.Done answer) m order own s = s
 
-  writes-on : (wsize : ℕ) (m : PutFile) (file : List ℕ) (turn : Turn) (told : Next) (written : Writing) (mid : Shelf) (next : Next) (new : PutFile) (after : Shelf)
+  writes-on : (wsize : ℕ) (m : PutFile) (file : List ℕ) (turn : Turn) (told : Step) (written : Writing) (mid : Shelf) (next : Step) (new : PutFile) (after : Shelf)
       → m.write.lane ≡ lane → Seats told (WriteLive written) (seat_write written) mid.order → puts.WritesOn wsize m file turn told written mid next new after
       → OfPut next new after.order
   writes-on wsize m file turn told written mid next new after own s w =
@@ -544,13 +544,13 @@ module _ (lane : ℕ) (P : Option (List ℕ) → List LaneFile → Type 0) (leav
       (subst (λ (n : ℕ). puts.AfterWrite told wsize n file turn mid next new.state after) own w.follows)))
 
   -- while it is opened it has no place
-  opens-any : (m : PutFile) (old : List LaneFile) (next : Next) (new : PutFile) (order : List LaneFile) → new.write ≡ m.write → new.state ≡ putting.Opens → order ≡ old
+  opens-any : (m : PutFile) (old : List LaneFile) (next : Step) (new : PutFile) (order : List LaneFile) → new.write ≡ m.write → new.state ≡ putting.Opens → order ≡ old
       → m.write.lane ≡ lane → P None old → OfPut next new order
   opens-any m old next new order w s o own p =
       to-any next (PutLives new) (seat_put new.state new.write.state) old order (ap (λ (t : Putting). seat_put t new.write.state) s) o
       (ap (λ (k : WriteFile). k.lane) w ∙ own, subst (λ (t : Putting). PutLive t new.write.state) (sym s) tt) p
 
-  after-opening : (step : OpeningNext) (wsize : ℕ) (m : PutFile) (turn : Turn) (old : Shelf) (next : Next) (new : PutFile) (after : Shelf) → m.write.lane ≡ lane
+  after-opening : (step : OpeningStep) (wsize : ℕ) (m : PutFile) (turn : Turn) (old : Shelf) (next : Step) (new : PutFile) (after : Shelf) → m.write.lane ≡ lane
       → m.state ≡ putting.Opens → P None old.order → puts.AfterOpening step wsize m turn old next new after → OfPut next new after.order
   after-opening (openings.Send call) wsize m turn old next new after own is p a =
       opens-any m old.order next new after.order (ap (λ (k : PutFile). k.write) a.1) (ap (λ (k : PutFile). k.state) a.1 ∙ is) (same-order old after a.2) own p
@@ -564,7 +564,7 @@ module _ (lane : ℕ) (P : Option (List ℕ) → List LaneFile → Type 0) (leav
   after-opening (openings.Ended (Err fault)) wsize m turn old next new after own is p a =
       to-done (answers.Refused fault) next (PutLives new) (seat_put new.state new.write.state) old.order after.order a.0 (same-order old after a.2) p
 
-  put-resumes : (at : Putting) (wsize : ℕ) (m : PutFile) (turn : Turn) (old : Shelf) (next : Next) (new : PutFile) (after : Shelf) → m.state ≡ at → m.write.lane ≡ lane
+  put-resumes : (at : Putting) (wsize : ℕ) (m : PutFile) (turn : Turn) (old : Shelf) (next : Step) (new : PutFile) (after : Shelf) → m.state ≡ at → m.write.lane ≡ lane
       → PutLive at m.write.state → P (seat_put at m.write.state) old.order → puts.Resumes at wsize m turn old next new after → OfPut next new after.order
   put-resumes putting.Idle wsize m turn old next new after is own live p r = absurd live
   put-resumes putting.Opens wsize m turn old next new after is own live p r =
@@ -579,7 +579,7 @@ module _ (lane : ℕ) (P : Option (List ℕ) → List LaneFile → Type 0) (leav
       (put-queues (is_first lane old.order) wsize turn new.write.state saving old next new.state after live p
       (subst (λ (n : ℕ). puts.QueuesIf (is_first n old.order) wsize n turn saving old next new.state after) own r.0))
 
-  put-takes : (at : Putting) (wsize : ℕ) (m : PutFile) (sent turn : Turn) (came : Result Reply Fault) (old : Shelf) (next : Next) (new : PutFile) (after : Shelf) (others : ℕ)
+  put-takes : (at : Putting) (wsize : ℕ) (m : PutFile) (sent turn : Turn) (came : Result Reply Fault) (old : Shelf) (next : Step) (new : PutFile) (after : Shelf) (others : ℕ)
       → m.state ≡ at → m.write.lane ≡ lane → PutLive at m.write.state → of_put m ≡ others + 1 → P (seat_put at m.write.state) old.order
       → puts.Takes at wsize m sent turn came old next new after → OfPut next new after.order
   put-takes putting.Idle wsize m sent turn came old next new after others is own live one p t = absurd live
@@ -603,21 +603,21 @@ module _ (lane : ℕ) (P : Option (List ℕ) → List LaneFile → Type 0) (leav
 
   -- ---- reads
 
-  read-some : (next : Next) (new : ReadFile) (old order : List LaneFile) (reading : Reading) → new.reading ≡ Some reading → order ≡ old → P None old
+  read-some : (next : Step) (new : ReadFile) (old order : List LaneFile) (reading : Reading) → new.reading ≡ Some reading → order ≡ old → P None old
       → Seats next (ReadLive new.reading) None order
   read-some next new old order reading is o p = to-any next (ReadLive new.reading) None old order refl o (subst ReadLive (sym is) tt) p
 
-  read-starts : (begun : Result Reading Fault) (room : Bool) (m : ReadFile) (pages : Pages) (back : Pending) (next : Next) (new : ReadFile) (later : Pages)
+  read-starts : (begun : Result Reading Fault) (room : Bool) (m : ReadFile) (pages : Pages) (back : Pending) (next : Step) (new : ReadFile) (later : Pages)
       (old order : List LaneFile) → order ≡ old → P None old → reads.StartsWith begun room m pages back next new later → Seats next (ReadLive new.reading) None order
   read-starts (Err fault) room m pages back next new later old order o p s = to-done (answers.Refused fault) next (ReadLive new.reading) None old order s.step o p
   read-starts (Ok r) room m pages back next new later old order o p s = read-some next new old order _ (ap (λ (k : ReadFile). k.reading) s.machine) o p
 
-  read-resumes : (of : Option Reading) (room : Bool) (m : ReadFile) (pages : Pages) (back : Pending) (next : Next) (new : ReadFile) (later : Pages) (old order : List LaneFile)
+  read-resumes : (of : Option Reading) (room : Bool) (m : ReadFile) (pages : Pages) (back : Pending) (next : Step) (new : ReadFile) (later : Pages) (old order : List LaneFile)
       → ReadLive of → order ≡ old → P None old → reads.ResumesIn of room m pages back next new later → Seats next (ReadLive new.reading) None order
   read-resumes None room m pages back next new later old order live o p r = absurd live
   read-resumes (Some reading) room m pages back next new later old order live o p r = read-some next new old order _ (ap (λ (k : ReadFile). k.reading) r.machine) o p
 
-  read-takes : (of : Option Reading) (sent turn : Turn) (came : Result Reply Fault) (repeats : List Repeat) (m : ReadFile) (pages : Pages) (back : Pending) (next : Next)
+  read-takes : (of : Option Reading) (sent turn : Turn) (came : Result Reply Fault) (repeats : List Repeat) (m : ReadFile) (pages : Pages) (back : Pending) (next : Step)
       (new : ReadFile) (later : Pages) (old order : List LaneFile) → ReadLive of → order ≡ old → P None old
       → reads.TakesIn of sent turn came repeats m pages back next new later → Seats next (ReadLive new.reading) None order
   read-takes None sent turn came repeats m pages back next new later old order live o p t = absurd live
@@ -626,20 +626,20 @@ module _ (lane : ℕ) (P : Option (List ℕ) → List LaneFile → Type 0) (leav
 
   -- ---- any operation on files
 
-  abbrev pub OfFile : Next → FileMachine → List LaneFile → Type 0
+  abbrev pub OfFile : Step → FileMachine → List LaneFile → Type 0
   OfFile next m order = Seats next (FileLive lane m) (seat_file m) order
 
-  file-as : (next : Next) (to new : FileMachine) (order : List LaneFile) → new ≡ to → OfFile next to order → OfFile next new order
+  file-as : (next : Step) (to new : FileMachine) (order : List LaneFile) → new ≡ to → OfFile next to order → OfFile next new order
   file-as next to new order is s = subst (λ (m : FileMachine). OfFile next m order) (sym is) s
 
   -- with the lane, which stays
-  owned : (next : Next) (own : ℕ) (Live : Type 0) (seat : Option (List ℕ)) (order : List LaneFile) → own ≡ lane → Seats next Live seat order
+  owned : (next : Step) (own : ℕ) (Live : Type 0) (seat : Option (List ℕ)) (order : List LaneFile) → own ≡ lane → Seats next Live seat order
       → Seats next ((own ≡ lane) × Live) seat order
   owned (nexts.Send call) own Live seat order is s = ((is, s.0), s.1)
   owned nexts.Wait own Live seat order is s = ((is, s.0), s.1)
   owned (nexts.Done answer) own Live seat order is s = s
 
-  pub file-starts : (m : FileMachine) (wsize : ℕ) (turn : Turn) (old : Shelf) (next : Next) (new : FileMachine) (after : Shelf) → FileFresh lane m → P None old.order
+  pub file-starts : (m : FileMachine) (wsize : ℕ) (turn : Turn) (old : Shelf) (next : Step) (new : FileMachine) (after : Shelf) → FileFresh lane m → P None old.order
       → steps.Starts wsize m turn old next new after → OfFile next new after.order
   file-starts (files.Open m) wsize turn old next new after fresh p s =
       file-as next (files.Open _) new after.order s.machine_is (to-any next (Unit {0}) None old.order after.order refl (same-order old after s.shelf_is) tt p)
@@ -668,7 +668,7 @@ module _ (lane : ℕ) (P : Option (List ℕ) → List LaneFile → Type 0) (leav
       (opens-any m old.order next (record m { opening = opening.go_after (puts.opening_at turn m) turn; state = putting.Opens }) after.order refl refl
       (same-order old after s.shelf_is) fresh p)
 
-  pub file-resumes : (m : FileMachine) (wsize : ℕ) (turn : Turn) (old : Shelf) (next : Next) (new : FileMachine) (after : Shelf) → FileLive lane m → P (seat_file m) old.order
+  pub file-resumes : (m : FileMachine) (wsize : ℕ) (turn : Turn) (old : Shelf) (next : Step) (new : FileMachine) (after : Shelf) → FileLive lane m → P (seat_file m) old.order
       → steps.Resumes wsize m turn old next new after → OfFile next new after.order
   file-resumes (files.Open m) wsize turn old next new after live p s =
       file-as next (files.Open _) new after.order s.machine_is (to-any next (Unit {0}) None old.order after.order refl (same-order old after s.shelf_is) tt p)
@@ -693,7 +693,7 @@ module _ (lane : ℕ) (P : Option (List ℕ) → List LaneFile → Type 0) (leav
   file-resumes (files.Put m) wsize turn old next new after live p s =
       file-as next (files.Put s.machine) new after.order s.machine_is (put-resumes m.state wsize m turn old next s.machine after refl live.0 live.1 p s.step)
 
-  pub file-takes : (m : FileMachine) (wsize : ℕ) (sent turn : Turn) (came : Result Reply Fault) (old : Shelf) (next : Next) (new : FileMachine) (after : Shelf) (others : ℕ)
+  pub file-takes : (m : FileMachine) (wsize : ℕ) (sent turn : Turn) (came : Result Reply Fault) (old : Shelf) (next : Step) (new : FileMachine) (after : Shelf) (others : ℕ)
       → FileLive lane m → calls_of m ≡ others + 1 → P (seat_file m) old.order → steps.Takes wsize m sent turn came old next new after → OfFile next new after.order
   file-takes (files.Open m) wsize sent turn came old next new after others live one p s =
       file-as next (files.Open _) new after.order s.machine_is

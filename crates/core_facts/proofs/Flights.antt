@@ -1,8 +1,8 @@
 -- The file whose WRITEs an operation waits for, which stays the same while one of them waits.
-use Rattle.core_facts.proofs.Prelude.{◌≡◌, ◌≤◌, ◌+◌, ◌-◌, ℕ, Bool, true, false, List, Option, Some, None, Result, Ok, Err, inl, inr, refl, sym, ap, subst, ◌∙◌, arith, Fault, Reply, Pending, of_file, is_first, Next, Shelf, Turn, CloseFile, Closing, OpeningNext, PutFile, Putting, Phase, Sending, Committing, Resending, CommittingAgain, Saving, SyncFile, Syncing, WriteFile, Writing, IsUnused, by-step, ends_as, WalkNext, FileMachine, Machine, Opener, PathMachine, file_of, placed, Resumes, Takes, of_walk, of_saving, of_opening, of_writing, of_syncing, of_closing, of_putting, in_flight}
+use Rattle.core_facts.proofs.Prelude.{◌≡◌, ◌≤◌, ◌+◌, ◌-◌, ℕ, Bool, true, false, List, Option, Some, None, Result, Ok, Err, inl, inr, refl, sym, ap, subst, ◌∙◌, arith, Fault, Reply, Pending, of_file, is_first, Step, Shelf, Turn, CloseFile, Closing, OpeningStep, PutFile, Putting, Phase, Sending, Committing, Resending, CommittingAgain, Saving, SyncFile, Syncing, WriteFile, Writing, IsUnused, by-step, ends_as, WalkStep, FileMachine, Machine, Opener, PathMachine, file_of, placed, Resumes, Takes, of_walk, of_saving, of_opening, of_writing, of_syncing, of_closing, of_putting, in_flight}
 use Rattle.file_ops.proofs.SaveCounts.{SaveCounts, save-goes, save-takes}
 use Rattle.world_model.specs.declared.answer.Answer.TheVariants as answers
-use Rattle.client_shelf.specs.declared.next.Next.TheVariants as nexts
+use Rattle.client_shelf.specs.declared.step.Step.TheVariants as nexts
 use Rattle.file_ops.specs.declared.close_file.Closing.TheVariants as closing
 use Rattle.file_ops.specs.declared.put_file.Putting.TheVariants as putting
 use Rattle.file_ops.specs.declared.sync_file.Syncing.TheVariants as syncing
@@ -15,7 +15,7 @@ use Rattle.file_ops.specs.WriteFile as writes
 use Rattle.file_ops.proofs.PutWalks.{PutHasIn}
 use Rattle.file_ops.proofs.Unmade.{InFile, MineIn, Mine}
 use Rattle.file_ops.proofs.Walks.{WriteHas, SyncHas, CloseHas}
-use Rattle.name_ops.specs.declared.walk.WalkNext.TheVariants as walks
+use Rattle.name_ops.specs.declared.walk.WalkStep.TheVariants as walks
 use Rattle.name_ops.specs.Walking as walking
 use Rattle.op_machines.specs.declared.file_machine.FileMachine.TheVariants as files
 use Rattle.op_machines.specs.declared.machine.Machine.TheVariants as machines
@@ -183,16 +183,16 @@ module _ (xid : ℕ) (back : Pending) where
 
 -- ---- it stays, while others wait
 
-abbrev pub Stays : Next → ℕ → Option (List ℕ) → Option (List ℕ) → Type 0
+abbrev pub Stays : Step → ℕ → Option (List ℕ) → Option (List ℕ) → Type 0
 Stays next others old new = WhileGoing next (1 ≤ others → new ≡ old)
 
-none-left : (next : Next) (others : ℕ) (old new : Option (List ℕ)) → others ≡ 0 → Stays next others old new
+none-left : (next : Step) (others : ℕ) (old new : Option (List ℕ)) → others ≡ 0 → Stays next others old new
 none-left next others old new none = going-any next (1 ≤ others → new ≡ old) (λ some. absurd (omega (arith, none, some)))
 
-same-left : (next : Next) (others : ℕ) (old new : Option (List ℕ)) → new ≡ old → Stays next others old new
+same-left : (next : Step) (others : ℕ) (old new : Option (List ℕ)) → new ≡ old → Stays next others old new
 same-left next others old new same = going-any next (1 ≤ others → new ≡ old) (λ some. same)
 
-save-kept : (others : ℕ) (s : Saving) (next : Next) (saved : Saving) → SaveSteps (Unit {0}) others s next saved → 1 ≤ others → flies_save saved ≡ flies_save s
+save-kept : (others : ℕ) (s : Saving) (next : Step) (saved : Saving) → SaveSteps (Unit {0}) others s next saved → 1 ≤ others → flies_save saved ≡ flies_save s
 save-kept others s next saved c some = ap (λ (b : Bool). flies_if b saved.file) (c.stays some) ∙ ap (λ (f : List ℕ). flies_if (saves.is_sending s.phase) f) c.file
 
 goes-kept : (wsize xid : ℕ) (room by_reply : Bool) (s : Saving) (back : Pending) (next : _) (new : Saving) (after : Pending)
@@ -208,7 +208,7 @@ takes-kept wsize sent turn came repeats s back next new after later others one t
 
 -- ---- syncs
 
-sync-as : (gives : _) (saved s : Saving) (others : ℕ) (next : Next) (state : Syncing) → next ≡ syncs.sync_next gives → state ≡ syncs.sync_state gives saved
+sync-as : (gives : _) (saved s : Saving) (others : ℕ) (next : Step) (state : Syncing) → next ≡ syncs.sync_next gives → state ≡ syncs.sync_state gives saved
     → (1 ≤ others → flies_save saved ≡ flies_save s) → Stays next others (flies_save s) (flies_sync state)
 sync-as gives saved s others next state n t k = by-step
     (λ g. next ≡ syncs.sync_next g → state ≡ syncs.sync_state g saved → Stays next others (flies_save s) (flies_sync state))
@@ -216,18 +216,18 @@ sync-as gives saved s others next state n t k = by-step
     (λ n t. going-any next (1 ≤ others → flies_sync state ≡ flies_save s) (λ some. ap flies_sync t ∙ k some))
     (λ result n t. going-done (syncs.answer_of result) next (1 ≤ others → flies_sync state ≡ flies_save s) n) gives n t
 
-sync-queues : (b : Bool) (wsize lane : ℕ) (turn : Turn) (s : Saving) (old : Shelf) (next : Next) (state : Syncing) (new : Shelf)
+sync-queues : (b : Bool) (wsize lane : ℕ) (turn : Turn) (s : Saving) (old : Shelf) (next : Step) (state : Syncing) (new : Shelf)
     → syncs.QueuesIf b wsize lane turn s old next state new → Stays next (of_saving s) (flies_save s) (flies_sync state)
 sync-queues true wsize lane turn s old next state new q =
     sync-as q.gives q.saved s (of_saving s) next state q.follows.next_is q.follows.state_is (goes-kept wsize turn.xid turn.room false s old.back q.gives q.saved new.back q.goes)
 sync-queues false wsize lane turn s old next state new q = same-left next (of_saving s) (flies_save s) (flies_sync state) (ap flies_sync q.state_is)
 
-sync-resumes : (at : Syncing) (wsize : ℕ) (m : SyncFile) (turn : Turn) (old : Shelf) (next : Next) (state : Syncing) (new : Shelf)
+sync-resumes : (at : Syncing) (wsize : ℕ) (m : SyncFile) (turn : Turn) (old : Shelf) (next : Step) (state : Syncing) (new : Shelf)
     → syncs.Resumes at wsize m turn old next state new → Stays next (of_syncing at) (flies_sync at) (flies_sync state)
 sync-resumes syncing.Idle wsize m turn old next state new r = same-left next 0 None (flies_sync state) (ap flies_sync r.state_is)
 sync-resumes (syncing.Saves s) wsize m turn old next state new r = sync-queues (is_first m.lane old.order) wsize m.lane turn s old next state new r
 
-sync-takes : (at : Syncing) (wsize : ℕ) (m : SyncFile) (sent turn : Turn) (came : Result Reply Fault) (old : Shelf) (next : Next) (state : Syncing) (new : Shelf) (others : ℕ)
+sync-takes : (at : Syncing) (wsize : ℕ) (m : SyncFile) (sent turn : Turn) (came : Result Reply Fault) (old : Shelf) (next : Step) (state : Syncing) (new : Shelf) (others : ℕ)
     → of_syncing at ≡ others + 1 → syncs.Takes at wsize m sent turn came old next state new → Stays next others (flies_sync at) (flies_sync state)
 sync-takes syncing.Idle wsize m sent turn came old next state new others one t = absurd (omega (arith, one))
 sync-takes (syncing.Saves s) wsize m sent turn came old next state new others one t =
@@ -236,7 +236,7 @@ sync-takes (syncing.Saves s) wsize m sent turn came old next state new others on
 
 -- ---- closes
 
-close-follows : (gives : _) (lane slot : ℕ) (room : Bool) (saved s : Saving) (old : Shelf) (next : Next) (state : Closing) (new : Shelf) (others : ℕ)
+close-follows : (gives : _) (lane slot : ℕ) (room : Bool) (saved s : Saving) (old : Shelf) (next : Step) (state : Closing) (new : Shelf) (others : ℕ)
     → SaveCounts gives others (of_saving saved) → (1 ≤ others → flies_save saved ≡ flies_save s) → closes.Follows gives lane slot room true saved old next state new
     → Stays next others (flies_save s) (flies_close state)
 close-follows gives lane slot room saved s old next state new others c k f = by-step
@@ -245,7 +245,7 @@ close-follows gives lane slot room saved s old next state new others c k f = by-
     (λ c f. going-any next (1 ≤ others → flies_close state ≡ flies_save s) (λ some. ap flies_close f.1 ∙ k some))
     (λ result c f. none-left next others (flies_save s) (flies_close state) c.0) gives c f
 
-close-on-if : (b : Bool) (wsize lane slot : ℕ) (turn : Turn) (s : Saving) (old : Shelf) (next : Next) (state : Closing) (new : Shelf)
+close-on-if : (b : Bool) (wsize lane slot : ℕ) (turn : Turn) (s : Saving) (old : Shelf) (next : Step) (state : Closing) (new : Shelf)
     → closes.GoesOnIf b wsize lane slot turn s old next state new → Stays next (of_saving s) (flies_save s) (flies_close state)
 close-on-if true wsize lane slot turn s old next state new g =
     close-follows g.gives lane slot turn.room g.saved s g.gone next state new (of_saving s)
@@ -253,7 +253,7 @@ close-on-if true wsize lane slot turn s old next state new g =
     (goes-kept wsize turn.xid turn.room false s old.back g.gives g.saved g.gone.back g.goes) g.follows
 close-on-if false wsize lane slot turn s old next state new g = same-left next (of_saving s) (flies_save s) (flies_close state) (ap flies_close g.state_is)
 
-close-resumes : (at : Closing) (wsize : ℕ) (m : CloseFile) (turn : Turn) (old : Shelf) (next : Next) (state : Closing) (new : Shelf)
+close-resumes : (at : Closing) (wsize : ℕ) (m : CloseFile) (turn : Turn) (old : Shelf) (next : Step) (state : Closing) (new : Shelf)
     → closes.Resumes at wsize m turn old next state new → Stays next (of_closing at) (flies_close at) (flies_close state)
 close-resumes closing.Idle wsize m turn old next state new r = none-left next 0 None (flies_close state) refl
 close-resumes (closing.Queued s) wsize m turn old next state new r = none-left next 0 None (flies_close state) refl
@@ -261,7 +261,7 @@ close-resumes (closing.Saves s) wsize m turn old next state new r = close-on-if 
 close-resumes (closing.ToRemove removal) wsize m turn old next state new r = none-left next 0 None (flies_close state) refl
 close-resumes (closing.Removing removal) wsize m turn old next state new r = same-left next 1 None (flies_close state) (ap flies_close r.state_is)
 
-close-takes : (at : Closing) (wsize : ℕ) (m : CloseFile) (sent turn : Turn) (came : Result Reply Fault) (old : Shelf) (next : Next) (state : Closing) (new : Shelf) (others : ℕ)
+close-takes : (at : Closing) (wsize : ℕ) (m : CloseFile) (sent turn : Turn) (came : Result Reply Fault) (old : Shelf) (next : Step) (state : Closing) (new : Shelf) (others : ℕ)
     → of_closing at ≡ others + 1 → closes.Takes at wsize m sent turn came old next state new → Stays next others (flies_close at) (flies_close state)
 close-takes closing.Idle wsize m sent turn came old next state new others one t = absurd (omega (arith, one))
 close-takes (closing.Queued s) wsize m sent turn came old next state new others one t = absurd (omega (arith, one))
@@ -274,7 +274,7 @@ close-takes (closing.Removing removal) wsize m sent turn came old next state new
 
 -- ---- writes
 
-write-leads : (gives : _) (file : List ℕ) (saved s : Saving) (lane : ℕ) (shelf : Shelf) (next : Next) (new : Writing) (after : Shelf) (others : ℕ)
+write-leads : (gives : _) (file : List ℕ) (saved s : Saving) (lane : ℕ) (shelf : Shelf) (next : Step) (new : Writing) (after : Shelf) (others : ℕ)
     → (1 ≤ others → flies_save saved ≡ flies_save s)
     → writes.Leads (writes.room_next gives) (writes.room_state gives file saved) (writes.room_shelf gives lane shelf) next new after
     → Stays next others (flies_save s) (flies_write new)
@@ -291,19 +291,19 @@ write-leads gives file saved s lane shelf next new after others k l = by-step
     ended (Ok done) l = going-any next (1 ≤ others → flies_write new ≡ flies_save s) (λ some. ap flies_write l.keeps ∙ k some)
     ended (Err fault) l = going-done (answers.Refused fault) next (1 ≤ others → flies_write new ≡ flies_save s) l.gives_next
 
-write-saves : (b : Bool) (wsize lane : ℕ) (file : List ℕ) (s : Saving) (turn : Turn) (shelf : Shelf) (next : Next) (new : Writing) (after : Shelf)
+write-saves : (b : Bool) (wsize lane : ℕ) (file : List ℕ) (s : Saving) (turn : Turn) (shelf : Shelf) (next : Step) (new : Writing) (after : Shelf)
     → writes.SavesIf b wsize lane file s turn shelf next new after → Stays next (of_saving s) (flies_save s) (flies_write new)
 write-saves true wsize lane file s turn shelf next new after g =
     write-leads g.told file g.saved s lane (record shelf { back = g.back }) next new after (of_saving s)
     (goes-kept wsize turn.xid turn.room false s shelf.back g.told g.saved g.back g.goes) g.leads
 write-saves false wsize lane file s turn shelf next new after g = same-left next (of_saving s) (flies_save s) (flies_write new) (ap flies_write g.keeps)
 
-write-stays : (at : Writing) (wsize lane : ℕ) (turn : Turn) (shelf : Shelf) (next : Next) (new : Writing) (after : Shelf)
+write-stays : (at : Writing) (wsize lane : ℕ) (turn : Turn) (shelf : Shelf) (next : Step) (new : Writing) (after : Shelf)
     → writes.ResumesIn at wsize lane turn shelf next new after → Stays next (of_writing at) (flies_write at) (flies_write new)
 write-stays writing.Idle wsize lane turn shelf next new after r = same-left next 0 None (flies_write new) (ap flies_write r.keeps)
 write-stays (writing.Room file s) wsize lane turn shelf next new after r = write-saves (is_first lane shelf.order) wsize lane file s turn shelf next new after r
 
-write-follows : (gives : _) (wsize : ℕ) (m : WriteFile) (file : List ℕ) (saved s : Saving) (turn : Turn) (shelf : Shelf) (next : Next) (new : Writing) (after : Shelf)
+write-follows : (gives : _) (wsize : ℕ) (m : WriteFile) (file : List ℕ) (saved s : Saving) (turn : Turn) (shelf : Shelf) (next : Step) (new : Writing) (after : Shelf)
     (others : ℕ) → SaveCounts gives others (of_saving saved) → (1 ≤ others → flies_save saved ≡ flies_save s)
     → writes.Follows gives wsize m file saved turn shelf next new after → Stays next others (flies_save s) (flies_write new)
 write-follows gives wsize m file saved s turn shelf next new after others c k f = by-step
@@ -312,7 +312,7 @@ write-follows gives wsize m file saved s turn shelf next new after others c k f 
     (λ c l. going-any next (1 ≤ others → flies_write new ≡ flies_save s) (λ some. ap flies_write l.keeps ∙ k some))
     (λ result c l. none-left next others (flies_save s) (flies_write new) c.0) gives c f
 
-write-taken : (at : Writing) (wsize : ℕ) (m : WriteFile) (sent turn : Turn) (came : Result Reply Fault) (shelf : Shelf) (next : Next) (new : Writing) (after : Shelf) (others : ℕ)
+write-taken : (at : Writing) (wsize : ℕ) (m : WriteFile) (sent turn : Turn) (came : Result Reply Fault) (shelf : Shelf) (next : Step) (new : Writing) (after : Shelf) (others : ℕ)
     → of_writing at ≡ others + 1 → writes.TakesIn at wsize m sent turn came shelf next new after → Stays next others (flies_write at) (flies_write new)
 write-taken writing.Idle wsize m sent turn came shelf next new after others one t = absurd (omega (arith, one))
 write-taken (writing.Room file s) wsize m sent turn came shelf next new after others one t =
@@ -322,7 +322,7 @@ write-taken (writing.Room file s) wsize m sent turn came shelf next new after ot
 
 -- ---- puts
 
-put-follows : (gives : _) (lane : ℕ) (saved s : Saving) (write : Writing) (old : Shelf) (next : Next) (state : Putting) (new : Shelf) (others : ℕ)
+put-follows : (gives : _) (lane : ℕ) (saved s : Saving) (write : Writing) (old : Shelf) (next : Step) (state : Putting) (new : Shelf) (others : ℕ)
     → (1 ≤ others → flies_save saved ≡ flies_save s) → puts.Follows gives lane saved old next state new → Stays next others (flies_save s) (flies_put state write)
 put-follows gives lane saved s write old next state new others k f = by-step
     (λ g. puts.Follows g lane saved old next state new → Stays next others (flies_save s) (flies_put state write))
@@ -330,14 +330,14 @@ put-follows gives lane saved s write old next state new others k f = by-step
     (λ f. going-any next (1 ≤ others → flies_put state write ≡ flies_save s) (λ some. ap (λ (p : Putting). flies_put p write) f.1 ∙ k some))
     (λ result f. going-done _ next (1 ≤ others → flies_put state write ≡ flies_save s) f.next_is) gives f
 
-put-queues : (b : Bool) (wsize lane : ℕ) (turn : Turn) (s : Saving) (write : Writing) (old : Shelf) (next : Next) (state : Putting) (new : Shelf)
+put-queues : (b : Bool) (wsize lane : ℕ) (turn : Turn) (s : Saving) (write : Writing) (old : Shelf) (next : Step) (state : Putting) (new : Shelf)
     → puts.QueuesIf b wsize lane turn s old next state new → Stays next (of_saving s) (flies_save s) (flies_put state write)
 put-queues true wsize lane turn s write old next state new q =
     put-follows q.gives lane q.saved s write q.gone next state new (of_saving s) (goes-kept wsize turn.xid turn.room false s old.back q.gives q.saved q.gone.back q.goes) q.follows
 put-queues false wsize lane turn s write old next state new q =
     same-left next (of_saving s) (flies_save s) (flies_put state write) (ap (λ (p : Putting). flies_put p write) q.state_is)
 
-after-write : (told : Next) (wsize lane : ℕ) (file : List ℕ) (turn : Turn) (write : Writing) (was : Option (List ℕ)) (old : Shelf) (next : Next) (state : Putting) (new : Shelf)
+after-write : (told : Step) (wsize lane : ℕ) (file : List ℕ) (turn : Turn) (write : Writing) (was : Option (List ℕ)) (old : Shelf) (next : Step) (state : Putting) (new : Shelf)
     (others : ℕ) → Plain told others (of_writing write) → Stays told others was (flies_write write) → puts.AfterWrite told wsize lane file turn old next state new
     → Stays next others was (flies_put state write)
 after-write (nexts.Send call) wsize lane file turn write was old next state new others c k a =
@@ -347,14 +347,14 @@ after-write nexts.Wait wsize lane file turn write was old next state new others 
 after-write (nexts.Done (answers.Done value)) wsize lane file turn write was old next state new others c k a = none-left next others was (flies_put state write) c
 after-write (nexts.Done (answers.Refused fault)) wsize lane file turn write was old next state new others c k a = none-left next others was (flies_put state write) c
 
-writes-on : (wsize : ℕ) (m : PutFile) (file : List ℕ) (turn : Turn) (told : Next) (written : Writing) (was : Option (List ℕ)) (mid : Shelf) (next : Next) (new : PutFile) (after : Shelf)
+writes-on : (wsize : ℕ) (m : PutFile) (file : List ℕ) (turn : Turn) (told : Step) (written : Writing) (was : Option (List ℕ)) (mid : Shelf) (next : Step) (new : PutFile) (after : Shelf)
     (others : ℕ) → Plain told others (of_writing written) → Stays told others was (flies_write written) → puts.WritesOn wsize m file turn told written mid next new after
     → Stays next others was (flies_put new.state new.write.state)
 writes-on wsize m file turn told written was mid next new after others c k w =
     subst (λ (x : Writing). Stays next others was (flies_put new.state x)) (sym (ap (λ (p : PutFile). p.write.state) w.machine_is))
     (after-write told wsize m.write.lane file turn written was mid next new.state after others c k w.follows)
 
-put-resumes : (at : Putting) (wsize : ℕ) (m : PutFile) (turn : Turn) (old : Shelf) (next : Next) (new : PutFile) (after : Shelf) → m.state ≡ at
+put-resumes : (at : Putting) (wsize : ℕ) (m : PutFile) (turn : Turn) (old : Shelf) (next : Step) (new : PutFile) (after : Shelf) → m.state ≡ at
     → puts.Resumes at wsize m turn old next new after → Stays next (of_putting at m.opening m.write.state) (flies_put at m.write.state) (flies_put new.state new.write.state)
 put-resumes putting.Idle wsize m turn old next new after is r = none-left next 0 None (flies_put new.state new.write.state) refl
 put-resumes putting.Opens wsize m turn old next new after is r =
@@ -367,7 +367,7 @@ put-resumes (putting.Adds file) wsize m turn old next new after is r =
 put-resumes (putting.Saves s) wsize m turn old next new after is r =
     put-queues (is_first m.write.lane old.order) wsize m.write.lane turn s new.write.state old next new.state after r.0
 
-put-takes : (at : Putting) (wsize : ℕ) (m : PutFile) (sent turn : Turn) (came : Result Reply Fault) (old : Shelf) (next : Next) (new : PutFile) (after : Shelf) (others : ℕ)
+put-takes : (at : Putting) (wsize : ℕ) (m : PutFile) (sent turn : Turn) (came : Result Reply Fault) (old : Shelf) (next : Step) (new : PutFile) (after : Shelf) (others : ℕ)
     → of_putting at m.opening m.write.state ≡ others + 1 → puts.Takes at wsize m sent turn came old next new after
     → Stays next others (flies_put at m.write.state) (flies_put new.state new.write.state)
 put-takes putting.Idle wsize m sent turn came old next new after others one t = absurd (omega (arith, one))
@@ -383,10 +383,10 @@ put-takes (putting.Saves s) wsize m sent turn came old next new after others one
 
 -- ---- any operation
 
-file-as : (next : Next) (others : ℕ) (old : Option (List ℕ)) (to new : FileMachine) → new ≡ to → Stays next others old (flies_file to) → Stays next others old (flies_file new)
+file-as : (next : Step) (others : ℕ) (old : Option (List ℕ)) (to new : FileMachine) → new ≡ to → Stays next others old (flies_file to) → Stays next others old (flies_file new)
 file-as next others old to new is s = subst (λ (m : FileMachine). Stays next others old (flies_file m)) (sym is) s
 
-file-resumes : (m : FileMachine) (wsize : ℕ) (turn : Turn) (old : Shelf) (next : Next) (new : FileMachine) (after : Shelf) → steps.Resumes wsize m turn old next new after
+file-resumes : (m : FileMachine) (wsize : ℕ) (turn : Turn) (old : Shelf) (next : Step) (new : FileMachine) (after : Shelf) → steps.Resumes wsize m turn old next new after
     → Stays next (calls_of m) (flies_file m) (flies_file new)
 file-resumes (files.Open m) wsize turn old next new after s = file-as next (calls_of (files.Open m)) None (files.Open _) new s.machine_is (same-left next (calls_of (files.Open m)) None None refl)
 file-resumes (files.Read m) wsize turn old next new after s = file-as next (calls_of (files.Read m)) None (files.Read s.machine) new s.machine_is (same-left next (calls_of (files.Read m)) None None refl)
@@ -402,7 +402,7 @@ file-resumes (files.Truncate m) wsize turn old next new after s =
 file-resumes (files.Put m) wsize turn old next new after s =
     file-as next (of_put m) (flies_put m.state m.write.state) (files.Put s.machine) new s.machine_is (put-resumes m.state wsize m turn old next s.machine after refl s.step)
 
-file-takes : (m : FileMachine) (wsize : ℕ) (sent turn : Turn) (came : Result Reply Fault) (old : Shelf) (next : Next) (new : FileMachine) (after : Shelf) (others : ℕ)
+file-takes : (m : FileMachine) (wsize : ℕ) (sent turn : Turn) (came : Result Reply Fault) (old : Shelf) (next : Step) (new : FileMachine) (after : Shelf) (others : ℕ)
     → calls_of m ≡ others + 1 → steps.Takes wsize m sent turn came old next new after → Stays next others (flies_file m) (flies_file new)
 file-takes (files.Open m) wsize sent turn came old next new after others one s = file-as next others None (files.Open _) new s.machine_is (same-left next others None None refl)
 file-takes (files.Read m) wsize sent turn came old next new after others one s = file-as next others None (files.Read s.machine) new s.machine_is (same-left next others None None refl)
@@ -421,24 +421,24 @@ file-takes (files.Put m) wsize sent turn came old next new after others one s =
     file-as next others (flies_put m.state m.write.state) (files.Put s.machine) new s.machine_is
     (put-takes m.state wsize m sent turn came old next s.machine after others one s.step)
 
-path-as : (next : Next) (others : ℕ) (old : Option (List ℕ)) (m : PathMachine) (opener : Opener) (new : PathMachine) → m.arrived ≡ true → new ≡ record m { opener = opener }
+path-as : (next : Step) (others : ℕ) (old : Option (List ℕ)) (m : PathMachine) (opener : Opener) (new : PathMachine) → m.arrived ≡ true → new ≡ record m { opener = opener }
     → Stays next others old (flies_file (file_of opener)) → Stays next others old (flies_path new.arrived new.opener)
 path-as next others old m opener new there is s =
     subst (λ (n : PathMachine). Stays next others old (flies_path n.arrived n.opener)) (sym is)
     (subst (λ (b : Bool). Stays next others old (flies_path b opener)) (sym there) s)
 
-way-same : (next : Next) (others : ℕ) (m new : PathMachine) → m.arrived ≡ false → new ≡ m → Stays next others None (flies_path new.arrived new.opener)
+way-same : (next : Step) (others : ℕ) (m new : PathMachine) → m.arrived ≡ false → new ≡ m → Stays next others None (flies_path new.arrived new.opener)
 way-same next others m new way is =
     same-left next others None (flies_path new.arrived new.opener) (ap (λ (n : PathMachine). flies_path n.arrived n.opener) is ∙ ap (λ (b : Bool). flies_path b m.opener) way)
 
-follows-path : (step : WalkNext) (wsize : ℕ) (m : PathMachine) (turn : Turn) (old : Shelf) (next : Next) (new : PathMachine) (after : Shelf) (before : ℕ) → m.arrived ≡ false
+follows-path : (step : WalkStep) (wsize : ℕ) (m : PathMachine) (turn : Turn) (old : Shelf) (next : Step) (new : PathMachine) (after : Shelf) (before : ℕ) → m.arrived ≡ false
     → WalkCounts step before (of_walk m.walk) → paths.Follows step wsize m turn old next new after → Stays next before None (flies_path new.arrived new.opener)
 follows-path (walks.Send call) wsize m turn old next new after before way c f = way-same next before m new way f.1
 follows-path walks.Wait wsize m turn old next new after before way c f = way-same next before m new way f.1
 follows-path (walks.At dir) wsize m turn old next new after before way c f = none-left next before None (flies_path new.arrived new.opener) c.0
 follows-path (walks.Refused fault) wsize m turn old next new after before way c f = way-same next before m new way f.1
 
-path-resumes : (b : Bool) (wsize : ℕ) (m : PathMachine) (turn : Turn) (old : Shelf) (next : Next) (new : PathMachine) (after : Shelf) → m.arrived ≡ b
+path-resumes : (b : Bool) (wsize : ℕ) (m : PathMachine) (turn : Turn) (old : Shelf) (next : Step) (new : PathMachine) (after : Shelf) → m.arrived ≡ b
     → paths.PathResumes b wsize m turn old next new after → Stays next (of_path m) (flies_path b m.opener) (flies_path new.arrived new.opener)
 path-resumes true wsize m turn old next new after is r =
     path-as next (of_path m) (flies_file (file_of m.opener)) m r.opener new is r.machine_is
@@ -449,7 +449,7 @@ path-resumes false wsize m turn old next new after is r =
     (follows-path (walking.go_next m.walk turn old) wsize (record m { walk = walking.go_after m.walk turn old }) turn (walking.go_shelf m.walk turn old) next new after
     (of_walk m.walk) is (walk-counts m.walk turn old) r)
 
-path-takes : (b : Bool) (wsize : ℕ) (m : PathMachine) (sent turn : Turn) (came : Result Reply Fault) (old : Shelf) (next : Next) (new : PathMachine) (after : Shelf) (others : ℕ)
+path-takes : (b : Bool) (wsize : ℕ) (m : PathMachine) (sent turn : Turn) (came : Result Reply Fault) (old : Shelf) (next : Step) (new : PathMachine) (after : Shelf) (others : ℕ)
     → m.arrived ≡ b → of_path m ≡ others + 1 → paths.PathTakes b wsize m sent turn came old next new after → Stays next others (flies_path b m.opener) (flies_path new.arrived new.opener)
 path-takes true wsize m sent turn came old next new after others is one t =
     path-as next others (flies_file (file_of m.opener)) m t.opener new is t.machine_is
@@ -458,7 +458,7 @@ path-takes false wsize m sent turn came old next new after others is one t =
     let took = walk-takes m.walk sent turn came old t.step t.walked.walk t.heard others (sym (path-walk m is) ∙ one) t.takes in
     none-left next others None (flies_path new.arrived new.opener) took.none
 
-pub resumes-stay : (m : Machine) (wsize : ℕ) (turn : Turn) (old : Shelf) (next : Next) (new : Machine) (after : Shelf) → Resumes wsize m turn old next new after
+pub resumes-stay : (m : Machine) (wsize : ℕ) (turn : Turn) (old : Shelf) (next : Step) (new : Machine) (after : Shelf) → Resumes wsize m turn old next new after
     → Stays next (in_flight m) (flies_of m) (flies_of new)
 resumes-stay (machines.File m) wsize turn old next new after s =
     subst (λ (n : Machine). Stays next (calls_of m) (flies_file m) (flies_of n)) (sym s.machine_is) (file-resumes m wsize turn old next s.machine after s.step)
@@ -468,7 +468,7 @@ resumes-stay (machines.Path m) wsize turn old next new after s =
 resumes-stay (machines.Name m) wsize turn old next new after s =
     subst (λ (n : Machine). Stays next (in_flight (machines.Name m)) None (flies_of n)) (sym s.machine_is) (same-left next (in_flight (machines.Name m)) None None refl)
 
-pub takes-stay : (m : Machine) (wsize : ℕ) (sent turn : Turn) (came : Result Reply Fault) (old : Shelf) (next : Next) (new : Machine) (after : Shelf) (others : ℕ)
+pub takes-stay : (m : Machine) (wsize : ℕ) (sent turn : Turn) (came : Result Reply Fault) (old : Shelf) (next : Step) (new : Machine) (after : Shelf) (others : ℕ)
     → in_flight m ≡ others + 1 → Takes wsize m sent turn came old next new after → Stays next others (flies_of m) (flies_of new)
 takes-stay (machines.File m) wsize sent turn came old next new after others one s =
     subst (λ (n : Machine). Stays next others (flies_file m) (flies_of n)) (sym s.machine_is) (file-takes m wsize sent turn came old next s.machine after others one s.step)

@@ -1,5 +1,5 @@
 -- Along a history the bytes in flight under an xid are of the operation whose call waits under it.
-use Rattle.core_facts.proofs.Prelude.{◌≡◌, ◌≢◌, ◌≤◌, ◌<◌, ◌+◌, ◌-◌, ◌⊎◌, inl, inr, ℕ, zero, suc, List, [], ◌∷◌, ◌++◌, length, remove, Bool, true, false, nat_eq, Option, Some, None, option_map, position, slice_get, slice_set, Result, Err, refl, sym, ap, subst, ◌∙◌, arith, eqb-true, eqb-false, eq-eqb, ne_eqb, Waiting, Held, next_xid, waiting_at, without, at_made, others_made, others_taken, gone, Answer, Fault, Entry, Began, Reply, Op, Pending, of_file, said_of, Next, Send, Wait, Done, Shelf, Turn, Saving, IsUnused, Mounted, Machine, Opener, machine_of, file_of, Starts, Resumes, Takes, Lane, Purpose, State, Busy, Over, Setup, is_busy, with_state, IsRefused, Leads, Stirs, counted, StartsLane, TakesAt, View, turn_at, unmade_turn, in_flight, Counts, where_, calls_for}
+use Rattle.core_facts.proofs.Prelude.{◌≡◌, ◌≢◌, ◌≤◌, ◌<◌, ◌+◌, ◌-◌, ◌⊎◌, inl, inr, ℕ, zero, suc, List, [], ◌∷◌, ◌++◌, length, remove, Bool, true, false, nat_eq, Option, Some, None, option_map, position, slice_get, slice_set, Result, Err, refl, sym, ap, subst, ◌∙◌, arith, eqb-true, eqb-false, eq-eqb, ne_eqb, Waiting, Held, next_xid, waiting_at, without, at_made, others_made, others_taken, gone, Answer, Fault, Entry, Began, Reply, Op, Pending, of_file, said_of, Step, Send, Wait, Done, Shelf, Turn, Saving, IsUnused, Mounted, Machine, Opener, machine_of, file_of, Starts, Resumes, Takes, Lane, Purpose, State, Busy, Over, Setup, is_busy, with_state, IsRefused, Leads, Stirs, counted, StartsLane, TakesAt, View, turn_at, unmade_turn, in_flight, Counts, where_, calls_for}
 use Rattle.rpc_retry.proofs.Lookups.{waits_early}
 use Rattle.rpc_message.specs.declared.cred.Cred.{Cred}
 use Rattle.rpc_retry.specs.Sound.{AreSound}
@@ -91,7 +91,7 @@ all-any P M all (machines.File m) back h = has-all P M all m back h
 all-any P M all (machines.Path m) back h = path-any P M all m.arrived m.opener back h
 all-any P M all (machines.Name m) back h = h
 
-left-any : (P : Pending → Type 0) (next : Next) (m : Machine) (back : Pending) → LeftAs P (HasAll P (λ s b. P b)) AnyCall next m back → P back
+left-any : (P : Pending → Type 0) (next : Step) (m : Machine) (back : Pending) → LeftAs P (HasAll P (λ s b. P b)) AnyCall next m back → P back
 left-any P (Send call) m back l = all-any P (λ s b. P b) (λ s b p. p) m back l.0
 left-any P Wait m back l = l
 left-any P (Done answer) m back l = l
@@ -100,7 +100,7 @@ any-call : (call : _) → AnyCall call
 any-call call = tt
 
 module _ (wsize : ℕ) (turn : Turn) (y : ℕ) (foreign : IsForeign y turn.xid turn.room) where
-  starts-pass : (m : Machine) (old : Shelf) (next : Next) (new : Machine) (after : Shelf) → Starts wsize m turn old next new after → Passes y old.back after.back
+  starts-pass : (m : Machine) (old : Shelf) (next : Step) (new : Machine) (after : Shelf) → Starts wsize m turn old next new after → Passes y old.back after.back
   starts-pass m old next new after r = record {
     none = λ file n. left-any (AtFile file (IsNone y)) next new after.back
         (all-starts wsize turn (AtFile file (IsNone y)) (λ s b. AtFile file (IsNone y) b) AnyCall any-call
@@ -110,7 +110,7 @@ module _ (wsize : ℕ) (turn : Turn) (y : ℕ) (foreign : IsForeign y turn.xid t
         (carries-file y (IsAlone y) (of-alone y) file wsize turn foreign) m old next new after n r);
   }
 
-  resumes-pass : (m : Machine) (old : Shelf) (next : Next) (new : Machine) (after : Shelf) → Resumes wsize m turn old next new after → Passes y old.back after.back
+  resumes-pass : (m : Machine) (old : Shelf) (next : Step) (new : Machine) (after : Shelf) → Resumes wsize m turn old next new after → Passes y old.back after.back
   resumes-pass m old next new after r = record {
     none = λ file n. left-any (AtFile file (IsNone y)) next new after.back
         (all-resumes wsize turn (AtFile file (IsNone y)) (λ s b. AtFile file (IsNone y) b) AnyCall any-call
@@ -120,7 +120,7 @@ module _ (wsize : ℕ) (turn : Turn) (y : ℕ) (foreign : IsForeign y turn.xid t
         (carries-file y (IsAlone y) (of-alone y) file wsize turn foreign) m old next new after n r);
   }
 
-  takes-pass : (sent : Turn) (came : Result Reply Fault) (m : Machine) (old : Shelf) (next : Next) (new : Machine) (after : Shelf)
+  takes-pass : (sent : Turn) (came : Result Reply Fault) (m : Machine) (old : Shelf) (next : Step) (new : Machine) (after : Shelf)
       → Takes wsize m sent turn came old next new after → Passes y old.back after.back
   takes-pass sent came m old next new after r = record {
     none = λ file n. left-any (AtFile file (IsNone y)) next new after.back
@@ -137,30 +137,30 @@ module _ (wsize : ℕ) (turn : Turn) (y : ℕ) (foreign : IsForeign y turn.xid t
 
 -- ---- what comes under the xid of the step
 
-abbrev pub Own : Next → ℕ → Machine → Pending → Type 0
+abbrev pub Own : Step → ℕ → Machine → Pending → Type 0
 Own (Send call) xid machine back = Flies xid (flies_of machine) back
 Own Wait xid machine back = IsUnused xid back
 Own (Done answer) xid machine back = IsUnused xid back
 
-own-left : (next : Next) (xid : ℕ) (m : Machine) (back : Pending) → LeftAs (λ b. IsUnused xid b) (HasAll (λ b. IsUnused xid b) (Mine xid)) AnyCall next m back → Own next xid m back
+own-left : (next : Step) (xid : ℕ) (m : Machine) (back : Pending) → LeftAs (λ b. IsUnused xid b) (HasAll (λ b. IsUnused xid b) (Mine xid)) AnyCall next m back → Own next xid m back
 own-left (Send call) xid m back l = has-flies xid back m l.0
 own-left Wait xid m back l = l
 own-left (Done answer) xid m back l = l
 
 module _ (wsize : ℕ) (turn : Turn) where
-  starts-own : (m : Machine) (old : Shelf) (next : Next) (new : Machine) (after : Shelf) → IsUnused turn.xid old.back → Starts wsize m turn old next new after
+  starts-own : (m : Machine) (old : Shelf) (next : Step) (new : Machine) (after : Shelf) → IsUnused turn.xid old.back → Starts wsize m turn old next new after
       → Own next turn.xid new after.back
   starts-own m old next new after free r =
       own-left next turn.xid new after.back
       (all-starts wsize turn (λ b. IsUnused turn.xid b) (Mine turn.xid) AnyCall any-call (carries-mine wsize turn) m old next new after free r)
 
-  resumes-own : (m : Machine) (old : Shelf) (next : Next) (new : Machine) (after : Shelf) → IsUnused turn.xid old.back → Resumes wsize m turn old next new after
+  resumes-own : (m : Machine) (old : Shelf) (next : Step) (new : Machine) (after : Shelf) → IsUnused turn.xid old.back → Resumes wsize m turn old next new after
       → Own next turn.xid new after.back
   resumes-own m old next new after free r =
       own-left next turn.xid new after.back
       (all-resumes wsize turn (λ b. IsUnused turn.xid b) (Mine turn.xid) AnyCall any-call (carries-mine wsize turn) m old next new after free r)
 
-  takes-own : (sent : Turn) (came : Result Reply Fault) (m : Machine) (old : Shelf) (next : Next) (new : Machine) (after : Shelf) → IsUnused turn.xid old.back
+  takes-own : (sent : Turn) (came : Result Reply Fault) (m : Machine) (old : Shelf) (next : Step) (new : Machine) (after : Shelf) → IsUnused turn.xid old.back
       → Takes wsize m sent turn came old next new after → Own next turn.xid new after.back
   takes-own sent came m old next new after free r =
       own-left next turn.xid new after.back
@@ -168,7 +168,7 @@ module _ (wsize : ℕ) (turn : Turn) where
       (replies-mine wsize sent turn came) m old next new after (any-all (λ b. IsUnused turn.xid b) (UnusedSave turn.xid) (λ s b p. p) m old.back free) r)
 
   -- the call that is answered leaves nothing
-  takes-free : (sent : Turn) (came : Result Reply Fault) (m : Machine) (old : Shelf) (next : Next) (new : Machine) (after : Shelf) → IsForeign sent.xid turn.xid turn.room
+  takes-free : (sent : Turn) (came : Result Reply Fault) (m : Machine) (old : Shelf) (next : Step) (new : Machine) (after : Shelf) → IsForeign sent.xid turn.xid turn.room
       → Flies sent.xid (flies_of m) old.back → Takes wsize m sent turn came old next new after → IsUnused sent.xid after.back
   takes-free sent came m old next new after foreign f r =
       left-any (λ b. IsUnused sent.xid b) next new after.back
@@ -224,7 +224,7 @@ module _ (cred : Cred) (low next : ℕ) (es : List (ℕ × Waiting Purpose)) (so
 
 -- ---- the operation of the lane at a place made a step, and what that leads to is still to come
 
-pub record Owes (v : View) (at number before : ℕ) (machine : Machine) (base : ℕ → Option (List ℕ)) (next : Next) : Type 0 where
+pub record Owes (v : View) (at number before : ℕ) (machine : Machine) (base : ℕ → Option (List ℕ)) (next : Step) : Type 0 where
   pub there : slice_get v.lanes at ≡ Some (record { number = number; state = Busy machine })
   pub apart : AreApart v.lanes
   pub agrees : (n : ℕ) → n ≢ number → base n ≡ look_at v.lanes n
@@ -236,7 +236,7 @@ pub record Owes (v : View) (at number before : ℕ) (machine : Machine) (base : 
   pub mine : (y : ℕ) (p : Purpose) → purpose_at y v.calls.calls ≡ Some p → p.lane ≡ number → WhileGoing next (Flies y (flies_of machine) v.shelf.back)
   pub own : Own next (next_xid v.calls) machine v.shelf.back
 
-module _ (v : View) (at number before : ℕ) (machine : Machine) (base : ℕ → Option (List ℕ)) (next : Next) (o : Owes v at number before machine base next) where
+module _ (v : View) (at number before : ℕ) (machine : Machine) (base : ℕ → Option (List ℕ)) (next : Step) (o : Owes v at number before machine base next) where
   own-look : look_at v.lanes number ≡ flies_of machine
   own-look = look-at flies_state v.lanes at number (Busy machine) o.apart o.there
 
@@ -311,7 +311,7 @@ made-flown v new at number before machine base call w o lane sent lanes shelf ca
         ap (λ (q : Purpose). q.sent.xid) is ∙ sent ∙ sym same
     sents y false d p e = o.sents y p (sym (other-at y (eqb-false y next d)) ∙ e)
 
-leads-flown : (v new : View) (at number before : ℕ) (machine : Machine) (base : ℕ → Option (List ℕ)) (next : Next) → Owes v at number before machine base next
+leads-flown : (v new : View) (at number before : ℕ) (machine : Machine) (base : ℕ → Option (List ℕ)) (next : Step) → Owes v at number before machine base next
     → Counts next before machine → Leads v at number machine next new → Flown new
 leads-flown v new at number before machine base (Send call) o c (inl m) =
     made-flown v new at number before machine base call _ o refl refl (ap (λ (w : View). w.lanes) m.is) (ap (λ (w : View). w.shelf) m.is) (ap (λ (w : View). w.calls.calls) m.is)
@@ -333,7 +333,7 @@ leads-flown v new at number before machine base (Send call) o c (inr r) =
         → Flies y (sender base (purpose_at y v.calls.calls)) r.left.back
     others y other waits = passes-flies y (sender base (purpose_at y v.calls.calls)) v.shelf.back r.left.back (passes y) (o.others y other waits)
 
-    by : (next : Next) (state : State) → Stays next before (flies_of machine) (flies_of r.after) → Counts next before r.after → IsRefused r.after next state
+    by : (next : Step) (state : State) → Stays next before (flies_of machine) (flies_of r.after) → Counts next before r.after → IsRefused r.after next state
         → Flown (with_state v at number state r.left)
     by (Send again) state k n is = absurd is
     by Wait state k n is =
@@ -361,7 +361,7 @@ leads-flown v new at number before machine base (Done answer) o c is =
 -- ---- the steps of lanes
 
 -- what is in flight for a lane's own calls, while it stays on the same file
-stays-mine : (next : Next) (others y : ℕ) (was now : Option (List ℕ)) (old new : Pending) → Stays next others was now → 1 ≤ others → Passes y old new → Flies y was old
+stays-mine : (next : Step) (others y : ℕ) (was now : Option (List ℕ)) (old new : Pending) → Stays next others was now → 1 ≤ others → Passes y old new → Flies y was old
     → WhileGoing next (Flies y now new)
 stays-mine (Send call) others y was now old new k some p f = subst (λ (s : Option (List ℕ)). Flies y s new) (sym (k some)) (passes-flies y was old new p f)
 stays-mine Wait others y was now old new k some p f = subst (λ (s : Option (List ℕ)). Flies y s new) (sym (k some)) (passes-flies y was old new p f)

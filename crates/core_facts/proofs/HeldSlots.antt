@@ -1,5 +1,5 @@
 -- An operation on a slot goes on only where the slot holds an open for it, as it begins.
-use Rattle.core_facts.proofs.Prelude.{◌≡◌, ◌⊎◌, inl, inr, ℕ, Bool, true, false, List, [], ◌∷◌, ◌++◌, length, Option, Some, None, option_map, Result, Ok, Err, refl, sym, ap, subst, ◌∙◌, arith, append_assoc, Mode, Opened, Answer, Fault, Value, Entry, Began, Op, At, Modes, Ended, can_write, slot_of, At-grow, At-below, At-last, At-one, Next, Shelf, Turn, CloseFile, Closing, ReadFile, Reading, SyncFile, Syncing, TruncateFile, WriteFile, Pages, Pending, Mounted, Machine, machine_of, Starts, State, Busy, Over, Setup, View, Reaches}
+use Rattle.core_facts.proofs.Prelude.{◌≡◌, ◌⊎◌, inl, inr, ℕ, Bool, true, false, List, [], ◌∷◌, ◌++◌, length, Option, Some, None, option_map, Result, Ok, Err, refl, sym, ap, subst, ◌∙◌, arith, append_assoc, Mode, Opened, Answer, Fault, Value, Entry, Began, Op, At, Modes, Ended, can_write, slot_of, At-grow, At-below, At-last, At-one, Step, Shelf, Turn, CloseFile, Closing, ReadFile, Reading, SyncFile, Syncing, TruncateFile, WriteFile, Pages, Pending, Mounted, Machine, machine_of, Starts, State, Busy, Over, Setup, View, Reaches}
 use Rattle.claims.specs.Rights.{can_read}
 use Rattle.std.proofs.lemmas.List.{append-nil}
 use Rattle.std.specs.FinMap as finite
@@ -7,7 +7,7 @@ use Rattle.nfs_types.specs.declared.mode.Mode.TheVariants as modes
 use Rattle.world_model.specs.declared.answer.Answer.TheVariants as answers
 use Rattle.world_model.specs.declared.answer.Fault.TheVariants as faults
 use Rattle.world_model.specs.declared.op.Op.TheVariants as ops
-use Rattle.client_shelf.specs.declared.next.Next.TheVariants as nexts
+use Rattle.client_shelf.specs.declared.step.Step.TheVariants as nexts
 use Rattle.file_ops.specs.Closes as closes
 use Rattle.file_ops.specs.Opens.{of_open, in_mode}
 use Rattle.file_ops.specs.ReadFile as reads
@@ -62,13 +62,13 @@ always-later P step h (e ∷ more) p = subst P (append_assoc h (e ∷ []) more) 
 -- ---- its first step
 
 -- It goes on where the slot holds an open that is for it; else it is refused.
-pub data Goes (op : Op) (at : Option Opened) (next : Next) : Type 0 where
+pub data Goes (op : Op) (at : Option Opened) (next : Step) : Type 0 where
   goes_well : (o : Opened) → at ≡ Some o → may op o.mode ≡ true → Goes op at next
   finds_none : at ≡ None → next ≡ nexts.Done (answers.Refused faults.Slot) → Goes op at next
   finds_other : (o : Opened) → at ≡ Some o → may op o.mode ≡ false → next ≡ nexts.Done (answers.Refused faults.Mode) → Goes op at next
 
 -- a read
-read-begins : (at : Option Opened) (slot offset count moment : ℕ) (m : ReadFile) (back : Pending) (reading : Result Reading Fault) (room : Bool) (pages : Pages) (now : Pending) (next : Next) (new : ReadFile)
+read-begins : (at : Option Opened) (slot offset count moment : ℕ) (m : ReadFile) (back : Pending) (reading : Result Reading Fault) (room : Bool) (pages : Pages) (now : Pending) (next : Step) (new : ReadFile)
     (later : Pages) → reads.Begins (reads.begun_at at moment m back) reading → reads.StartsWith reading room m pages now next new later → Goes (ops.Read slot offset count) at next
 read-begins None slot offset count moment m back reading room pages now next new later b s =
     finds_none refl (subst (λ (r : Result Reading Fault). reads.StartsWith r room m pages now next new later) b s).step
@@ -99,30 +99,30 @@ finds-to-write (Some o) = by o.mode refl
     by modes.C is = to_write o refl (ap can_write is) (ap (λ (k : Mode). in_mode k o.file) is)
     by modes.X is = to_write o refl (ap can_write is) (ap (λ (k : Mode). in_mode k o.file) is)
 
-write-refused : (fault : Fault) (wsize : ℕ) (m : WriteFile) (turn : Turn) (old : Shelf) (next : Next) (new : WriteFile) (after : Shelf) (found : Result (List ℕ) Fault) → found ≡ Err fault
+write-refused : (fault : Fault) (wsize : ℕ) (m : WriteFile) (turn : Turn) (old : Shelf) (next : Step) (new : WriteFile) (after : Shelf) (found : Result (List ℕ) Fault) → found ≡ Err fault
     → writes.StartsAt found wsize m turn old next new after → next ≡ nexts.Done (answers.Refused fault)
 write-refused fault wsize m turn old next new after found is s = (subst (λ (r : Result (List ℕ) Fault). writes.StartsAt r wsize m turn old next new after) is s).refuses.gives_next
 
-write-goes : (op : Op) (at : Option Opened) (wsize : ℕ) (m : WriteFile) (turn : Turn) (old : Shelf) (next : Next) (new : WriteFile) (after : Shelf) → ((mode : Mode) → may op mode ≡ can_write mode)
+write-goes : (op : Op) (at : Option Opened) (wsize : ℕ) (m : WriteFile) (turn : Turn) (old : Shelf) (next : Step) (new : WriteFile) (after : Shelf) → ((mode : Mode) → may op mode ≡ can_write mode)
     → FindsToWrite at (of_open at) → writes.StartsAt (of_open at) wsize m turn old next new after → Goes op at next
 write-goes op at wsize m turn old next new after same (to_write o is right found) s = goes_well o is (same o.mode ∙ right)
 write-goes op at wsize m turn old next new after same (to_none is found) s = finds_none is (write-refused faults.Slot wsize m turn old next new after (of_open at) found s)
 write-goes op at wsize m turn old next new after same (to_read o is right found) s =
     finds_other o is (same o.mode ∙ right) (write-refused faults.Mode wsize m turn old next new after (of_open at) found s)
 
-truncate-goes : (slot size : ℕ) (at : Option Opened) (m : TruncateFile) (turn : Turn) (old : Shelf) (next : Next) → FindsToWrite at (of_open at)
+truncate-goes : (slot size : ℕ) (at : Option Opened) (m : TruncateFile) (turn : Turn) (old : Shelf) (next : Step) → FindsToWrite at (of_open at)
     → next ≡ truncates.begun_next (of_open at) m turn old → Goes (ops.Truncate slot size) at next
 truncate-goes slot size at m turn old next (to_write o is right found) s = goes_well o is right
 truncate-goes slot size at m turn old next (to_none is found) s = finds_none is (s ∙ ap (λ (r : Result (List ℕ) Fault). truncates.begun_next r m turn old) found)
 truncate-goes slot size at m turn old next (to_read o is right found) s = finds_other o is right (s ∙ ap (λ (r : Result (List ℕ) Fault). truncates.begun_next r m turn old) found)
 
 -- a sync or a close
-sync-goes : (slot : ℕ) (at : Option Opened) (wsize : ℕ) (m : SyncFile) (turn : Turn) (old : Shelf) (next : Next) (state : Syncing) (new : Shelf)
+sync-goes : (slot : ℕ) (at : Option Opened) (wsize : ℕ) (m : SyncFile) (turn : Turn) (old : Shelf) (next : Step) (state : Syncing) (new : Shelf)
     → syncs.StartsAt (option_map (λ (o : Opened). o.file) at) wsize m turn old next state new → Goes (ops.Sync slot) at next
 sync-goes slot None wsize m turn old next state new s = finds_none refl s.next_is
 sync-goes slot (Some o) wsize m turn old next state new s = goes_well o refl refl
 
-close-goes : (slot : ℕ) (at : Option Opened) (wsize : ℕ) (m : CloseFile) (turn : Turn) (old : Shelf) (next : Next) (state : Closing) (new : Shelf)
+close-goes : (slot : ℕ) (at : Option Opened) (wsize : ℕ) (m : CloseFile) (turn : Turn) (old : Shelf) (next : Step) (state : Closing) (new : Shelf)
     → closes.StartsAt (option_map (λ (o : Opened). o.file) at) wsize m turn old next state new → Goes (ops.Close slot) at next
 close-goes slot None wsize m turn old next state new s = finds_none refl s.next_is
 close-goes slot (Some o) wsize m turn old next state new s = goes_well o refl refl
@@ -134,10 +134,10 @@ one-slot a b e = cc
 none-slot : (slot : ℕ) → None ≡ Some slot → ⊥
 none-slot slot e = cc
 
-at-slot : (op : Op) (lane a b : ℕ) (old : Shelf) (next : Next) → Some a ≡ Some b → Goes op (finite.get old.opens (lane, a)) next → Goes op (finite.get old.opens (lane, b)) next
+at-slot : (op : Op) (lane a b : ℕ) (old : Shelf) (next : Step) → Some a ≡ Some b → Goes op (finite.get old.opens (lane, a)) next → Goes op (finite.get old.opens (lane, b)) next
 at-slot op lane a b old next is g = subst (λ (s : ℕ). Goes op (finite.get old.opens (lane, s)) next) (one-slot a b is) g
 
-pub all-goes : (mounted : Mounted) (op : Op) (slot lane : ℕ) (wsize : ℕ) (turn : Turn) (old : Shelf) (next : Next) (new : Machine) (after : Shelf) → slot_of op ≡ Some slot
+pub all-goes : (mounted : Mounted) (op : Op) (slot lane : ℕ) (wsize : ℕ) (turn : Turn) (old : Shelf) (next : Step) (new : Machine) (after : Shelf) → slot_of op ≡ Some slot
     → Starts wsize (machine_of mounted lane op) turn old next new after → Goes op (finite.get old.opens (lane, slot)) next
 all-goes mounted (ops.Read k offset count) slot lane wsize turn old next new after is s =
     at-slot (ops.Read k offset count) lane k slot old next is
@@ -205,18 +205,18 @@ answer-held : (m : Modes) (h : List Entry) (x : ℕ) (op : Op) (answer : Answer)
 answer-held m h x op (answers.Done value) k = k
 answer-held m h x op (answers.Refused fault) k = tt
 
-then-held : (m : Modes) (h : List Entry) (x : ℕ) (op : Op) (next : Next) (new : Machine) → ((slot : ℕ) → slot_of op ≡ Some slot → Held m h x op)
+then-held : (m : Modes) (h : List Entry) (x : ℕ) (op : Op) (next : Step) (new : Machine) → ((slot : ℕ) → slot_of op ≡ Some slot → Held m h x op)
     → ThenOf (λ k. HeldStory m h x op (Busy k)) (λ a. HeldStory m h x op (Over a)) next new
 then-held m h x op (nexts.Send call) new k = k
 then-held m h x op nexts.Wait new k = k
 then-held m h x op (nexts.Done answer) new k = λ slot is. answer-held m h x op answer (k slot is)
 
 -- at its first step
-then-begins : (m : Modes) (h : List Entry) (x : ℕ) (op : Op) (next : Next) (new : Machine) → ((slot : ℕ) → slot_of op ≡ Some slot → Held m h x op ⊎ ((fault : Fault) × (next ≡ nexts.Done (answers.Refused fault))))
+then-begins : (m : Modes) (h : List Entry) (x : ℕ) (op : Op) (next : Step) (new : Machine) → ((slot : ℕ) → slot_of op ≡ Some slot → Held m h x op ⊎ ((fault : Fault) × (next ≡ nexts.Done (answers.Refused fault))))
     → ThenOf (λ k. HeldStory m h x op (Busy k)) (λ a. HeldStory m h x op (Over a)) next new
 then-begins m h x op next new k = by next refl
   where
-    by : (n : Next) → next ≡ n → ThenOf (λ k. HeldStory m h x op (Busy k)) (λ a. HeldStory m h x op (Over a)) n new
+    by : (n : Step) → next ≡ n → ThenOf (λ k. HeldStory m h x op (Busy k)) (λ a. HeldStory m h x op (Over a)) n new
     by (nexts.Send call) is = λ slot on. elim (k slot on) [
       | inl held ↦ held
       | inr refused ↦ absurd (let no_way : nexts.Send call ≡ nexts.Done (answers.Refused refused.0) = sym is ∙ refused.1 in cc)
@@ -231,7 +231,7 @@ then-begins m h x op next new k = by next refl
     ]
     by (nexts.Done (answers.Refused fault)) is = λ slot on. tt
 
-goes-held : (m : Modes) (h : List Entry) (lane line slot : ℕ) (op : Op) (old : Shelf) (next : Next) → Given m h lane old → slot_of op ≡ Some slot → Goes op (finite.get old.opens (lane, slot)) next
+goes-held : (m : Modes) (h : List Entry) (lane line slot : ℕ) (op : Op) (old : Shelf) (next : Step) → Given m h lane old → slot_of op ≡ Some slot → Goes op (finite.get old.opens (lane, slot)) next
     → Held m (h ++ Began lane line op ∷ []) (length h) op ⊎ ((fault : Fault) × (next ≡ nexts.Done (answers.Refused fault)))
 goes-held m h lane line slot op old next given on (goes_well o is right) = inl (held-begins m h lane line slot op o old given on is right)
 goes-held m h lane line slot op old next given on (finds_none is ends) = inr (faults.Slot, ends)

@@ -1,5 +1,5 @@
 -- A walk leads along its path: by names that are kept, each of which a LOOKUP was answered with, and by the replies to its own.
-use Rattle.core_facts.proofs.Prelude.{◌≡◌, ◌<◌, ◌≤◌, ◌+◌, ◌-◌, ℕ, zero, suc, Bool, true, false, List, [], ◌∷◌, ◌++◌, length, take, Option, Some, None, Result, Ok, Err, slice_get, refl, sym, ap, subst, ◌∙◌, arith, cases_lt, if◌then◌else◌, Attr, DirKept, Fault, Entry, Call, Reply, Asked, Rooted, Asked-wide, length_last, Shelf, Turn, Walk, WalkNext, look_up, found_by, look_again}
+use Rattle.core_facts.proofs.Prelude.{◌≡◌, ◌<◌, ◌≤◌, ◌+◌, ◌-◌, ℕ, zero, suc, Bool, true, false, List, [], ◌∷◌, ◌++◌, length, take, Option, Some, None, Result, Ok, Err, slice_get, refl, sym, ap, subst, ◌∙◌, arith, cases_lt, if◌then◌else◌, Attr, DirKept, Fault, Entry, Call, Reply, Asked, Rooted, Asked-wide, length_last, Shelf, Turn, Walk, WalkStep, look_up, found_by, look_again}
 use Rattle.std.proofs.Common.{All}
 use Rattle.world_model.specs.Mounts.{Origin, Given}
 use Rattle.world_model.proofs.Growth.{Asked-grow}
@@ -211,7 +211,7 @@ module _ (top : List ℕ) where
   name-of true w name is = is
   name-of false w name is = absurd (cc)
 
-  took-name : (h : List Entry) (path : List (List ℕ)) (o : Option (List ℕ)) (w : Walk) (sent turn : Turn) (came : Result Reply Fault) (old : Shelf) (next : WalkNext) (new : Walk) (after : Shelf)
+  took-name : (h : List Entry) (path : List (List ℕ)) (o : Option (List ℕ)) (w : Walk) (sent turn : Turn) (came : Result Reply Fault) (old : Shelf) (next : WalkStep) (new : Walk) (after : Shelf)
       (call : Call) → walking.waiting_name w ≡ o → NamesTold h old.names → WalkLeads h path w → WalkAwaits w call → IsHeard h came call
       → walking.Takes o w sent turn came old next new after → WalkLeads h path new
   took-name h path None w sent turn came old next new after call is t l e heard k = subst (WalkLeads h path) (sym k.walk_is) l
@@ -222,7 +222,7 @@ module _ (top : List ℕ) where
       (followed-leads (look_again sent turn came old) h path w name came turn k.heard known l (name-of w.asked w name is)
       (subst (IsHeard h came) this heard))
 
-  pub took-leads : (h : List Entry) (path : List (List ℕ)) (w : Walk) (sent turn : Turn) (came : Result Reply Fault) (old : Shelf) (next : WalkNext) (new : Walk) (after : Shelf) (call : Call)
+  pub took-leads : (h : List Entry) (path : List (List ℕ)) (w : Walk) (sent turn : Turn) (came : Result Reply Fault) (old : Shelf) (next : WalkStep) (new : Walk) (after : Shelf) (call : Call)
       → NamesTold h old.names → WalkLeads h path w → WalkAwaits w call → IsHeard h came call → walking.Takes (walking.waiting_name w) w sent turn came old next new after
       → WalkLeads h path new
   took-leads h path w sent turn came old next new after call t l e heard k =

@@ -1,5 +1,5 @@
 -- An operation is answered that the session is lost only where the history shows it.
-use Rattle.core_facts.proofs.Prelude.{◌≤◌, ℕ, List, [], ◌∷◌, ◌++◌, length, Result, Ok, Err, sym, subst, arith, append_assoc, DirKept, FileKept, Answer, Refused, Fault, Reply, Entry, Op, IsLost, length_last, Next, Mounted, Machine, machine_of, State, Busy, Over}
+use Rattle.core_facts.proofs.Prelude.{◌≤◌, ℕ, List, [], ◌∷◌, ◌++◌, length, Result, Ok, Err, sym, subst, arith, append_assoc, DirKept, FileKept, Answer, Refused, Fault, Reply, Entry, Op, IsLost, length_last, Step, Mounted, Machine, machine_of, State, Busy, Over}
 use Rattle.world_model.specs.declared.answer.Answer.TheVariants.{Done}
 use Rattle.world_model.specs.Lost.{Loses}
 use Rattle.std.proofs.lemmas.List.{append-nil}
@@ -7,7 +7,7 @@ use Rattle.nfs_dir_calls.specs.declared.keeping.DirKept.TheVariants as found
 use Rattle.nfs_file_calls.specs.declared.owned.FileKept.TheVariants as kept
 use Rattle.world_model.specs.declared.answer.Fault.TheVariants as faults
 use Rattle.world_model.specs.declared.message.Reply.TheVariants as replies
-use Rattle.client_shelf.specs.declared.next.Next.TheVariants as nexts
+use Rattle.client_shelf.specs.declared.step.Step.TheVariants as nexts
 use Rattle.core_facts.specs.Lanes.{LostAnswersShown}
 use Rattle.core_facts.proofs.AllCounts.{begins-unbegun}
 use Rattle.core_facts.proofs.AllFaults as steps
@@ -100,7 +100,7 @@ fine-shown h (Refused faults.Kind) f = tt
 fine-shown h (Refused faults.Many) f = tt
 fine-shown h (Refused faults.Memory) f = tt
 
-step-shown : (h : List Entry) (next : Next) (new : Machine) → steps.MachineStep NotLost own next new → ThenOf (λ m. StateShown h (Busy m)) (λ a. StateShown h (Over a)) next new
+step-shown : (h : List Entry) (next : Step) (new : Machine) → steps.MachineStep NotLost own next new → ThenOf (λ m. StateShown h (Busy m)) (λ a. StateShown h (Over a)) next new
 step-shown h (nexts.Send call) new s = s.1
 step-shown h nexts.Wait new s = s.1
 step-shown h (nexts.Done answer) new s = fine-shown h answer s.0

@@ -1,7 +1,7 @@
 -- A step of an operation on names leaves the table of opens as it is.
-use Rattle.core_facts.proofs.Prelude.{◌≡◌, ℕ, Bool, true, false, List, Option, Some, None, Result, Ok, Err, inl, inr, refl, ap, ◌∙◌, if◌then◌else◌, Attr, Fault, Value, Call, Reply, Next, Shelf, Turn, ListDir, Stat, SymLink, Told, Visit, Walk, WalkNext, found_by, look_again, text_call, TakesText, TakesShow, sym_link_call, sym_linked_told, ChangesByCopy, TakesSymLink, Link, Pair, PairNext, Deed, Look, Seek, Move, RemoveFile, Rename, access_call, access_attr, access_told, deed_call, deed_told, TakesLink, TakesRename, NameMachine}
+use Rattle.core_facts.proofs.Prelude.{◌≡◌, ℕ, Bool, true, false, List, Option, Some, None, Result, Ok, Err, inl, inr, refl, ap, ◌∙◌, if◌then◌else◌, Attr, Fault, Value, Call, Reply, Step, Shelf, Turn, ListDir, Stat, SymLink, Told, Visit, Walk, WalkStep, found_by, look_again, text_call, TakesText, TakesShow, sym_link_call, sym_linked_told, ChangesByCopy, TakesSymLink, Link, Pair, PairStep, Deed, Look, Seek, Move, RemoveFile, Rename, access_call, access_attr, access_told, deed_call, deed_told, TakesLink, TakesRename, NameMachine}
 use Rattle.name_ops.specs.declared.remove_file.Deed.TheVariants.{Remove}
-use Rattle.name_ops.specs.declared.walk.WalkNext.TheVariants as walks
+use Rattle.name_ops.specs.declared.walk.WalkStep.TheVariants as walks
 use Rattle.name_ops.specs.Changing as changing
 use Rattle.name_ops.specs.ListDir as listing
 use Rattle.name_ops.specs.Stat as stats
@@ -25,7 +25,7 @@ followed-opens : (busy : Bool) (told : Result (List ℕ) Fault) (w : Walk) (turn
 followed-opens true told w turn shelf = refl
 followed-opens false told w turn shelf = told-opens told w turn shelf
 
-pub walk-opens : (name : Option (List ℕ)) (w : Walk) (sent turn : Turn) (came : Result Reply Fault) (old : Shelf) (step : WalkNext) (new : Walk) (after : Shelf)
+pub walk-opens : (name : Option (List ℕ)) (w : Walk) (sent turn : Turn) (came : Result Reply Fault) (old : Shelf) (step : WalkStep) (new : Walk) (after : Shelf)
     → walking.Takes name w sent turn came old step new after → after.opens ≡ old.opens
 walk-opens None w sent turn came old step new after t = ap (λ (k : Shelf). k.opens) t.shelf_is
 walk-opens (Some name) w sent turn came old step new after t =
@@ -38,27 +38,27 @@ if-opens false one other old f g = g
 visit-opens : (v : Visit) (turn : Turn) (old after : Shelf) → after ≡ visiting.visit_shelf v turn old → after.opens ≡ old.opens
 visit-opens v turn old after is = ap (λ (k : Shelf). k.opens) is ∙ if-opens v.asked old (walking.go_shelf v.walk turn old) old refl refl
 
-walks-opens : (call : List ℕ → Call) (v : Visit) (sent turn : Turn) (came : Result Reply Fault) (old : Shelf) (next : Next) (new : Visit) (after : Shelf)
+walks-opens : (call : List ℕ → Call) (v : Visit) (sent turn : Turn) (came : Result Reply Fault) (old : Shelf) (next : Step) (new : Visit) (after : Shelf)
     → visiting.Walks call v sent turn came old next new after → after.opens ≡ old.opens
 walks-opens call v sent turn came old next new after w =
     walk-opens (walking.waiting_name v.walk) v.walk sent turn came old w.takes.step w.takes.walked.walk after w.takes.takes
 
-change-opens : (asked : Bool) (call : List ℕ → Call) (told : Told) (v : Visit) (sent turn : Turn) (came : Result Reply Fault) (old : Shelf) (next : Next) (new : Visit) (after : Shelf)
+change-opens : (asked : Bool) (call : List ℕ → Call) (told : Told) (v : Visit) (sent turn : Turn) (came : Result Reply Fault) (old : Shelf) (next : Step) (new : Visit) (after : Shelf)
     → changing.TakesChange asked call told v sent turn came old next new after → after.opens ≡ old.opens
 change-opens true call told v sent turn came old next new after t = ap (λ (k : Shelf). k.opens) t.1.others
 change-opens false call told v sent turn came old next new after t = walks-opens call v sent turn came old next new after t
 
-show-opens : (asked : Bool) (call : List ℕ → Call) (attr : Option Attr) (told : Result Value Fault) (v : Visit) (sent turn : Turn) (came : Result Reply Fault) (old : Shelf) (next : Next)
+show-opens : (asked : Bool) (call : List ℕ → Call) (attr : Option Attr) (told : Result Value Fault) (v : Visit) (sent turn : Turn) (came : Result Reply Fault) (old : Shelf) (next : Step)
     (new : Visit) (after : Shelf) → TakesShow asked call attr told v sent turn came old next new after → after.opens ≡ old.opens
 show-opens true call attr told v sent turn came old next new after t = ap (λ (k : Shelf). k.opens) t.1.others
 show-opens false call attr told v sent turn came old next new after t = walks-opens call v sent turn came old next new after t
 
-text-opens : (asked : Bool) (v : Visit) (sent turn : Turn) (came : Result Reply Fault) (old : Shelf) (next : Next) (new : Visit) (after : Shelf)
+text-opens : (asked : Bool) (v : Visit) (sent turn : Turn) (came : Result Reply Fault) (old : Shelf) (next : Step) (new : Visit) (after : Shelf)
     → TakesText asked v sent turn came old next new after → after.opens ≡ old.opens
 text-opens true v sent turn came old next new after t = ap (λ (k : Shelf). k.opens) t.1.shows.others
 text-opens false v sent turn came old next new after t = walks-opens text_call v sent turn came old next new after t
 
-sym-opens : (asked : Bool) (m : SymLink) (sent turn : Turn) (came : Result Reply Fault) (old : Shelf) (next : Next) (new : Visit) (after : Shelf)
+sym-opens : (asked : Bool) (m : SymLink) (sent turn : Turn) (came : Result Reply Fault) (old : Shelf) (next : Step) (new : Visit) (after : Shelf)
     → TakesSymLink asked m sent turn came old next new after → after.opens ≡ old.opens
 sym-opens true m sent turn came old next new after t = by t.1
   where
@@ -68,19 +68,19 @@ sym-opens true m sent turn came old next new after t = by t.1
 sym-opens false m sent turn came old next new after t =
     walk-opens (walking.waiting_name m.visit.walk) m.visit.walk sent turn came old t.takes.step t.takes.walked.walk after t.takes.takes
 
-stat-opens : (asked : Bool) (m : Stat) (sent turn : Turn) (came : Result Reply Fault) (old : Shelf) (next : Next) (new : Stat) (after : Shelf)
+stat-opens : (asked : Bool) (m : Stat) (sent turn : Turn) (came : Result Reply Fault) (old : Shelf) (next : Step) (new : Stat) (after : Shelf)
     → stats.StatTakes asked m sent turn came old next new after → after.opens ≡ old.opens
 stat-opens true m sent turn came old next new after t = ap (λ (k : Shelf). k.opens) t.1.others
 stat-opens false m sent turn came old next new after t = walk-opens (walking.waiting_name m.walk) m.walk sent turn came old t.step t.walked.walk after t.takes
 
-list-opens : (asked : Bool) (m : ListDir) (sent turn : Turn) (came : Result Reply Fault) (old : Shelf) (next : Next) (new : ListDir) (after : Shelf)
+list-opens : (asked : Bool) (m : ListDir) (sent turn : Turn) (came : Result Reply Fault) (old : Shelf) (next : Step) (new : ListDir) (after : Shelf)
     → listing.TakesList asked m sent turn came old next new after → after.opens ≡ old.opens
 list-opens true m sent turn came old next new after t = ap (λ (k : Shelf). k.opens) t.others
 list-opens false m sent turn came old next new after t = walks-opens (listing.page_call m.place) m.visit sent turn came old next t.visit after t.walks
 
 -- ---- two walks
 
-first-opens : (step : WalkNext) (p : Pair) (turn : Turn) (shelf : Shelf) → (pairs.first_shelf step p turn shelf).opens ≡ shelf.opens
+first-opens : (step : WalkStep) (p : Pair) (turn : Turn) (shelf : Shelf) → (pairs.first_shelf step p turn shelf).opens ≡ shelf.opens
 first-opens (walks.Send call) p turn shelf = refl
 first-opens walks.Wait p turn shelf = refl
 first-opens (walks.At first) p turn shelf = refl
@@ -90,25 +90,25 @@ pair-opens : (p : Pair) (turn : Turn) (old after : Shelf) → after ≡ pairs.pa
 pair-opens p turn old after is = ap (λ (k : Shelf). k.opens) is
     ∙ if-opens (pairs.waits p) old (pairs.on_shelf p turn old) old refl (first-opens (walking.go_next p.first turn old) (pairs.walked_first p turn old) turn (walking.go_shelf p.first turn old))
 
-pair-took : (b : Bool) (p : Pair) (sent turn : Turn) (came : Result Reply Fault) (old : Shelf) (next : PairNext) (new : Pair) (after : Shelf)
+pair-took : (b : Bool) (p : Pair) (sent turn : Turn) (came : Result Reply Fault) (old : Shelf) (next : PairStep) (new : Pair) (after : Shelf)
     → pairs.PairTakes b p sent turn came old next new after → after.opens ≡ old.opens
 pair-took true p sent turn came old next new after t =
     ap (λ (k : Shelf). k.opens) t.shelf_is ∙ first-opens t.step t.walked turn t.heard ∙ walk-opens (walking.waiting_name p.first) p.first sent turn came old t.step t.walked.first t.heard t.takes
 pair-took false p sent turn came old next new after t = walk-opens (walking.waiting_name p.second) p.second sent turn came old t.step t.walked.second after t.takes
 
-rename-opens : (asked : Bool) (m : Rename) (sent turn : Turn) (came : Result Reply Fault) (old : Shelf) (next : Next) (new : Pair) (after : Shelf)
+rename-opens : (asked : Bool) (m : Rename) (sent turn : Turn) (came : Result Reply Fault) (old : Shelf) (next : Step) (new : Pair) (after : Shelf)
     → TakesRename asked m sent turn came old next new after → after.opens ≡ old.opens
 rename-opens true m sent turn came old next new after t = ap (λ (k : Shelf). k.opens) t.1.others
 rename-opens false m sent turn came old next new after t = pair-took m.pair.first.asked m.pair sent turn came old t.step new after t.takes
 
-link-opens : (asked : Bool) (m : Link) (sent turn : Turn) (came : Result Reply Fault) (old : Shelf) (next : Next) (new : Pair) (after : Shelf)
+link-opens : (asked : Bool) (m : Link) (sent turn : Turn) (came : Result Reply Fault) (old : Shelf) (next : Step) (new : Pair) (after : Shelf)
     → TakesLink asked m sent turn came old next new after → after.opens ≡ old.opens
 link-opens true m sent turn came old next new after t = ap (λ (k : Shelf). k.opens) t.1.others
 link-opens false m sent turn came old next new after t = pair-took m.pair.first.asked m.pair sent turn came old t.step new after t.takes
 
 -- ---- removals
 
-resumes-opens : (asked : Bool) (m : RemoveFile) (turn : Turn) (old : Shelf) (next : Next) (new : RemoveFile) (after : Shelf) → removals.Resumes asked m turn old next new after → after.opens ≡ old.opens
+resumes-opens : (asked : Bool) (m : RemoveFile) (turn : Turn) (old : Shelf) (next : Step) (new : RemoveFile) (after : Shelf) → removals.Resumes asked m turn old next new after → after.opens ≡ old.opens
 resumes-opens true m turn old next new after r = ap (λ (k : Shelf). k.opens) r.shelf_is
 resumes-opens false m turn old next new after r = by m.deed r
   where
@@ -116,19 +116,19 @@ resumes-opens false m turn old next new after r = by m.deed r
     by (Some deed) g = ap (λ (k : Shelf). k.opens) g.shelf_is
     by None g = ap (λ (k : Shelf). k.opens) g.shelf_is
 
-look-opens : (again : Bool) (told : Result (List ℕ) Fault) (m : RemoveFile) (room : Bool) (old : Shelf) (next : Next) (new : RemoveFile) (after : Shelf)
+look-opens : (again : Bool) (told : Result (List ℕ) Fault) (m : RemoveFile) (room : Bool) (old : Shelf) (next : Step) (new : RemoveFile) (after : Shelf)
     → removals.FollowsLook again told m room old next new after → after.opens ≡ old.opens
 look-opens true told m room old next new after f = ap (λ (k : Shelf). k.opens) f.shelf_is
 look-opens false (Ok file) m room old next new after f = ap (λ (k : Shelf). k.opens) f.plans.shelf_is
 look-opens false (Err fault) m room old next new after f = ap (λ (k : Shelf). k.opens) f.shelf_is
 
-seek-opens : (again : Bool) (told : Result (List ℕ) Fault) (file to : List ℕ) (m : RemoveFile) (room : Bool) (old : Shelf) (next : Next) (new : RemoveFile) (after : Shelf)
+seek-opens : (again : Bool) (told : Result (List ℕ) Fault) (file to : List ℕ) (m : RemoveFile) (room : Bool) (old : Shelf) (next : Step) (new : RemoveFile) (after : Shelf)
     → removals.FollowsSeek again told file to m room old next new after → after.opens ≡ old.opens
 seek-opens true told file to m room old next new after f = ap (λ (k : Shelf). k.opens) f.shelf_is
 seek-opens false (Ok found) file to m room old next new after f = ap (λ (k : Shelf). k.opens) f.shelf_is
 seek-opens false (Err fault) file to m room old next new after f = ap (λ (k : Shelf). k.opens) f.shelf_is
 
-deed-opens : (deed : Deed) (m : RemoveFile) (sent turn : Turn) (came : Result Reply Fault) (old : Shelf) (next : Next) (new : RemoveFile) (after : Shelf)
+deed-opens : (deed : Deed) (m : RemoveFile) (sent turn : Turn) (came : Result Reply Fault) (old : Shelf) (next : Step) (new : RemoveFile) (after : Shelf)
     → removals.TakesDeed deed m sent turn came old next new after → after.opens ≡ old.opens
 deed-opens Look m sent turn came old next new after t =
     look-opens (look_again sent turn came old) (found_by came) m turn.room t.heard next new after t.follows ∙ ap (λ (k : Shelf). k.opens) t.hears.others
@@ -137,7 +137,7 @@ deed-opens (Seek file to) m sent turn came old next new after t =
 deed-opens (Move file to) m sent turn came old next new after t = ap (λ (k : Shelf). k.opens) t.1.others
 deed-opens Remove m sent turn came old next new after t = ap (λ (k : Shelf). k.opens) t.1.others
 
-removal-opens : (deed : Option Deed) (m : RemoveFile) (sent turn : Turn) (came : Result Reply Fault) (old : Shelf) (next : Next) (new : RemoveFile) (after : Shelf)
+removal-opens : (deed : Option Deed) (m : RemoveFile) (sent turn : Turn) (came : Result Reply Fault) (old : Shelf) (next : Step) (new : RemoveFile) (after : Shelf)
     → removals.Takes deed m sent turn came old next new after → after.opens ≡ old.opens
 removal-opens (Some deed) m sent turn came old next new after t = by m.asked t
   where
@@ -148,7 +148,7 @@ removal-opens None m sent turn came old next new after t = walk-opens (walking.w
 
 -- ---- any operation on names
 
-pub name-goes : (m : NameMachine) (turn : Turn) (old : Shelf) (next : Next) (new : NameMachine) (after : Shelf) → steps.NameGoes m turn old next new after → after.opens ≡ old.opens
+pub name-goes : (m : NameMachine) (turn : Turn) (old : Shelf) (next : Step) (new : NameMachine) (after : Shelf) → steps.NameGoes m turn old next new after → after.opens ≡ old.opens
 name-goes (machines.Change m) turn old next new after g = visit-opens m.visit turn old after g.shelf_is
 name-goes (machines.Stat m) turn old next new after g = ap (λ (k : Shelf). k.opens) g.shelf_is ∙ if-opens m.asked old (walking.go_shelf m.walk turn old) old refl refl
 name-goes (machines.Access m) turn old next new after g = visit-opens m.visit turn old after g.shelf_is
@@ -159,7 +159,7 @@ name-goes (machines.Link m) turn old next new after g = pair-opens m.pair turn o
 name-goes (machines.SymLink m) turn old next new after g = visit-opens m.visit turn old after g.shelf_is
 name-goes (machines.List m) turn old next new after g = visit-opens m.visit turn old after g.shelf_is
 
-pub name-takes : (m : NameMachine) (sent turn : Turn) (came : Result Reply Fault) (old : Shelf) (next : Next) (new : NameMachine) (after : Shelf)
+pub name-takes : (m : NameMachine) (sent turn : Turn) (came : Result Reply Fault) (old : Shelf) (next : Step) (new : NameMachine) (after : Shelf)
     → steps.NameTakes m sent turn came old next new after → after.opens ≡ old.opens
 name-takes (machines.Change m) sent turn came old next new after t =
     change-opens m.visit.asked (deed_call m.deed m.name) (deed_told m.deed came) m.visit sent turn came old next t.visit after t.step

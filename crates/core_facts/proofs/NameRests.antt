@@ -1,7 +1,7 @@
 -- A step of an operation on names leaves the table of opens, and the orders of the files, as they are.
-use Rattle.core_facts.proofs.Prelude.{◌≡◌, ◌-◌, ℕ, Bool, true, false, List, Option, Some, None, Result, Ok, Err, inl, inr, refl, sym, ap, ◌∙◌, if◌then◌else◌, Attr, Fault, Value, Call, Reply, Next, Shelf, Turn, ListDir, Stat, SymLink, Told, Visit, Walk, WalkNext, found_by, look_again, text_call, TakesText, TakesShow, sym_link_call, sym_linked_told, ChangesByCopy, TakesSymLink, Opens, Link, Pair, PairNext, Deed, Look, Seek, Move, RemoveFile, Rename, access_call, access_attr, access_told, deed_call, deed_told, TakesLink, TakesRename, NameMachine, LaneFile}
+use Rattle.core_facts.proofs.Prelude.{◌≡◌, ◌-◌, ℕ, Bool, true, false, List, Option, Some, None, Result, Ok, Err, inl, inr, refl, sym, ap, ◌∙◌, if◌then◌else◌, Attr, Fault, Value, Call, Reply, Step, Shelf, Turn, ListDir, Stat, SymLink, Told, Visit, Walk, WalkStep, found_by, look_again, text_call, TakesText, TakesShow, sym_link_call, sym_linked_told, ChangesByCopy, TakesSymLink, Opens, Link, Pair, PairStep, Deed, Look, Seek, Move, RemoveFile, Rename, access_call, access_attr, access_told, deed_call, deed_told, TakesLink, TakesRename, NameMachine, LaneFile}
 use Rattle.name_ops.specs.declared.remove_file.Deed.TheVariants.{Remove}
-use Rattle.name_ops.specs.declared.walk.WalkNext.TheVariants as walks
+use Rattle.name_ops.specs.declared.walk.WalkStep.TheVariants as walks
 use Rattle.name_ops.specs.Changing as changing
 use Rattle.name_ops.specs.ListDir as listing
 use Rattle.name_ops.specs.Stat as stats
@@ -32,7 +32,7 @@ followed-rest : (busy : Bool) (told : Result (List ℕ) Fault) (w : Walk) (turn 
 followed-rest true told w turn shelf = refl
 followed-rest false told w turn shelf = told-rest told w turn shelf
 
-pub walk-rest : (name : Option (List ℕ)) (w : Walk) (sent turn : Turn) (came : Result Reply Fault) (old : Shelf) (step : WalkNext) (new : Walk) (after : Shelf)
+pub walk-rest : (name : Option (List ℕ)) (w : Walk) (sent turn : Turn) (came : Result Reply Fault) (old : Shelf) (step : WalkStep) (new : Walk) (after : Shelf)
     → walking.Takes name w sent turn came old step new after → rest after ≡ rest old
 walk-rest None w sent turn came old step new after t = ap rest t.shelf_is
 walk-rest (Some name) w sent turn came old step new after t =
@@ -45,27 +45,27 @@ if-rest false one other old f g = g
 visit-rest : (v : Visit) (turn : Turn) (old after : Shelf) → after ≡ visiting.visit_shelf v turn old → rest after ≡ rest old
 visit-rest v turn old after is = ap rest is ∙ if-rest v.asked old (walking.go_shelf v.walk turn old) old refl refl
 
-walks-rest : (call : List ℕ → Call) (v : Visit) (sent turn : Turn) (came : Result Reply Fault) (old : Shelf) (next : Next) (new : Visit) (after : Shelf)
+walks-rest : (call : List ℕ → Call) (v : Visit) (sent turn : Turn) (came : Result Reply Fault) (old : Shelf) (next : Step) (new : Visit) (after : Shelf)
     → visiting.Walks call v sent turn came old next new after → rest after ≡ rest old
 walks-rest call v sent turn came old next new after w =
     walk-rest (walking.waiting_name v.walk) v.walk sent turn came old w.takes.step w.takes.walked.walk after w.takes.takes
 
-change-rest : (asked : Bool) (call : List ℕ → Call) (told : Told) (v : Visit) (sent turn : Turn) (came : Result Reply Fault) (old : Shelf) (next : Next) (new : Visit) (after : Shelf)
+change-rest : (asked : Bool) (call : List ℕ → Call) (told : Told) (v : Visit) (sent turn : Turn) (came : Result Reply Fault) (old : Shelf) (next : Step) (new : Visit) (after : Shelf)
     → changing.TakesChange asked call told v sent turn came old next new after → rest after ≡ rest old
 change-rest true call told v sent turn came old next new after t = ap rest t.1.others
 change-rest false call told v sent turn came old next new after t = walks-rest call v sent turn came old next new after t
 
-show-rest : (asked : Bool) (call : List ℕ → Call) (attr : Option Attr) (told : Result Value Fault) (v : Visit) (sent turn : Turn) (came : Result Reply Fault) (old : Shelf) (next : Next)
+show-rest : (asked : Bool) (call : List ℕ → Call) (attr : Option Attr) (told : Result Value Fault) (v : Visit) (sent turn : Turn) (came : Result Reply Fault) (old : Shelf) (next : Step)
     (new : Visit) (after : Shelf) → TakesShow asked call attr told v sent turn came old next new after → rest after ≡ rest old
 show-rest true call attr told v sent turn came old next new after t = ap rest t.1.others
 show-rest false call attr told v sent turn came old next new after t = walks-rest call v sent turn came old next new after t
 
-text-rest : (asked : Bool) (v : Visit) (sent turn : Turn) (came : Result Reply Fault) (old : Shelf) (next : Next) (new : Visit) (after : Shelf)
+text-rest : (asked : Bool) (v : Visit) (sent turn : Turn) (came : Result Reply Fault) (old : Shelf) (next : Step) (new : Visit) (after : Shelf)
     → TakesText asked v sent turn came old next new after → rest after ≡ rest old
 text-rest true v sent turn came old next new after t = ap rest t.1.shows.others
 text-rest false v sent turn came old next new after t = walks-rest text_call v sent turn came old next new after t
 
-sym-rest : (asked : Bool) (m : SymLink) (sent turn : Turn) (came : Result Reply Fault) (old : Shelf) (next : Next) (new : Visit) (after : Shelf)
+sym-rest : (asked : Bool) (m : SymLink) (sent turn : Turn) (came : Result Reply Fault) (old : Shelf) (next : Step) (new : Visit) (after : Shelf)
     → TakesSymLink asked m sent turn came old next new after → rest after ≡ rest old
 sym-rest true m sent turn came old next new after t = by t.1
   where
@@ -75,19 +75,19 @@ sym-rest true m sent turn came old next new after t = by t.1
 sym-rest false m sent turn came old next new after t =
     walk-rest (walking.waiting_name m.visit.walk) m.visit.walk sent turn came old t.takes.step t.takes.walked.walk after t.takes.takes
 
-stat-rest : (asked : Bool) (m : Stat) (sent turn : Turn) (came : Result Reply Fault) (old : Shelf) (next : Next) (new : Stat) (after : Shelf)
+stat-rest : (asked : Bool) (m : Stat) (sent turn : Turn) (came : Result Reply Fault) (old : Shelf) (next : Step) (new : Stat) (after : Shelf)
     → stats.StatTakes asked m sent turn came old next new after → rest after ≡ rest old
 stat-rest true m sent turn came old next new after t = ap rest t.1.others
 stat-rest false m sent turn came old next new after t = walk-rest (walking.waiting_name m.walk) m.walk sent turn came old t.step t.walked.walk after t.takes
 
-list-rest : (asked : Bool) (m : ListDir) (sent turn : Turn) (came : Result Reply Fault) (old : Shelf) (next : Next) (new : ListDir) (after : Shelf)
+list-rest : (asked : Bool) (m : ListDir) (sent turn : Turn) (came : Result Reply Fault) (old : Shelf) (next : Step) (new : ListDir) (after : Shelf)
     → listing.TakesList asked m sent turn came old next new after → rest after ≡ rest old
 list-rest true m sent turn came old next new after t = ap rest t.others
 list-rest false m sent turn came old next new after t = walks-rest (listing.page_call m.place) m.visit sent turn came old next t.visit after t.walks
 
 -- ---- two walks
 
-first-rest : (step : WalkNext) (p : Pair) (turn : Turn) (shelf : Shelf) → rest (pairs.first_shelf step p turn shelf) ≡ rest shelf
+first-rest : (step : WalkStep) (p : Pair) (turn : Turn) (shelf : Shelf) → rest (pairs.first_shelf step p turn shelf) ≡ rest shelf
 first-rest (walks.Send call) p turn shelf = refl
 first-rest walks.Wait p turn shelf = refl
 first-rest (walks.At first) p turn shelf = refl
@@ -97,25 +97,25 @@ pair-rest : (p : Pair) (turn : Turn) (old after : Shelf) → after ≡ pairs.pai
 pair-rest p turn old after is = ap rest is
     ∙ if-rest (pairs.waits p) old (pairs.on_shelf p turn old) old refl (first-rest (walking.go_next p.first turn old) (pairs.walked_first p turn old) turn (walking.go_shelf p.first turn old))
 
-pair-took : (b : Bool) (p : Pair) (sent turn : Turn) (came : Result Reply Fault) (old : Shelf) (next : PairNext) (new : Pair) (after : Shelf)
+pair-took : (b : Bool) (p : Pair) (sent turn : Turn) (came : Result Reply Fault) (old : Shelf) (next : PairStep) (new : Pair) (after : Shelf)
     → pairs.PairTakes b p sent turn came old next new after → rest after ≡ rest old
 pair-took true p sent turn came old next new after t =
     ap rest t.shelf_is ∙ first-rest t.step t.walked turn t.heard ∙ walk-rest (walking.waiting_name p.first) p.first sent turn came old t.step t.walked.first t.heard t.takes
 pair-took false p sent turn came old next new after t = walk-rest (walking.waiting_name p.second) p.second sent turn came old t.step t.walked.second after t.takes
 
-rename-rest : (asked : Bool) (m : Rename) (sent turn : Turn) (came : Result Reply Fault) (old : Shelf) (next : Next) (new : Pair) (after : Shelf)
+rename-rest : (asked : Bool) (m : Rename) (sent turn : Turn) (came : Result Reply Fault) (old : Shelf) (next : Step) (new : Pair) (after : Shelf)
     → TakesRename asked m sent turn came old next new after → rest after ≡ rest old
 rename-rest true m sent turn came old next new after t = ap rest t.1.others
 rename-rest false m sent turn came old next new after t = pair-took m.pair.first.asked m.pair sent turn came old t.step new after t.takes
 
-link-rest : (asked : Bool) (m : Link) (sent turn : Turn) (came : Result Reply Fault) (old : Shelf) (next : Next) (new : Pair) (after : Shelf)
+link-rest : (asked : Bool) (m : Link) (sent turn : Turn) (came : Result Reply Fault) (old : Shelf) (next : Step) (new : Pair) (after : Shelf)
     → TakesLink asked m sent turn came old next new after → rest after ≡ rest old
 link-rest true m sent turn came old next new after t = ap rest t.1.others
 link-rest false m sent turn came old next new after t = pair-took m.pair.first.asked m.pair sent turn came old t.step new after t.takes
 
 -- ---- removals
 
-resumes-rest : (asked : Bool) (m : RemoveFile) (turn : Turn) (old : Shelf) (next : Next) (new : RemoveFile) (after : Shelf) → removals.Resumes asked m turn old next new after → rest after ≡ rest old
+resumes-rest : (asked : Bool) (m : RemoveFile) (turn : Turn) (old : Shelf) (next : Step) (new : RemoveFile) (after : Shelf) → removals.Resumes asked m turn old next new after → rest after ≡ rest old
 resumes-rest true m turn old next new after r = ap rest r.shelf_is
 resumes-rest false m turn old next new after r = by m.deed r
   where
@@ -123,19 +123,19 @@ resumes-rest false m turn old next new after r = by m.deed r
     by (Some deed) g = ap rest g.shelf_is
     by None g = ap rest g.shelf_is
 
-look-rest : (again : Bool) (told : Result (List ℕ) Fault) (m : RemoveFile) (room : Bool) (old : Shelf) (next : Next) (new : RemoveFile) (after : Shelf)
+look-rest : (again : Bool) (told : Result (List ℕ) Fault) (m : RemoveFile) (room : Bool) (old : Shelf) (next : Step) (new : RemoveFile) (after : Shelf)
     → removals.FollowsLook again told m room old next new after → rest after ≡ rest old
 look-rest true told m room old next new after f = ap rest f.shelf_is
 look-rest false (Ok file) m room old next new after f = ap rest f.plans.shelf_is
 look-rest false (Err fault) m room old next new after f = ap rest f.shelf_is
 
-seek-rest : (again : Bool) (told : Result (List ℕ) Fault) (file to : List ℕ) (m : RemoveFile) (room : Bool) (old : Shelf) (next : Next) (new : RemoveFile) (after : Shelf)
+seek-rest : (again : Bool) (told : Result (List ℕ) Fault) (file to : List ℕ) (m : RemoveFile) (room : Bool) (old : Shelf) (next : Step) (new : RemoveFile) (after : Shelf)
     → removals.FollowsSeek again told file to m room old next new after → rest after ≡ rest old
 seek-rest true told file to m room old next new after f = ap rest f.shelf_is
 seek-rest false (Ok found) file to m room old next new after f = ap rest f.shelf_is
 seek-rest false (Err fault) file to m room old next new after f = ap rest f.shelf_is
 
-deed-rest : (deed : Deed) (m : RemoveFile) (sent turn : Turn) (came : Result Reply Fault) (old : Shelf) (next : Next) (new : RemoveFile) (after : Shelf)
+deed-rest : (deed : Deed) (m : RemoveFile) (sent turn : Turn) (came : Result Reply Fault) (old : Shelf) (next : Step) (new : RemoveFile) (after : Shelf)
     → removals.TakesDeed deed m sent turn came old next new after → rest after ≡ rest old
 deed-rest Look m sent turn came old next new after t =
     look-rest (look_again sent turn came old) (found_by came) m turn.room t.heard next new after t.follows ∙ ap rest t.hears.others
@@ -144,7 +144,7 @@ deed-rest (Seek file to) m sent turn came old next new after t =
 deed-rest (Move file to) m sent turn came old next new after t = ap rest t.1.others
 deed-rest Remove m sent turn came old next new after t = ap rest t.1.others
 
-removal-rest : (deed : Option Deed) (m : RemoveFile) (sent turn : Turn) (came : Result Reply Fault) (old : Shelf) (next : Next) (new : RemoveFile) (after : Shelf)
+removal-rest : (deed : Option Deed) (m : RemoveFile) (sent turn : Turn) (came : Result Reply Fault) (old : Shelf) (next : Step) (new : RemoveFile) (after : Shelf)
     → removals.Takes deed m sent turn came old next new after → rest after ≡ rest old
 removal-rest (Some deed) m sent turn came old next new after t = by m.asked t
   where
@@ -155,7 +155,7 @@ removal-rest None m sent turn came old next new after t = walk-rest (walking.wai
 
 -- ---- any operation on names
 
-pub name-goes : (m : NameMachine) (turn : Turn) (old : Shelf) (next : Next) (new : NameMachine) (after : Shelf) → steps.NameGoes m turn old next new after → rest after ≡ rest old
+pub name-goes : (m : NameMachine) (turn : Turn) (old : Shelf) (next : Step) (new : NameMachine) (after : Shelf) → steps.NameGoes m turn old next new after → rest after ≡ rest old
 name-goes (machines.Change m) turn old next new after g = visit-rest m.visit turn old after g.shelf_is
 name-goes (machines.Stat m) turn old next new after g = ap rest g.shelf_is ∙ if-rest m.asked old (walking.go_shelf m.walk turn old) old refl refl
 name-goes (machines.Access m) turn old next new after g = visit-rest m.visit turn old after g.shelf_is
@@ -166,7 +166,7 @@ name-goes (machines.Link m) turn old next new after g = pair-rest m.pair turn ol
 name-goes (machines.SymLink m) turn old next new after g = visit-rest m.visit turn old after g.shelf_is
 name-goes (machines.List m) turn old next new after g = visit-rest m.visit turn old after g.shelf_is
 
-pub name-takes : (m : NameMachine) (sent turn : Turn) (came : Result Reply Fault) (old : Shelf) (next : Next) (new : NameMachine) (after : Shelf)
+pub name-takes : (m : NameMachine) (sent turn : Turn) (came : Result Reply Fault) (old : Shelf) (next : Step) (new : NameMachine) (after : Shelf)
     → steps.NameTakes m sent turn came old next new after → rest after ≡ rest old
 name-takes (machines.Change m) sent turn came old next new after t =
     change-rest m.visit.asked (deed_call m.deed m.name) (deed_told m.deed came) m.visit sent turn came old next t.visit after t.step

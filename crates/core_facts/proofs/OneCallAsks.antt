@@ -1,5 +1,5 @@
 -- For which call an operation of one call waits: for one that it asks for.
-use Rattle.core_facts.proofs.Prelude.{◌≡◌, ◌≤◌, ◌+◌, ◌-◌, ℕ, zero, suc, Bool, true, false, List, [], ◌∷◌, ◌++◌, length, take, slice_get, Option, Some, None, refl, sym, ap, subst, ◌∙◌, arith, append_assoc, if◌then◌else◌, Entry, Call, Op, Rooted, Terms, Next, Pair, Visit, Walk, access_call, deed_call, link_call, text_call, rename_call, sym_link_call, Machine, IsNamed, front_of, last_of, of_walk, visit_by, of_visit, pair_by, of_pair, in_flight, Counts}
+use Rattle.core_facts.proofs.Prelude.{◌≡◌, ◌≤◌, ◌+◌, ◌-◌, ℕ, zero, suc, Bool, true, false, List, [], ◌∷◌, ◌++◌, length, take, slice_get, Option, Some, None, refl, sym, ap, subst, ◌∙◌, arith, append_assoc, if◌then◌else◌, Entry, Call, Op, Rooted, Terms, Step, Pair, Visit, Walk, access_call, deed_call, link_call, text_call, rename_call, sym_link_call, Machine, IsNamed, front_of, last_of, of_walk, visit_by, of_visit, pair_by, of_pair, in_flight, Counts}
 use Rattle.std.proofs.Common.{drop, Contains}
 use Rattle.op_machines.specs.Begun.{IsAsked}
 use Rattle.core_facts.specs.InFlight.{of_name}
@@ -7,7 +7,7 @@ use Rattle.world_model.specs.declared.op.Op.TheVariants as ops
 use Rattle.claims.specs.Asks.{Asks, Acts, Opening, Stabilizes, IsWriter, found_by, look_up}
 use Rattle.claims.specs.Asks as asks
 use Rattle.claims.specs.Paths.{paths_of}
-use Rattle.client_shelf.specs.declared.next.Next.TheVariants as nexts
+use Rattle.client_shelf.specs.declared.step.Step.TheVariants as nexts
 use Rattle.name_ops.specs.declared.dir_change.DirDeed.TheVariants as deeds
 use Rattle.name_ops.specs.Walking as walking
 use Rattle.core_facts.specs.Naming.{IsOneCall}
@@ -154,7 +154,7 @@ module _ (top : List ℕ) (terms : Terms) (h : List Entry) (x : ℕ) where
   asked-by op new call one named k e some = absurd one
 
   -- a step that asks for a call
-  pub asks-new : (op : Op) (next : Next) (before : ℕ) (new : Machine) → IsOneCall op → IsAsked op → ThenOf (Runs top terms h op) (λ a. Unit {0}) next new → AskedOf Awaits next new
+  pub asks-new : (op : Op) (next : Step) (before : ℕ) (new : Machine) → IsOneCall op → IsAsked op → ThenOf (Runs top terms h op) (λ a. Unit {0}) next new → AskedOf Awaits next new
       → Counts next before new → AsksFor (AsksNow op) next
   asks-new op (nexts.Send call) before new one named k e c = asked-by op new call one named k e (let more = c.0 in omega (arith, more))
   asks-new op nexts.Wait before new one named k e c = tt

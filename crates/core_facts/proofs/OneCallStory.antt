@@ -1,5 +1,5 @@
 -- An operation that makes one call goes well only where its paths lead to the objects of the call, which was answered with status 0.
-use Rattle.core_facts.proofs.Prelude.{◌≡◌, ◌≤◌, ◌+◌, ◌-◌, ◌⊎◌, inl, inr, ℕ, zero, suc, Bool, true, false, List, [], ◌∷◌, ◌++◌, length, take, slice_get, Option, None, Result, Ok, refl, sym, ap, subst, ◌∙◌, arith, Attr, Answer, Fault, Value, Entry, Delivered, Call, Reply, Op, At, Rooted, EndsWith, Terms, Asked-wide, FirstSent-grow, At-grow, At-below, At-back, At-cases, length_last, goes_again, Next, Shelf, Turn, Link, Pair, Rename, SymLink, Told, Visit, access_call, access_told, deed_call, deed_told, link_call, linked_told, TakesLink, moved_told, text_call, TakesText, rename_call, TakesRename, shown_answer, TakesShow, sym_link_call, sym_linked_told, ChangesByCopy, TakesSymLink, lacking, Machine, NameMachine, IsNamed, front_of, last_of, Resumes, Takes, State, Busy, Over}
+use Rattle.core_facts.proofs.Prelude.{◌≡◌, ◌≤◌, ◌+◌, ◌-◌, ◌⊎◌, inl, inr, ℕ, zero, suc, Bool, true, false, List, [], ◌∷◌, ◌++◌, length, take, slice_get, Option, None, Result, Ok, refl, sym, ap, subst, ◌∙◌, arith, Attr, Answer, Fault, Value, Entry, Delivered, Call, Reply, Op, At, Rooted, EndsWith, Terms, Asked-wide, FirstSent-grow, At-grow, At-below, At-back, At-cases, length_last, goes_again, Step, Shelf, Turn, Link, Pair, Rename, SymLink, Told, Visit, access_call, access_told, deed_call, deed_told, link_call, linked_told, TakesLink, moved_told, text_call, TakesText, rename_call, TakesRename, shown_answer, TakesShow, sym_link_call, sym_linked_told, ChangesByCopy, TakesSymLink, lacking, Machine, NameMachine, IsNamed, front_of, last_of, Resumes, Takes, State, Busy, Over}
 use Rattle.std.proofs.Common.{unwrap_or}
 use Rattle.world_model.specs.Mounts.{Origin, Given}
 use Rattle.world_model.proofs.Growth.{Waits-grow}
@@ -13,7 +13,7 @@ use Rattle.claims.specs.Asks as asks
 use Rattle.claims.specs.OkRows.{ActOk}
 use Rattle.claims.specs.Paths.{PlaceOf}
 use Rattle.world_model.specs.Waiting.{IsDelivered}
-use Rattle.client_shelf.specs.declared.next.Next.TheVariants as nexts
+use Rattle.client_shelf.specs.declared.step.Step.TheVariants as nexts
 use Rattle.name_ops.specs.declared.dir_change.DirDeed.{DirDeed}
 use Rattle.name_ops.specs.declared.dir_change.DirDeed.TheVariants as deeds
 use Rattle.name_ops.specs.Changing as changing
@@ -198,13 +198,13 @@ module _ (top : List ℕ) where
     refused-any h x op fault = tt
 
     -- the same of what the machine is built of
-    visits-then : (h : List Entry) (path : List (List ℕ)) (with_visit : Visit → NameMachine) (A : Answer → Type 0) (next : Next) (visit : Visit) (new : Machine)
+    visits-then : (h : List Entry) (path : List (List ℕ)) (with_visit : Visit → NameMachine) (A : Answer → Type 0) (next : Step) (visit : Visit) (new : Machine)
         → new ≡ machines.Name (with_visit visit) → ThenOf (VisitStory top h path) A next visit → ThenOf (Visits h path with_visit) A next new
     visits-then h path with_visit A (nexts.Send call) visit new is t = record { visit = visit; is = is; story = t }
     visits-then h path with_visit A nexts.Wait visit new is t = record { visit = visit; is = is; story = t }
     visits-then h path with_visit A (nexts.Done answer) visit new is t = t
 
-    pairs-then : (h : List Entry) (first second : List (List ℕ)) (with_pair : Pair → NameMachine) (A : Answer → Type 0) (next : Next) (pair : Pair) (new : Machine)
+    pairs-then : (h : List Entry) (first second : List (List ℕ)) (with_pair : Pair → NameMachine) (A : Answer → Type 0) (next : Step) (pair : Pair) (new : Machine)
         → new ≡ machines.Name (with_pair pair) → ThenOf (PairStory top h first second) A next pair → ThenOf (Pairs h first second with_pair) A next new
     pairs-then h first second with_pair A (nexts.Send call) pair new is t = record { pair = pair; is = is; story = t }
     pairs-then h first second with_pair A nexts.Wait pair new is t = record { pair = pair; is = is; story = t }
@@ -213,7 +213,7 @@ module _ (top : List ℕ) where
     -- ---- replies
 
     change-then : (h : List Entry) (path : List (List ℕ)) (A : Answer → Type 0) (asked : Bool) (own : List ℕ → Call) (told : Told) (v : Visit) (sent turn : Turn) (came : Result Reply Fault)
-        (old : Shelf) (next : Next) (new : Visit) (after : Shelf) (call : Call) → ((fault : Fault) → A (answers.Refused fault))
+        (old : Shelf) (next : Step) (new : Visit) (after : Shelf) (call : Call) → ((fault : Fault) → A (answers.Refused fault))
         → (v.asked ≡ true → told.refusal ≡ None → A (answers.Done values.Nothing)) → v.asked ≡ asked → NamesTold h old.names → VisitStory top h path v → OwnOr asked own v.walk call
         → IsHeard top h came call → changing.TakesChange asked own told v sent turn came old next new after → ThenOf (VisitStory top h path) A next new
     change-then h path A true own told v sent turn came old next new after call refused well is t s e heard k =
@@ -223,7 +223,7 @@ module _ (top : List ℕ) where
         walks-then top h path A own v sent turn came old next new after call refused is t s e heard k
 
     show-then : (h : List Entry) (path : List (List ℕ)) (A : Answer → Type 0) (asked : Bool) (own : List ℕ → Call) (attr : Option Attr) (told : Result Value Fault) (v : Visit) (sent turn : Turn)
-        (came : Result Reply Fault) (old : Shelf) (next : Next) (new : Visit) (after : Shelf) (call : Call) → ((fault : Fault) → A (answers.Refused fault))
+        (came : Result Reply Fault) (old : Shelf) (next : Step) (new : Visit) (after : Shelf) (call : Call) → ((fault : Fault) → A (answers.Refused fault))
         → (v.asked ≡ true → (value : Value) → told ≡ Ok value → A (answers.Done value)) → v.asked ≡ asked → NamesTold h old.names → VisitStory top h path v → OwnOr asked own v.walk call
         → IsHeard top h came call → TakesShow asked own attr told v sent turn came old next new after → ThenOf (VisitStory top h path) A next new
     show-then h path A true own attr told v sent turn came old next new after call refused well is t s e heard k =
@@ -231,7 +231,7 @@ module _ (top : List ℕ) where
     show-then h path A false own attr told v sent turn came old next new after call refused well is t s e heard k =
         walks-then top h path A own v sent turn came old next new after call refused is t s e heard k
 
-    text-then : (h : List Entry) (path : List (List ℕ)) (A : Answer → Type 0) (asked : Bool) (v : Visit) (sent turn : Turn) (came : Result Reply Fault) (old : Shelf) (next : Next) (new : Visit)
+    text-then : (h : List Entry) (path : List (List ℕ)) (A : Answer → Type 0) (asked : Bool) (v : Visit) (sent turn : Turn) (came : Result Reply Fault) (old : Shelf) (next : Step) (new : Visit)
         (after : Shelf) (call : Call) → ((fault : Fault) → A (answers.Refused fault)) → (v.asked ≡ true → (value : Value) → IsOkReply came value → A (answers.Done value)) → v.asked ≡ asked
         → NamesTold h old.names → VisitStory top h path v → OwnOr asked text_call v.walk call → IsHeard top h came call → TakesText asked v sent turn came old next new after
         → ThenOf (VisitStory top h path) A next new
@@ -241,7 +241,7 @@ module _ (top : List ℕ) where
     text-then h path A false v sent turn came old next new after call refused well is t s e heard k =
         walks-then top h path A text_call v sent turn came old next new after call refused is t s e heard k
 
-    sym-then : (h : List Entry) (path : List (List ℕ)) (A : Answer → Type 0) (asked : Bool) (m : SymLink) (sent turn : Turn) (came : Result Reply Fault) (old : Shelf) (next : Next) (new : Visit)
+    sym-then : (h : List Entry) (path : List (List ℕ)) (A : Answer → Type 0) (asked : Bool) (m : SymLink) (sent turn : Turn) (came : Result Reply Fault) (old : Shelf) (next : Step) (new : Visit)
         (after : Shelf) (call : Call) → ((fault : Fault) → A (answers.Refused fault)) → (m.visit.asked ≡ true → (sym_linked_told came).refusal ≡ None → A (answers.Done values.Nothing))
         → m.visit.asked ≡ asked → NamesTold h old.names → VisitStory top h path m.visit → OwnOr asked (sym_link_call m.name m.target) m.visit.walk call → IsHeard top h came call
         → TakesSymLink asked m sent turn came old next new after → ThenOf (VisitStory top h path) A next new
@@ -258,7 +258,7 @@ module _ (top : List ℕ) where
     sym-then h path A false m sent turn came old next new after call refused well is t s e heard k =
         copies-then top h path A (sym_link_call m.name m.target) m.visit sent turn came old next k.step new after call refused is t s e heard k.takes k.next_is
 
-    rename-then : (h : List Entry) (first second : List (List ℕ)) (A : Answer → Type 0) (asked : Bool) (m : Rename) (sent turn : Turn) (came : Result Reply Fault) (old : Shelf) (next : Next)
+    rename-then : (h : List Entry) (first second : List (List ℕ)) (A : Answer → Type 0) (asked : Bool) (m : Rename) (sent turn : Turn) (came : Result Reply Fault) (old : Shelf) (next : Step)
         (new : Pair) (after : Shelf) (call : Call) → ((fault : Fault) → A (answers.Refused fault)) → (m.pair.asked ≡ true → (moved_told came).refusal ≡ None → A (answers.Done values.Nothing))
         → m.pair.asked ≡ asked → NamesTold h old.names → PairStory top h first second m.pair → PairOr asked m.pair.first.asked (rename_call m.from m.to) m.pair call → IsHeard top h came call
         → TakesRename asked m sent turn came old next new after → ThenOf (PairStory top h first second) A next new
@@ -268,7 +268,7 @@ module _ (top : List ℕ) where
     rename-then h first second A false m sent turn came old next new after call refused well is t s e heard k =
         pair-walks-then top h first second A (rename_call m.from m.to) m.pair sent turn came old next new after call refused is t s e heard k
 
-    link-then : (h : List Entry) (first second : List (List ℕ)) (A : Answer → Type 0) (asked : Bool) (m : Link) (sent turn : Turn) (came : Result Reply Fault) (old : Shelf) (next : Next)
+    link-then : (h : List Entry) (first second : List (List ℕ)) (A : Answer → Type 0) (asked : Bool) (m : Link) (sent turn : Turn) (came : Result Reply Fault) (old : Shelf) (next : Step)
         (new : Pair) (after : Shelf) (call : Call) → ((fault : Fault) → A (answers.Refused fault))
         → (m.pair.asked ≡ true → (linked_told m.pair.first.spot.dir came).refusal ≡ None → A (answers.Done values.Nothing)) → m.pair.asked ≡ asked → NamesTold h old.names
         → PairStory top h first second m.pair → PairOr asked m.pair.first.asked (link_call m.name) m.pair call → IsHeard top h came call → TakesLink asked m sent turn came old next new after
@@ -282,11 +282,11 @@ module _ (top : List ℕ) where
     -- ---- steps
 
     module _ (h : List Entry) (x : ℕ) where
-      abbrev pub Steps : Op → Next → Machine → Type 0
+      abbrev pub Steps : Op → Step → Machine → Type 0
       Steps op next new = ThenOf (Runs h op) (AnswerOk h x op) next new
 
       -- a step that no reply made possible
-      pub goes : (op : Op) (machine : Machine) (wsize : ℕ) (turn : Turn) (old : Shelf) (next : Next) (new : Machine) (after : Shelf) → IsOneCall op → NamesTold h old.names → Runs h op machine
+      pub goes : (op : Op) (machine : Machine) (wsize : ℕ) (turn : Turn) (old : Shelf) (next : Step) (new : Machine) (after : Shelf) → IsOneCall op → NamesTold h old.names → Runs h op machine
           → Resumes wsize machine turn old next new after → Steps op next new
       goes (ops.Access path bits) machine wsize turn old next new after one t k r =
           let g = subst (λ (n : Machine). Resumes wsize n turn old next new after) k.is r in
@@ -339,7 +339,7 @@ module _ (top : List ℕ) where
       pub place : (path : List (List ℕ)) (d : List ℕ) → IsNamed path → LeadsTo top h (front_of path) d → PlaceOf (Given top) h (length h) path d (last_of path)
       place path d named l = record { earlier = front_of path; is = front-last path named; leads = l }
 
-      pub takes : (op : Op) (machine : Machine) (wsize : ℕ) (sent turn : Turn) (came : Result Reply Fault) (old : Shelf) (next : Next) (new : Machine) (after : Shelf) → IsOneCall op → IsAsked op
+      pub takes : (op : Op) (machine : Machine) (wsize : ℕ) (sent turn : Turn) (came : Result Reply Fault) (old : Shelf) (next : Step) (new : Machine) (after : Shelf) → IsOneCall op → IsAsked op
           → NamesTold h old.names → Runs h op machine → IsTold Awaits NoWait h x op machine came → Takes wsize machine sent turn came old next new after → Steps op next new
       takes (ops.Access path bits) machine wsize sent turn came old next new after one named t k told r =
           let op : Op = ops.Access path bits in
@@ -452,13 +452,13 @@ module _ (top : List ℕ) where
     state-later h e x op (Over answer) one quiet k = answer-later h e x op answer one quiet k
 
     -- of every operation
-    pub for-op : (h : List Entry) (x : ℕ) (op : Op) (next : Next) (new : Machine) → (IsOneCall op → IsAsked op → Steps h x op next new)
+    pub for-op : (h : List Entry) (x : ℕ) (op : Op) (next : Step) (new : Machine) → (IsOneCall op → IsAsked op → Steps h x op next new)
         → ThenOf (λ m. Story h x op (Busy m)) (λ a. Story h x op (Over a)) next new
     for-op h x op (nexts.Send call) new t = t
     for-op h x op nexts.Wait new t = t
     for-op h x op (nexts.Done answer) new t = t
 
-    pub asks-none : (h : List Entry) (x : ℕ) (op : Op) (next : Next) → AsksFor (NoWait h x op) next
+    pub asks-none : (h : List Entry) (x : ℕ) (op : Op) (next : Step) → AsksFor (NoWait h x op) next
     asks-none h x op (nexts.Send call) = tt
     asks-none h x op nexts.Wait = tt
     asks-none h x op (nexts.Done answer) = tt

@@ -1,5 +1,5 @@
 -- An operation that walks along its paths and makes one call, step by step: what it has come to, and what its answer shows.
-use Rattle.core_facts.proofs.Prelude.{◌≡◌, ◌<◌, ◌≤◌, ◌+◌, ◌-◌, ◌||◌, ◌⊎◌, inl, inr, ℕ, zero, suc, Bool, true, false, List, [], ◌∷◌, ◌++◌, length, take, slice_get, Option, Some, None, Result, Ok, Err, refl, sym, ap, subst, ◌∙◌, arith, if◌then◌else◌, Attr, DirKept, FileKept, Answer, Fault, Value, Entry, Call, Reply, Op, EndsWith, Next, Shelf, Turn, Pair, PairNext, Told, Visit, VisitNext, Walk, WalkNext, access_told, deed_told, linked_told, moved_told, shown_answer, sym_linked_told, CopiesBy}
+use Rattle.core_facts.proofs.Prelude.{◌≡◌, ◌<◌, ◌≤◌, ◌+◌, ◌-◌, ◌||◌, ◌⊎◌, inl, inr, ℕ, zero, suc, Bool, true, false, List, [], ◌∷◌, ◌++◌, length, take, slice_get, Option, Some, None, Result, Ok, Err, refl, sym, ap, subst, ◌∙◌, arith, if◌then◌else◌, Attr, DirKept, FileKept, Answer, Fault, Value, Entry, Call, Reply, Op, EndsWith, Step, Shelf, Turn, Pair, PairStep, Told, Visit, VisitStep, Walk, WalkStep, access_told, deed_told, linked_told, moved_told, shown_answer, sym_linked_told, CopiesBy}
 use Rattle.std.proofs.Common.{unwrap_or}
 use Rattle.nfs_dir_calls.specs.declared.call.DirCall.TheVariants as dirs
 use Rattle.nfs_dir_calls.specs.declared.keeping.DirKept.TheVariants as dir_kept
@@ -11,18 +11,18 @@ use Rattle.world_model.specs.declared.answer.Value.TheVariants as values
 use Rattle.world_model.specs.declared.message.Reply.TheVariants as replies
 use Rattle.world_model.specs.Heard.{status_of}
 use Rattle.claims.specs.OkRows.{value_of}
-use Rattle.client_shelf.specs.declared.next.Next.TheVariants as nexts
+use Rattle.client_shelf.specs.declared.step.Step.TheVariants as nexts
 use Rattle.name_ops.specs.declared.dir_change.DirDeed.{DirDeed}
 use Rattle.name_ops.specs.declared.dir_change.DirDeed.TheVariants as deeds
-use Rattle.name_ops.specs.declared.pair.PairNext.TheVariants as two
-use Rattle.name_ops.specs.declared.visit.VisitNext.TheVariants as visits
-use Rattle.name_ops.specs.declared.walk.WalkNext.TheVariants as walks
+use Rattle.name_ops.specs.declared.pair.PairStep.TheVariants as two
+use Rattle.name_ops.specs.declared.visit.VisitStep.TheVariants as visits
+use Rattle.name_ops.specs.declared.walk.WalkStep.TheVariants as walks
 use Rattle.name_ops.specs.Changing as changing
 use Rattle.name_ops.specs.Pairs as pairs
 use Rattle.name_ops.specs.ReadLink.{TellsText}
 use Rattle.name_ops.specs.Visiting as visiting
 use Rattle.name_ops.specs.Walking as walking
-use Rattle.core_facts.proofs.Awaited.{WalkAwaits, WalkStep, go-step, took-step, OwnOr, PairOr}
+use Rattle.core_facts.proofs.Awaited.{WalkAwaits, WalkMoves, go-step, took-step, OwnOr, PairOr}
 use Rattle.core_facts.proofs.Leading.{IsNameTold, NamesTold, LeadsTo, WalkLeads, go-leads, took-leads, end-leads, walk-later, IsHeard, heard-tells}
 use Rattle.core_facts.proofs.NamesKept.{go-told, walk-told}
 use Rattle.core_facts.proofs.Steps.{ThenOf}
@@ -129,10 +129,10 @@ pub told-answer : (A : Answer → Type 0) (told : Result Value Fault) → ((faul
 told-answer A (Ok value) refused well = well value refl
 told-answer A (Err fault) refused well = refused fault
 
-pub then-as : {S : Type 0} → (H : S → Type 0) (A : Answer → Type 0) (to next : Next) (new : S) → next ≡ to → ThenOf H A to new → ThenOf H A next new
-then-as H A to next new is t = subst (λ (n : Next). ThenOf H A n new) (sym is) t
+pub then-as : {S : Type 0} → (H : S → Type 0) (A : Answer → Type 0) (to next : Step) (new : S) → next ≡ to → ThenOf H A to new → ThenOf H A next new
+then-as H A to next new is t = subst (λ (n : Step). ThenOf H A n new) (sym is) t
 
-pub again-then : {S : Type 0} → (H : S → Type 0) (A : Answer → Type 0) (again : Bool) (call : Call) (answer : Answer) (next : Next) (new : S)
+pub again-then : {S : Type 0} → (H : S → Type 0) (A : Answer → Type 0) (again : Bool) (call : Call) (answer : Answer) (next : Step) (new : S)
     → next ≡ (if again then nexts.Send call else nexts.Done answer) → H new → A answer → ThenOf H A next new
 again-then H A true call answer next new is stays ends = then-as H A (nexts.Send call) next new is stays
 again-then H A false call answer next new is stays ends = then-as H A (nexts.Done answer) next new is ends
@@ -151,7 +151,7 @@ module _ (top : List ℕ) (h : List Entry) where
   on-way : (path : List (List ℕ)) (v : Visit) → WalkLeads top h path v.walk → v.asked ≡ false → VisitStory path v
   on-way path v l idle = record { walk = l; done = λ is. absurd (let no_way : true ≡ false = sym is ∙ idle in cc) }
 
-  follow-story : (path : List (List ℕ)) (step : WalkNext) (room : Bool) (v : Visit) → v.asked ≡ false → WalkLeads top h path v.walk → WalkStep step v.walk
+  follow-story : (path : List (List ℕ)) (step : WalkStep) (room : Bool) (v : Visit) → v.asked ≡ false → WalkLeads top h path v.walk → WalkMoves step v.walk
       → VisitStory path (visiting.follow_after step room v)
   follow-story path (walks.Send call) room v idle l s = on-way path v l idle
   follow-story path walks.Wait room v idle l s = on-way path v l idle
@@ -168,7 +168,7 @@ module _ (top : List ℕ) (h : List Entry) where
       by false is = follow-story path (walking.go_next v.walk turn shelf) turn.room (record v { walk = walking.go_after v.walk turn shelf }) is
           (go-leads top h path v.walk turn shelf t s.walk) (go-step v.walk turn shelf)
 
-  visit-takes : (path : List (List ℕ)) (v : Visit) (sent turn : Turn) (came : Result Reply Fault) (old : Shelf) (next : VisitNext) (new : Visit) (after : Shelf) (call : Call) → v.asked ≡ false
+  visit-takes : (path : List (List ℕ)) (v : Visit) (sent turn : Turn) (came : Result Reply Fault) (old : Shelf) (next : VisitStep) (new : Visit) (after : Shelf) (call : Call) → v.asked ≡ false
       → NamesTold h old.names → VisitStory path v → WalkAwaits v.walk call → IsHeard top h came call → visiting.VisitTakes v sent turn came old next new after → VisitStory path new
   visit-takes path v sent turn came old next new after call idle t s e heard k =
       subst (VisitStory path) (sym k.visit_is)
@@ -176,27 +176,27 @@ module _ (top : List ℕ) (h : List Entry) where
       (took-leads top h path v.walk sent turn came old k.step k.walked.walk after call t s.walk e heard k.takes)
       (took-step v.walk sent turn came old k.step k.walked.walk after k.takes))
 
-  visit-by : (path : List (List ℕ)) (A : Answer → Type 0) (own : List ℕ → Call) (step : VisitNext) (new : Visit) → ((fault : Fault) → A (answers.Refused fault)) → VisitStory path new
+  visit-by : (path : List (List ℕ)) (A : Answer → Type 0) (own : List ℕ → Call) (step : VisitStep) (new : Visit) → ((fault : Fault) → A (answers.Refused fault)) → VisitStory path new
       → ThenOf (VisitStory path) A (visiting.next_by own step) new
   visit-by path A own (visits.Look look) new refused s = s
   visit-by path A own visits.Wait new refused s = s
   visit-by path A own (visits.Ask object) new refused s = s
   visit-by path A own (visits.Refused fault) new refused s = refused fault
 
-  pub visit-then : (path : List (List ℕ)) (A : Answer → Type 0) (own : List ℕ → Call) (v : Visit) (turn : Turn) (shelf : Shelf) (next : Next) → ((fault : Fault) → A (answers.Refused fault))
+  pub visit-then : (path : List (List ℕ)) (A : Answer → Type 0) (own : List ℕ → Call) (v : Visit) (turn : Turn) (shelf : Shelf) (next : Step) → ((fault : Fault) → A (answers.Refused fault))
       → NamesTold h shelf.names → VisitStory path v → next ≡ visiting.next_by own (visiting.visit_next v turn shelf) → ThenOf (VisitStory path) A next (visiting.visit_after v turn shelf)
   visit-then path A own v turn shelf next refused t s is =
       then-as (VisitStory path) A _ next (visiting.visit_after v turn shelf) is
       (visit-by path A own (visiting.visit_next v turn shelf) (visiting.visit_after v turn shelf) refused (visit-goes path v turn shelf t s))
 
-  pub walks-then : (path : List (List ℕ)) (A : Answer → Type 0) (own : List ℕ → Call) (v : Visit) (sent turn : Turn) (came : Result Reply Fault) (old : Shelf) (next : Next) (new : Visit)
+  pub walks-then : (path : List (List ℕ)) (A : Answer → Type 0) (own : List ℕ → Call) (v : Visit) (sent turn : Turn) (came : Result Reply Fault) (old : Shelf) (next : Step) (new : Visit)
       (after : Shelf) (call : Call) → ((fault : Fault) → A (answers.Refused fault)) → v.asked ≡ false → NamesTold h old.names → VisitStory path v → WalkAwaits v.walk call
       → IsHeard top h came call → visiting.Walks own v sent turn came old next new after → ThenOf (VisitStory path) A next new
   walks-then path A own v sent turn came old next new after call refused idle t s e heard w =
       then-as (VisitStory path) A _ next new w.next_is
       (visit-by path A own w.step new refused (visit-takes path v sent turn came old w.step new after call idle t s e heard w.takes))
 
-  copies-by : (path : List (List ℕ)) (A : Answer → Type 0) (own : List ℕ → Call) (step : VisitNext) (next : Next) (new : Visit) → ((fault : Fault) → A (answers.Refused fault))
+  copies-by : (path : List (List ℕ)) (A : Answer → Type 0) (own : List ℕ → Call) (step : VisitStep) (next : Step) (new : Visit) → ((fault : Fault) → A (answers.Refused fault))
       → VisitStory path new → CopiesBy own step next → ThenOf (VisitStory path) A next new
   copies-by path A own (visits.Look look) next new refused s c = then-as (VisitStory path) A (nexts.Send look) next new c s
   copies-by path A own visits.Wait next new refused s c = then-as (VisitStory path) A nexts.Wait next new c s
@@ -204,12 +204,12 @@ module _ (top : List ℕ) (h : List Entry) where
   copies-by path A own (visits.Ask dir) next new refused s (inr c) = then-as (VisitStory path) A (nexts.Done (answers.Refused faults.Memory)) next new c (refused faults.Memory)
   copies-by path A own (visits.Refused fault) next new refused s c = then-as (VisitStory path) A (nexts.Done (answers.Refused fault)) next new c (refused fault)
 
-  pub copy-then : (path : List (List ℕ)) (A : Answer → Type 0) (own : List ℕ → Call) (v : Visit) (turn : Turn) (shelf : Shelf) (next : Next) → ((fault : Fault) → A (answers.Refused fault))
+  pub copy-then : (path : List (List ℕ)) (A : Answer → Type 0) (own : List ℕ → Call) (v : Visit) (turn : Turn) (shelf : Shelf) (next : Step) → ((fault : Fault) → A (answers.Refused fault))
       → NamesTold h shelf.names → VisitStory path v → CopiesBy own (visiting.visit_next v turn shelf) next → ThenOf (VisitStory path) A next (visiting.visit_after v turn shelf)
   copy-then path A own v turn shelf next refused t s c =
       copies-by path A own (visiting.visit_next v turn shelf) next (visiting.visit_after v turn shelf) refused (visit-goes path v turn shelf t s) c
 
-  pub copies-then : (path : List (List ℕ)) (A : Answer → Type 0) (own : List ℕ → Call) (v : Visit) (sent turn : Turn) (came : Result Reply Fault) (old : Shelf) (next : Next) (step : VisitNext)
+  pub copies-then : (path : List (List ℕ)) (A : Answer → Type 0) (own : List ℕ → Call) (v : Visit) (sent turn : Turn) (came : Result Reply Fault) (old : Shelf) (next : Step) (step : VisitStep)
       (new : Visit) (after : Shelf) (call : Call) → ((fault : Fault) → A (answers.Refused fault)) → v.asked ≡ false → NamesTold h old.names → VisitStory path v → WalkAwaits v.walk call
       → IsHeard top h came call → visiting.VisitTakes v sent turn came old step new after → CopiesBy own step next → ThenOf (VisitStory path) A next new
   copies-then path A own v sent turn came old next step new after call refused idle t s e heard k c =
@@ -231,28 +231,28 @@ module _ (top : List ℕ) (h : List Entry) where
   not-both : (b : Bool) → b ≡ true → b ≡ false → ⊥
   not-both b is other = let no_way : true ≡ false = sym is ∙ other in cc
 
-  second-story : (first second : List (List ℕ)) (step : WalkNext) (room : Bool) (p : Pair) → p.asked ≡ false → p.first.asked ≡ false → WalkLeads top h first p.first
-      → WalkLeads top h second p.second → walking.next_name p.first ≡ None → WalkStep step p.second → PairStory first second (pairs.second_kept step room p)
+  second-story : (first second : List (List ℕ)) (step : WalkStep) (room : Bool) (p : Pair) → p.asked ≡ false → p.first.asked ≡ false → WalkLeads top h first p.first
+      → WalkLeads top h second p.second → walking.next_name p.first ≡ None → WalkMoves step p.second → PairStory first second (pairs.second_kept step room p)
   second-story first second step room p idle free one two end s = by step room s
     where
       stays : PairStory first second p
       stays = record { one = one; two = two; then_ = λ is. end; alone = λ is. absurd (not-both p.first.asked is free); done = λ is. absurd (not-both p.asked is idle) }
 
-      by : (w : WalkNext) (b : Bool) → WalkStep w p.second → PairStory first second (pairs.second_kept w b p)
+      by : (w : WalkStep) (b : Bool) → WalkMoves w p.second → PairStory first second (pairs.second_kept w b p)
       by (walks.Send call) b k = stays
       by walks.Wait b k = stays
       by (walks.At object) true k = record { one = one; two = two; then_ = λ is. end; alone = λ is. absurd (not-both p.first.asked is free); done = λ is. (end, k.1) }
       by (walks.At object) false k = stays
       by (walks.Refused fault) b k = stays
 
-  first-story : (first second : List (List ℕ)) (step : WalkNext) (p : Pair) (turn : Turn) (shelf : Shelf) → p.asked ≡ false → p.second.asked ≡ false → NamesTold h shelf.names
-      → WalkLeads top h first p.first → WalkLeads top h second p.second → WalkStep step p.first → PairStory first second (pairs.first_kept step p turn shelf)
+  first-story : (first second : List (List ℕ)) (step : WalkStep) (p : Pair) (turn : Turn) (shelf : Shelf) → p.asked ≡ false → p.second.asked ≡ false → NamesTold h shelf.names
+      → WalkLeads top h first p.first → WalkLeads top h second p.second → WalkMoves step p.first → PairStory first second (pairs.first_kept step p turn shelf)
   first-story first second step p turn shelf idle free t one two s = by step s
     where
       stays : PairStory first second p
       stays = record { one = one; two = two; then_ = λ is. absurd (not-both p.second.asked is free); alone = λ is. free; done = λ is. absurd (not-both p.asked is idle) }
 
-      by : (w : WalkNext) → WalkStep w p.first → PairStory first second (pairs.first_kept w p turn shelf)
+      by : (w : WalkStep) → WalkMoves w p.first → PairStory first second (pairs.first_kept w p turn shelf)
       by (walks.Send call) k = stays
       by walks.Wait k = stays
       by (walks.At object) k = second-story first second (walking.go_next p.second turn shelf) turn.room (record p { second = walking.go_after p.second turn shelf }) idle k.2 one
@@ -272,7 +272,7 @@ module _ (top : List ℕ) (h : List Entry) where
   waits-none : (b : Bool) (w : Walk) → w.asked ≡ b → b ≡ false → walking.waiting_name w ≡ None
   waits-none b w is none = ap (λ (c : Bool). if c then walking.next_name w else None) (is ∙ none)
 
-  pair-takes : (first second : List (List ℕ)) (b : Bool) (p : Pair) (sent turn : Turn) (came : Result Reply Fault) (old : Shelf) (next : PairNext) (new : Pair) (after : Shelf) (call : Call)
+  pair-takes : (first second : List (List ℕ)) (b : Bool) (p : Pair) (sent turn : Turn) (came : Result Reply Fault) (old : Shelf) (next : PairStep) (new : Pair) (after : Shelf) (call : Call)
       → p.asked ≡ false → p.first.asked ≡ b → NamesTold h old.names → PairStory first second p → PairOr false b (λ x y. call) p call → IsHeard top h came call
       → pairs.PairTakes b p sent turn came old next new after → PairStory first second new
   pair-takes first second true p sent turn came old next new after call idle is t s e heard k =
@@ -297,24 +297,24 @@ module _ (top : List ℕ) (h : List Entry) where
           let none : walking.waiting_name p.second ≡ None = waits-none false p.second at refl in
           let waited = subst (λ (o : Option (List ℕ)). walking.Takes o p.second sent turn came old k.step k.walked.second after) none k.takes in
           let same : k.walked ≡ p = k.walked_is ∙ ap (λ (w : Walk). record p { second = w }) waited.walk_is in
-          let to : new ≡ p = k.pair_is ∙ ap (λ (n : WalkNext). pairs.second_kept n turn.room k.walked) waited.next_is ∙ same in
+          let to : new ≡ p = k.pair_is ∙ ap (λ (n : WalkStep). pairs.second_kept n turn.room k.walked) waited.next_is ∙ same in
           subst (PairStory first second) (sym to) s
 
-  pair-by : (first second : List (List ℕ)) (A : Answer → Type 0) (own : List ℕ → List ℕ → Call) (step : PairNext) (new : Pair) → ((fault : Fault) → A (answers.Refused fault))
+  pair-by : (first second : List (List ℕ)) (A : Answer → Type 0) (own : List ℕ → List ℕ → Call) (step : PairStep) (new : Pair) → ((fault : Fault) → A (answers.Refused fault))
       → PairStory first second new → ThenOf (PairStory first second) A (pairs.next_by own step) new
   pair-by first second A own (two.Look look) new refused s = s
   pair-by first second A own two.Wait new refused s = s
   pair-by first second A own (two.Ask a b) new refused s = s
   pair-by first second A own (two.Refused fault) new refused s = refused fault
 
-  pub pair-then : (first second : List (List ℕ)) (A : Answer → Type 0) (own : List ℕ → List ℕ → Call) (p : Pair) (turn : Turn) (shelf : Shelf) (next : Next)
+  pub pair-then : (first second : List (List ℕ)) (A : Answer → Type 0) (own : List ℕ → List ℕ → Call) (p : Pair) (turn : Turn) (shelf : Shelf) (next : Step)
       → ((fault : Fault) → A (answers.Refused fault)) → NamesTold h shelf.names → PairStory first second p → next ≡ pairs.next_by own (pairs.pair_next p turn shelf)
       → ThenOf (PairStory first second) A next (pairs.pair_after p turn shelf)
   pair-then first second A own p turn shelf next refused t s is =
       then-as (PairStory first second) A _ next (pairs.pair_after p turn shelf) is
       (pair-by first second A own (pairs.pair_next p turn shelf) (pairs.pair_after p turn shelf) refused (pair-goes first second p turn shelf t s))
 
-  pub pair-walks-then : (first second : List (List ℕ)) (A : Answer → Type 0) (own : List ℕ → List ℕ → Call) (p : Pair) (sent turn : Turn) (came : Result Reply Fault) (old : Shelf) (next : Next)
+  pub pair-walks-then : (first second : List (List ℕ)) (A : Answer → Type 0) (own : List ℕ → List ℕ → Call) (p : Pair) (sent turn : Turn) (came : Result Reply Fault) (old : Shelf) (next : Step)
       (new : Pair) (after : Shelf) (call : Call) → ((fault : Fault) → A (answers.Refused fault)) → p.asked ≡ false → NamesTold h old.names → PairStory first second p
       → PairOr false p.first.asked own p call → IsHeard top h came call → pairs.Walks own p sent turn came old next new after → ThenOf (PairStory first second) A next new
   pair-walks-then first second A own p sent turn came old next new after call refused idle t s e heard w =

@@ -1,22 +1,22 @@
 -- An open and its walk, step by step; for which calls it asks, and what its answer shows.
-use Rattle.core_facts.proofs.Prelude.{◌≡◌, ◌-◌, ◌⊎◌, inl, inr, ℕ, Bool, true, false, List, Option, Some, None, Result, Ok, Err, refl, sym, ap, subst, ◌∙◌, if◌then◌else◌, Mode, DirKept, Answer, Fault, Entry, Call, Reply, Next, Shelf, Turn, OpenFile, Led, Opening, PutFile, Walk, WalkNext, found_by, look_again, Machine, Opener, PathMachine, IsNamed, front_of, last_of, file_of}
+use Rattle.core_facts.proofs.Prelude.{◌≡◌, ◌-◌, ◌⊎◌, inl, inr, ℕ, Bool, true, false, List, Option, Some, None, Result, Ok, Err, refl, sym, ap, subst, ◌∙◌, if◌then◌else◌, Mode, DirKept, Answer, Fault, Entry, Call, Reply, Step, Shelf, Turn, OpenFile, Led, Opening, PutFile, Walk, WalkStep, found_by, look_again, Machine, Opener, PathMachine, IsNamed, front_of, last_of, file_of}
 use Rattle.nfs_types.specs.declared.mode.Mode.TheVariants as modes
 use Rattle.nfs_dir_calls.specs.declared.keeping.DirKept.TheVariants as dir_kept
 use Rattle.world_model.specs.declared.answer.Answer.TheVariants as answers
 use Rattle.world_model.specs.declared.answer.Fault.TheVariants as faults
 use Rattle.world_model.specs.declared.message.Reply.TheVariants as replies
-use Rattle.client_shelf.specs.declared.next.Next.TheVariants as nexts
+use Rattle.client_shelf.specs.declared.step.Step.TheVariants as nexts
 use Rattle.file_ops.specs.declared.opening.Led.TheVariants as leads
 use Rattle.file_ops.specs.OpenFile as opens
 use Rattle.file_ops.specs.Opening as opening
-use Rattle.name_ops.specs.declared.walk.WalkNext.TheVariants as walks
+use Rattle.name_ops.specs.declared.walk.WalkStep.TheVariants as walks
 use Rattle.name_ops.specs.Walking as walking
 use Rattle.op_machines.specs.declared.file_machine.FileMachine.TheVariants as files
 use Rattle.op_machines.specs.declared.machine.Machine.TheVariants as machines
 use Rattle.op_machines.specs.declared.opener.Opener.TheVariants as openers
 use Rattle.op_machines.specs.PathSteps as paths
 use Rattle.core_facts.proofs.AllAwaited.{PathOr}
-use Rattle.core_facts.proofs.Awaited.{WalkStep, go-step, took-step}
+use Rattle.core_facts.proofs.Awaited.{WalkMoves, go-step, took-step}
 use Rattle.core_facts.proofs.Leading.{NamesTold, LeadsTo, WalkLeads, go-leads, took-leads, end-leads, IsHeard}
 use Rattle.core_facts.proofs.OneCalls.{then-as}
 use Rattle.core_facts.proofs.OpenStory.{not-kind, OpeningStory, OpeningTold, StepStory, has_to, led-on, go-next, led-next, OpenAnswer, as-next, follows-then}
@@ -64,7 +64,7 @@ gone-same false o = (refl, refl)
 
 -- ---- a walk gives no kind of file
 
-abbrev NoKind : WalkNext → Type 0
+abbrev NoKind : WalkStep → Type 0
 NoKind (walks.Send call) = Unit {0}
 NoKind walks.Wait = Unit {0}
 NoKind (walks.At dir) = Unit {0}
@@ -100,7 +100,7 @@ told-kind : (told : Result (List ℕ) Fault) (w : Walk) (turn : Turn) (shelf : S
 told-kind (Ok found) w turn shelf none = on-kind (walking.arrived w found) turn shelf
 told-kind (Err fault) w turn shelf none = none fault refl
 
-took-kind : (name : Option (List ℕ)) (w : Walk) (sent turn : Turn) (came : Result Reply Fault) (old : Shelf) (step : WalkNext) (new : Walk) (after : Shelf)
+took-kind : (name : Option (List ℕ)) (w : Walk) (sent turn : Turn) (came : Result Reply Fault) (old : Shelf) (step : WalkStep) (new : Walk) (after : Shelf)
     → ((f : Fault) → came ≡ Err f → f ≡ faults.Kind → ⊥) → walking.Takes name w sent turn came old step new after → NoKind step
 took-kind None w sent turn came old step new after none k = subst NoKind (sym k.next_is) tt
 took-kind (Some name) w sent turn came old step new after none k = subst NoKind (sym k.next_is) (by (look_again sent turn came old))
@@ -132,13 +132,13 @@ module _ (top : List ℕ) (h : List Entry) (x : ℕ) (path : List (List ℕ)) (m
   abbrev pub Over : Answer → Type 0
   Over answer = OpenOver answer ⊎ ((fault : Fault) × (answer ≡ answers.Refused fault) × (fault ≡ faults.Kind → ⊥))
 
-  abbrev pub Step : Next → Machine → Type 0
-  Step next new = ThenOf OpenRuns Over next new
+  abbrev pub StepIs : Step → Machine → Type 0
+  StepIs next new = ThenOf OpenRuns Over next new
 
   -- what the opening comes to
-  path-then : (next : Next) (n : OpenFile) (walk : Walk) (d : List ℕ) (new : Machine) → new ≡ machines.Path (record { walk = walk; opener = openers.Open n; arrived = true }) → n.opening.nocto ≡ nocto
+  path-then : (next : Step) (n : OpenFile) (walk : Walk) (d : List ℕ) (new : Machine) → new ≡ machines.Path (record { walk = walk; opener = openers.Open n; arrived = true }) → n.opening.nocto ≡ nocto
       → n.opening.dir ≡ d → LeadsTo top h (front_of path) d
-      → ThenOf (λ (k : OpenFile). OpeningStory top h x path mode k.opening) (OpenAnswer top h x path mode n.opening.nocto n.opening.dir) next n → Step next new
+      → ThenOf (λ (k : OpenFile). OpeningStory top h x path mode k.opening) (OpenAnswer top h x path mode n.opening.nocto n.opening.dir) next n → StepIs next new
   path-then next n walk d new is same at l t = by next t
     where
       runs : OpeningStory top h x path mode n.opening → OpenRuns new
@@ -154,7 +154,7 @@ module _ (top : List ℕ) (h : List Entry) (x : ℕ) (path : List (List ℕ)) (m
         there = λ yes_is. s;
       }
 
-      by : (k : Next) → ThenOf (λ (k : OpenFile). OpeningStory top h x path mode k.opening) (OpenAnswer top h x path mode n.opening.nocto n.opening.dir) k n → Step k new
+      by : (k : Step) → ThenOf (λ (k : OpenFile). OpeningStory top h x path mode k.opening) (OpenAnswer top h x path mode n.opening.nocto n.opening.dir) k n → StepIs k new
       by (nexts.Send call) s = runs s
       by nexts.Wait s = runs s
       by (nexts.Done answer) s = inl (record {
@@ -163,8 +163,8 @@ module _ (top : List ℕ) (h : List Entry) (x : ℕ) (path : List (List ℕ)) (m
         answer_is = subst (λ (b : Bool). OpenAnswer top h x path mode b d answer) same (subst (λ (f : List ℕ). OpenAnswer top h x path mode n.opening.nocto f answer) at s);
       })
 
-  then-open : (wsize : ℕ) (walk : Walk) (o : OpenFile) (turn : Turn) (old : Shelf) (next : Next) (new : PathMachine) (after : Shelf) → o.opening.nocto ≡ nocto
-      → OpeningStory top h x path mode o.opening → paths.ThenResumes wsize (record { walk = walk; opener = openers.Open o; arrived = true }) turn old next new after → Step next (machines.Path new)
+  then-open : (wsize : ℕ) (walk : Walk) (o : OpenFile) (turn : Turn) (old : Shelf) (next : Step) (new : PathMachine) (after : Shelf) → o.opening.nocto ≡ nocto
+      → OpeningStory top h x path mode o.opening → paths.ThenResumes wsize (record { walk = walk; opener = openers.Open o; arrived = true }) turn old next new after → StepIs next (machines.Path new)
   then-open wsize walk o turn old next new after same s t =
       let opener : t.opener ≡ openers.Open (opens.gone o turn) = open-of t.opener (opens.gone o turn) t.step.machine_is in
       let gone = gone-same (opening.waits o.opening turn) o.opening in
@@ -186,9 +186,9 @@ module _ (top : List ℕ) (h : List Entry) (x : ℕ) (path : List (List ℕ)) (m
       by modes.RW is = tt
       by modes.C is = tt
 
-  follows-open : (step : WalkNext) (wsize : ℕ) (walk : Walk) (o : OpenFile) (turn : Turn) (old : Shelf) (next : Next) (new : PathMachine) (after : Shelf) → o.opening.nocto ≡ nocto
-      → o.opening.name ≡ last_of path → o.opening.mode ≡ mode → WalkLeads top h (front_of path) walk → WalkStep step walk → NoKind step
-      → paths.Follows step wsize (record { walk = walk; opener = openers.Open o; arrived = false }) turn old next new after → Step next (machines.Path new)
+  follows-open : (step : WalkStep) (wsize : ℕ) (walk : Walk) (o : OpenFile) (turn : Turn) (old : Shelf) (next : Step) (new : PathMachine) (after : Shelf) → o.opening.nocto ≡ nocto
+      → o.opening.name ≡ last_of path → o.opening.mode ≡ mode → WalkLeads top h (front_of path) walk → WalkMoves step walk → NoKind step
+      → paths.Follows step wsize (record { walk = walk; opener = openers.Open o; arrived = false }) turn old next new after → StepIs next (machines.Path new)
   follows-open step wsize walk o turn old next new after same name_is mode_is l s none f = by step s none f
     where
       runs : new ≡ record { walk = walk; opener = openers.Open o; arrived = false } → OpenRuns (machines.Path new)
@@ -204,26 +204,26 @@ module _ (top : List ℕ) (h : List Entry) (x : ℕ) (path : List (List ℕ)) (m
         there = λ no_way. absurd (cc);
       }
 
-      by : (w : WalkNext) → WalkStep w walk → NoKind w → paths.Follows w wsize (record { walk = walk; opener = openers.Open o; arrived = false }) turn old next new after → Step next (machines.Path new)
+      by : (w : WalkStep) → WalkMoves w walk → NoKind w → paths.Follows w wsize (record { walk = walk; opener = openers.Open o; arrived = false }) turn old next new after → StepIs next (machines.Path new)
       by (walks.Send call) k z g = then-as OpenRuns Over (nexts.Send call) next (machines.Path new) g.0 (runs g.1)
       by walks.Wait k z g = then-as OpenRuns Over nexts.Wait next (machines.Path new) g.0 (runs g.1)
       by (walks.At dir) k z g = then-open wsize walk (record o { opening = record { dir = dir; name = o.opening.name; mode = o.opening.mode; nocto = o.opening.nocto; moment = o.opening.moment; step = opening.first_step o.opening.mode; asked = false; put_off = 0 } })
           turn old next new after same (first-story dir o.opening name_is mode_is (subst (λ (d : List ℕ). LeadsTo top h (front_of path) d) (sym k.0) (end-leads top h (front_of path) walk l k.1))) g
       by (walks.Refused fault) k z g = then-as OpenRuns Over (nexts.Done (answers.Refused fault)) next (machines.Path new) g.0 (inr (fault, refl, z))
 
-  pub open-resumes : (b : Bool) (wsize : ℕ) (walk : Walk) (o : OpenFile) (turn : Turn) (old : Shelf) (next : Next) (new : PathMachine) (after : Shelf) → o.opening.nocto ≡ nocto
+  pub open-resumes : (b : Bool) (wsize : ℕ) (walk : Walk) (o : OpenFile) (turn : Turn) (old : Shelf) (next : Step) (new : PathMachine) (after : Shelf) → o.opening.nocto ≡ nocto
       → o.opening.name ≡ last_of path → o.opening.mode ≡ mode → (b ≡ false → WalkLeads top h (front_of path) walk) → (b ≡ true → OpeningStory top h x path mode o.opening) → NamesTold h old.names
-      → paths.PathResumes b wsize (record { walk = walk; opener = openers.Open o; arrived = b }) turn old next new after → Step next (machines.Path new)
+      → paths.PathResumes b wsize (record { walk = walk; opener = openers.Open o; arrived = b }) turn old next new after → StepIs next (machines.Path new)
   open-resumes true wsize walk o turn old next new after same name_is mode_is l s t r = then-open wsize walk o turn old next new after same (s refl) r
   open-resumes false wsize walk o turn old next new after same name_is mode_is l s t r =
       follows-open (walking.go_next walk turn old) wsize (walking.go_after walk turn old) o turn (walking.go_shelf walk turn old) next new after same name_is mode_is
       (go-leads top h (front_of path) walk turn old t (l refl)) (go-step walk turn old) (go-kind walk turn old) r
 
-  pub open-takes : (b : Bool) (wsize : ℕ) (walk : Walk) (o : OpenFile) (sent turn : Turn) (came : Result Reply Fault) (old : Shelf) (next : Next) (new : PathMachine) (after : Shelf) (call : Call)
+  pub open-takes : (b : Bool) (wsize : ℕ) (walk : Walk) (o : OpenFile) (sent turn : Turn) (came : Result Reply Fault) (old : Shelf) (next : Step) (new : PathMachine) (after : Shelf) (call : Call)
       → IsNamed path → o.opening.nocto ≡ nocto → o.opening.name ≡ last_of path → o.opening.mode ≡ mode → (b ≡ false → WalkLeads top h (front_of path) walk)
       → (b ≡ true → OpeningStory top h x path mode o.opening) → NamesTold h old.names → PathOr b (record { walk = walk; opener = openers.Open o; arrived = b }) call → IsHeard top h came call
       → OpeningTold top h x path mode came call → paths.PathTakes b wsize (record { walk = walk; opener = openers.Open o; arrived = b }) sent turn came old next new after
-      → Step next (machines.Path new)
+      → StepIs next (machines.Path new)
   open-takes true wsize walk o sent turn came old next new after call named same name_is mode_is l s t e heard told k =
       let again = opening.opening_again o.opening sent turn came old.repeats in
       let led = opening.led_on o.opening turn.now came after.attrs old.pages in

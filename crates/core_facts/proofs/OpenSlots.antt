@@ -1,6 +1,6 @@
 -- What each step of an operation makes of the table of opens: an open that went well is put into its slot, a close takes one out, and all
 -- else leaves the table as it is.
-use Rattle.core_facts.proofs.Prelude.{◌≡◌, ◌-◌, ℕ, Bool, true, false, List, Option, Some, None, Result, Ok, Err, inl, inr, refl, sym, ap, subst, ◌∙◌, if◌then◌else◌, Attr, Mode, Wcc, Opened, Place, Opens, Pages, Answer, Fault, Call, Reply, Next, Shelf, Turn, OpenFile, Led, Opening, OpeningNext, OpeningStep, file_to_write, file_at, got_by, found_file, WalkNext, FileMachine, Machine, Opener, PathMachine, file_of, slot_taken, begun_at, placed, Starts, Resumes, Takes}
+use Rattle.core_facts.proofs.Prelude.{◌≡◌, ◌-◌, ℕ, Bool, true, false, List, Option, Some, None, Result, Ok, Err, inl, inr, refl, sym, ap, subst, ◌∙◌, if◌then◌else◌, Attr, Mode, Wcc, Opened, Place, Opens, Pages, Answer, Fault, Call, Reply, Step, Shelf, Turn, OpenFile, Led, Opening, OpeningStep, OpeningPhase, file_to_write, file_at, got_by, found_file, WalkStep, FileMachine, Machine, Opener, PathMachine, file_of, slot_taken, begun_at, placed, Starts, Resumes, Takes}
 use Rattle.std.proofs.Common.{is_some}
 use Rattle.page_cache.specs.Pages.{known_of}
 use Rattle.file_ops.specs.Told.{found_by, made_by}
@@ -17,13 +17,13 @@ use Rattle.world_model.specs.declared.answer.Answer.TheVariants as answers
 use Rattle.world_model.specs.declared.answer.Fault.TheVariants as faults
 use Rattle.world_model.specs.declared.message.Call.TheVariants as calls
 use Rattle.world_model.specs.declared.message.Reply.TheVariants as replies
-use Rattle.client_shelf.specs.declared.next.Next.TheVariants as nexts
+use Rattle.client_shelf.specs.declared.step.Step.TheVariants as nexts
 use Rattle.file_ops.specs.declared.opening.Led.TheVariants as leads
-use Rattle.file_ops.specs.declared.opening.OpeningNext.TheVariants as openings
-use Rattle.file_ops.specs.declared.opening.OpeningStep.TheVariants as opening_steps
+use Rattle.file_ops.specs.declared.opening.OpeningStep.TheVariants as openings
+use Rattle.file_ops.specs.declared.opening.OpeningPhase.TheVariants as opening_steps
 use Rattle.file_ops.specs.OpenFile as opens
 use Rattle.file_ops.specs.Opening as opening
-use Rattle.name_ops.specs.declared.walk.WalkNext.TheVariants as walks
+use Rattle.name_ops.specs.declared.walk.WalkStep.TheVariants as walks
 use Rattle.name_ops.specs.Walking as walking
 use Rattle.op_machines.specs.declared.file_machine.FileMachine.TheVariants as files
 use Rattle.op_machines.specs.declared.machine.Machine.TheVariants as machines
@@ -68,7 +68,7 @@ Leaves old new after = IsPlain new × (after.opens ≡ old.opens)
 file-as : (to new : FileMachine) → new ≡ to → FilePlain to → FilePlain new
 file-as to new is p = subst FilePlain (sym is) p
 
-file-starts : (m : FileMachine) (wsize : ℕ) (turn : Turn) (old : Shelf) (next : Next) (new : FileMachine) (after : Shelf) → FilePlain m
+file-starts : (m : FileMachine) (wsize : ℕ) (turn : Turn) (old : Shelf) (next : Step) (new : FileMachine) (after : Shelf) → FilePlain m
     → steps.Starts wsize m turn old next new after → LeavesFile old new after
 file-starts (files.Open m) wsize turn old next new after p s = absurd p
 file-starts (files.Read m) wsize turn old next new after p s = (file-as (files.Read s.machine) new s.machine_is tt, ap (λ (k : Shelf). k.opens) s.others)
@@ -80,7 +80,7 @@ file-starts (files.Close m) wsize turn old next new after p s = absurd p
 file-starts (files.Truncate m) wsize turn old next new after p s = (file-as _ new s.machine_is tt, plain.truncate-starts (found_file m old) m old after s.shelf_is)
 file-starts (files.Put m) wsize turn old next new after p s = (file-as _ new s.machine_is tt, ap (λ (k : Shelf). k.opens) s.shelf_is)
 
-file-resumes : (m : FileMachine) (wsize : ℕ) (turn : Turn) (old : Shelf) (next : Next) (new : FileMachine) (after : Shelf) → FilePlain m
+file-resumes : (m : FileMachine) (wsize : ℕ) (turn : Turn) (old : Shelf) (next : Step) (new : FileMachine) (after : Shelf) → FilePlain m
     → steps.Resumes wsize m turn old next new after → LeavesFile old new after
 file-resumes (files.Open m) wsize turn old next new after p s = absurd p
 file-resumes (files.Read m) wsize turn old next new after p s = (file-as (files.Read s.machine) new s.machine_is tt, ap (λ (k : Shelf). k.opens) s.others)
@@ -92,7 +92,7 @@ file-resumes (files.Truncate m) wsize turn old next new after p s = (file-as _ n
 file-resumes (files.Put m) wsize turn old next new after p s =
     (file-as (files.Put s.machine) new s.machine_is tt, plain.put-resumes m.state wsize m turn old next s.machine after s.step)
 
-file-takes : (m : FileMachine) (wsize : ℕ) (sent turn : Turn) (came : Result Reply Fault) (old : Shelf) (next : Next) (new : FileMachine) (after : Shelf) → FilePlain m
+file-takes : (m : FileMachine) (wsize : ℕ) (sent turn : Turn) (came : Result Reply Fault) (old : Shelf) (next : Step) (new : FileMachine) (after : Shelf) → FilePlain m
     → steps.Takes wsize m sent turn came old next new after → LeavesFile old new after
 file-takes (files.Open m) wsize sent turn came old next new after p s = absurd p
 file-takes (files.Read m) wsize sent turn came old next new after p s = (file-as (files.Read s.machine) new s.machine_is tt, ap (λ (k : Shelf). k.opens) s.others)
@@ -125,13 +125,13 @@ begun-plain moment (openers.Put m) p = tt
 path-as : (to new : PathMachine) → new ≡ to → OpenerPlain to.opener → OpenerPlain new.opener
 path-as to new is p = subst (λ (m : PathMachine). OpenerPlain m.opener) (sym is) p
 
-then-resumes : (wsize : ℕ) (m : PathMachine) (turn : Turn) (old : Shelf) (next : Next) (new : PathMachine) (after : Shelf) → OpenerPlain m.opener
+then-resumes : (wsize : ℕ) (m : PathMachine) (turn : Turn) (old : Shelf) (next : Step) (new : PathMachine) (after : Shelf) → OpenerPlain m.opener
     → paths.ThenResumes wsize m turn old next new after → LeavesPath old new after
 then-resumes wsize m turn old next new after p t =
     let l = file-resumes (file_of m.opener) wsize turn old next (file_of t.opener) after (opener-plain m.opener p) t.step in
     (path-as (record m { opener = t.opener }) new t.machine_is (plain-opener t.opener l.0), l.1)
 
-follows-path : (step : WalkNext) (wsize : ℕ) (m : PathMachine) (turn : Turn) (old : Shelf) (next : Next) (new : PathMachine) (after : Shelf) → OpenerPlain m.opener
+follows-path : (step : WalkStep) (wsize : ℕ) (m : PathMachine) (turn : Turn) (old : Shelf) (next : Step) (new : PathMachine) (after : Shelf) → OpenerPlain m.opener
     → paths.Follows step wsize m turn old next new after → LeavesPath old new after
 follows-path (walks.Send call) wsize m turn old next new after p f = (path-as m new f.1 p, ap (λ (k : Shelf). k.opens) f.2)
 follows-path walks.Wait wsize m turn old next new after p f = (path-as m new f.1 p, ap (λ (k : Shelf). k.opens) f.2)
@@ -139,19 +139,19 @@ follows-path (walks.At dir) wsize m turn old next new after p f =
     then-resumes wsize (record m { opener = placed dir m.opener; arrived = true }) turn old next new after (placed-plain dir m.opener p) f
 follows-path (walks.Refused fault) wsize m turn old next new after p f = (path-as m new f.1 p, ap (λ (k : Shelf). k.opens) f.2)
 
-path-resumes : (b : Bool) (wsize : ℕ) (m : PathMachine) (turn : Turn) (old : Shelf) (next : Next) (new : PathMachine) (after : Shelf) → OpenerPlain m.opener
+path-resumes : (b : Bool) (wsize : ℕ) (m : PathMachine) (turn : Turn) (old : Shelf) (next : Step) (new : PathMachine) (after : Shelf) → OpenerPlain m.opener
     → paths.PathResumes b wsize m turn old next new after → LeavesPath old new after
 path-resumes true wsize m turn old next new after p r = then-resumes wsize m turn old next new after p r
 path-resumes false wsize m turn old next new after p r =
     follows-path (walking.go_next m.walk turn old) wsize (record m { walk = walking.go_after m.walk turn old }) turn (walking.go_shelf m.walk turn old) next new after p r
 
-path-starts : (taken : Bool) (wsize : ℕ) (m : PathMachine) (turn : Turn) (old : Shelf) (next : Next) (new : PathMachine) (after : Shelf) → OpenerPlain m.opener
+path-starts : (taken : Bool) (wsize : ℕ) (m : PathMachine) (turn : Turn) (old : Shelf) (next : Step) (new : PathMachine) (after : Shelf) → OpenerPlain m.opener
     → paths.StartsIf taken wsize m turn old next new after → LeavesPath old new after
 path-starts true wsize m turn old next new after p s = (path-as m new s.1 p, ap (λ (k : Shelf). k.opens) s.2)
 path-starts false wsize m turn old next new after p s =
     path-resumes m.arrived wsize (record m { opener = begun_at (turn.moment - 1) m.opener }) turn old next new after (begun-plain (turn.moment - 1) m.opener p) s
 
-path-takes : (b : Bool) (wsize : ℕ) (m : PathMachine) (sent turn : Turn) (came : Result Reply Fault) (old : Shelf) (next : Next) (new : PathMachine) (after : Shelf)
+path-takes : (b : Bool) (wsize : ℕ) (m : PathMachine) (sent turn : Turn) (came : Result Reply Fault) (old : Shelf) (next : Step) (new : PathMachine) (after : Shelf)
     → OpenerPlain m.opener → paths.PathTakes b wsize m sent turn came old next new after → LeavesPath old new after
 path-takes true wsize m sent turn came old next new after p t =
     let l = file-takes (file_of m.opener) wsize sent turn came old next (file_of t.opener) after (opener-plain m.opener p) t.step in
@@ -163,7 +163,7 @@ path-takes false wsize m sent turn came old next new after p t =
 machine-as : (to new : Machine) → new ≡ to → IsPlain to → IsPlain new
 machine-as to new is p = subst IsPlain (sym is) p
 
-pub plain-starts : (m : Machine) (wsize : ℕ) (turn : Turn) (old : Shelf) (next : Next) (new : Machine) (after : Shelf) → IsPlain m → Starts wsize m turn old next new after
+pub plain-starts : (m : Machine) (wsize : ℕ) (turn : Turn) (old : Shelf) (next : Step) (new : Machine) (after : Shelf) → IsPlain m → Starts wsize m turn old next new after
     → Leaves old new after
 plain-starts (machines.File m) wsize turn old next new after p s =
     let l = file-starts m wsize turn old next s.machine after p s.step in (machine-as (machines.File s.machine) new s.machine_is l.0, l.1)
@@ -172,7 +172,7 @@ plain-starts (machines.Path m) wsize turn old next new after p s =
 plain-starts (machines.Name m) wsize turn old next new after p s =
     (machine-as (machines.Name s.machine) new s.machine_is tt, name-goes m turn old next s.machine after s.step)
 
-pub plain-resumes : (m : Machine) (wsize : ℕ) (turn : Turn) (old : Shelf) (next : Next) (new : Machine) (after : Shelf) → IsPlain m → Resumes wsize m turn old next new after
+pub plain-resumes : (m : Machine) (wsize : ℕ) (turn : Turn) (old : Shelf) (next : Step) (new : Machine) (after : Shelf) → IsPlain m → Resumes wsize m turn old next new after
     → Leaves old new after
 plain-resumes (machines.File m) wsize turn old next new after p s =
     let l = file-resumes m wsize turn old next s.machine after p s.step in (machine-as (machines.File s.machine) new s.machine_is l.0, l.1)
@@ -181,7 +181,7 @@ plain-resumes (machines.Path m) wsize turn old next new after p s =
 plain-resumes (machines.Name m) wsize turn old next new after p s =
     (machine-as (machines.Name s.machine) new s.machine_is tt, name-goes m turn old next s.machine after s.step)
 
-pub plain-takes : (m : Machine) (wsize : ℕ) (sent turn : Turn) (came : Result Reply Fault) (old : Shelf) (next : Next) (new : Machine) (after : Shelf) → IsPlain m
+pub plain-takes : (m : Machine) (wsize : ℕ) (sent turn : Turn) (came : Result Reply Fault) (old : Shelf) (next : Step) (new : Machine) (after : Shelf) → IsPlain m
     → Takes wsize m sent turn came old next new after → Leaves old new after
 plain-takes (machines.File m) wsize sent turn came old next new after p s =
     let l = file-takes m wsize sent turn came old next s.machine after p s.step in (machine-as (machines.File s.machine) new s.machine_is l.0, l.1)
@@ -219,7 +219,7 @@ pub data FindsBy (nocto : Bool) (call : Call) (came : Result Reply Fault) (f : L
       → came ≡ Ok (replies.Dir (found.Create (Some f) attr wcc)) → FindsBy nocto call came f
 
 -- The step leaves the table as it is, or puts the open into its slot, which is empty.
-pub data OpenTook (nocto : Bool) (lane slot : ℕ) (mode : Mode) (was : Machine) (came : Result Reply Fault) (old : Opens) (next : Next) (machine : Machine) (new : Opens) : Type 0 where
+pub data OpenTook (nocto : Bool) (lane slot : ℕ) (mode : Mode) (was : Machine) (came : Result Reply Fault) (old : Opens) (next : Step) (machine : Machine) (new : Opens) : Type 0 where
   table_stays : new ≡ old → ThenOf (IsOpener nocto lane slot mode) IsRefusal next machine → OpenTook nocto lane slot mode was came old next machine new
   puts_open : (of : Opened) (call : Call) → finite.get old (lane, slot) ≡ None → new ≡ finite.insert old (lane, slot) of → of.mode ≡ mode → next ≡ opens.well
       → ((k : Call) → Expects was k → k ≡ call) → FindsBy nocto call came of.file → OpenTook nocto lane slot mode was came old next machine new
@@ -285,7 +285,7 @@ known-at None known o sent turn file f old new l = absurd (go-ends (opening.at_s
 known-at (Some attr) None o sent turn file f old new l = absurd (go-ends (opening.at_step o (opening_steps.Ask file)) turn (Ok f) l.0)
 known-at (Some attr) (Some stamp) o sent turn file f old new l = known-file _ o sent turn file stamp f old new l
 
-known-step : (step : OpeningStep) (now : ℕ) (attrs : Attrs) (pages : Pages) (o : Opening) (sent turn : Turn) (f : List ℕ) (old new : Pages)
+known-step : (step : OpeningPhase) (now : ℕ) (attrs : Attrs) (pages : Pages) (o : Opening) (sent turn : Turn) (f : List ℕ) (old new : Pages)
     → opening.LedTo o sent turn (opening.known_step step now attrs pages) (openings.Ended (Ok f)) old new → step ≡ opening_steps.Ask f
 known-step opening_steps.Look now attrs pages o sent turn f old new l = absurd (go-ends (opening.at_step o opening_steps.Look) turn (Ok f) l.0)
 known-step opening_steps.Make now attrs pages o sent turn f old new l = absurd (go-ends (opening.at_step o opening_steps.Make) turn (Ok f) l.0)
@@ -380,7 +380,7 @@ kind-opens : (b : Bool) (file f : List ℕ) (attr a : Attr) → (if b then leads
 kind-opens true file f attr a e = cc
 kind-opens false file f attr a e = absurd cc
 
-kind-goes : (b : Bool) (file : List ℕ) (attr : Attr) (step : OpeningStep) → (if b then leads.Opens file attr else leads.Ends faults.Kind) ≡ leads.Goes step → ⊥
+kind-goes : (b : Bool) (file : List ℕ) (attr : Attr) (step : OpeningPhase) → (if b then leads.Opens file attr else leads.Ends faults.Kind) ≡ leads.Goes step → ⊥
 kind-goes true file attr step e = cc
 kind-goes false file attr step e = cc
 
@@ -397,7 +397,7 @@ got-opens : (r : Result Attr Fault) (file f : List ℕ) (a : Attr) → opening.g
 got-opens (Ok attr) file f a e = record { attr = attr; got = refl; same = kind-opens _ file f attr a e }
 got-opens (Err fault) file f a e = absurd cc
 
-got-goes : (r : Result Attr Fault) (file : List ℕ) (step : OpeningStep) → opening.got file r ≡ leads.Goes step → ⊥
+got-goes : (r : Result Attr Fault) (file : List ℕ) (step : OpeningPhase) → opening.got file r ≡ leads.Goes step → ⊥
 got-goes (Ok attr) file step e = kind-goes _ file attr step e
 got-goes (Err fault) file step e = cc
 
@@ -421,7 +421,7 @@ missing-asks : (b : Bool) (r : Result (List ℕ) Fault) (f : List ℕ) → (if b
 missing-asks true r f e = absurd (make-asks f e)
 missing-asks false r f e = found-asks r f e
 
-told-file : (step : OpeningStep) (o : Opening) (came : Result Reply Fault) (f : List ℕ) → ToldFile o.nocto (opening.led_to o.mode step came) f
+told-file : (step : OpeningPhase) (o : Opening) (came : Result Reply Fault) (f : List ℕ) → ToldFile o.nocto (opening.led_to o.mode step came) f
     → FindsBy o.nocto (opening.call_of o step) came f
 told-file opening_steps.Look o came f (tells_opened attr e) = absurd (missing-opens (opening.makes o.mode came) (found_by came) f attr e)
 told-file opening_steps.Look o came f (tells_knows stamp e) = absurd (missing-knows (opening.makes o.mode came) (found_by came) f stamp e)
@@ -442,36 +442,36 @@ told-file (opening_steps.Ask file) o came f (tells_knows stamp e) = absurd (got-
 told-file (opening_steps.Ask file) o came f (tells_goes nocto e) = absurd (got-goes (got_by came) file (opening_steps.Ask f) e)
 
 -- the file that an opening ends with
-opening-file : (again : Bool) (o : Opening) (sent turn : Turn) (came : Result Reply Fault) (attrs : Attrs) (step : OpeningNext) (f : List ℕ) (pages later : Pages) → step ≡ openings.Ended (Ok f)
+opening-file : (again : Bool) (o : Opening) (sent turn : Turn) (came : Result Reply Fault) (attrs : Attrs) (step : OpeningStep) (f : List ℕ) (pages later : Pages) → step ≡ openings.Ended (Ok f)
     → opening.LedIf again o sent turn (opening.led_on o turn.now came attrs pages) step pages later → FindsBy o.nocto (opening.call_of o o.step) came f
 opening-file true o sent turn came attrs step f pages later is l =
     absurd (let no_way : openings.Ended (Ok f) ≡ openings.Send (opening.call_of o o.step) = sym is ∙ l.0 in cc)
 opening-file false o sent turn came attrs step f pages later is l =
     told-file o.step o came f (led-file o.nocto (opening.told_led o came) turn.now attrs pages o sent turn f pages later
-    (subst (λ (n : OpeningNext). opening.LedTo o sent turn (opening.led_on o turn.now came attrs pages) n pages later) is l))
+    (subst (λ (n : OpeningStep). opening.LedTo o sent turn (opening.led_on o turn.now came attrs pages) n pages later) is l))
 
 -- ---- the steps of an open
 
 module _ (nocto : Bool) (lane slot : ℕ) (mode : Mode) where
-  abbrev Stays : Shelf → Next → Machine → Shelf → Type 0
+  abbrev Stays : Shelf → Step → Machine → Shelf → Type 0
   Stays old next new after = ThenOf (IsOpener nocto lane slot mode) IsRefusal next new × (after.opens ≡ old.opens)
 
   -- a step that doesn't end
-  then-goes : (next : Next) (new : Machine) → IsOpener nocto lane slot mode new → ((answer : Answer) → next ≡ nexts.Done answer → ⊥) → ThenOf (IsOpener nocto lane slot mode) IsRefusal next new
+  then-goes : (next : Step) (new : Machine) → IsOpener nocto lane slot mode new → ((answer : Answer) → next ≡ nexts.Done answer → ⊥) → ThenOf (IsOpener nocto lane slot mode) IsRefusal next new
   then-goes (nexts.Send call) new o goes = o
   then-goes nexts.Wait new o goes = o
   then-goes (nexts.Done answer) new o goes = absurd (goes answer refl)
 
-  then-refused : (next : Next) (new : Machine) (fault : Fault) → next ≡ opens.refused fault → ThenOf (IsOpener nocto lane slot mode) IsRefusal next new
-  then-refused next new fault is = subst (λ (n : Next). ThenOf (IsOpener nocto lane slot mode) IsRefusal n new) (sym is) tt
+  then-refused : (next : Step) (new : Machine) (fault : Fault) → next ≡ opens.refused fault → ThenOf (IsOpener nocto lane slot mode) IsRefusal next new
+  then-refused next new fault is = subst (λ (n : Step). ThenOf (IsOpener nocto lane slot mode) IsRefusal n new) (sym is) tt
 
-  send-not : (call : Call) (next : Next) → next ≡ nexts.Send call → (answer : Answer) → next ≡ nexts.Done answer → ⊥
+  send-not : (call : Call) (next : Step) → next ≡ nexts.Send call → (answer : Answer) → next ≡ nexts.Done answer → ⊥
   send-not call next is answer ends = let no_way : nexts.Send call ≡ nexts.Done answer = sym is ∙ ends in cc
 
-  wait-not : (next : Next) → next ≡ nexts.Wait → (answer : Answer) → next ≡ nexts.Done answer → ⊥
+  wait-not : (next : Step) → next ≡ nexts.Wait → (answer : Answer) → next ≡ nexts.Done answer → ⊥
   wait-not next is answer ends = let no_way : nexts.Wait ≡ nexts.Done answer = sym is ∙ ends in cc
 
-  go-not : (b : Bool) (call : Call) (next : Next) → next ≡ opens.goes_as (if b then openings.Wait else openings.Send call) → (answer : Answer) → next ≡ nexts.Done answer → ⊥
+  go-not : (b : Bool) (call : Call) (next : Step) → next ≡ opens.goes_as (if b then openings.Wait else openings.Send call) → (answer : Answer) → next ≡ nexts.Done answer → ⊥
   go-not true call next is answer ends = wait-not next is answer ends
   go-not false call next is answer ends = send-not call next is answer ends
 
@@ -489,7 +489,7 @@ module _ (nocto : Bool) (lane slot : ℕ) (mode : Mode) where
   opener-same (openers.Open m) o e = ap openers.Open (some-open o m (sym e))
   opener-same (openers.Put m) o e = absurd (no-open o m (sym e))
 
-  open-resumes : (wsize : ℕ) (m : PathMachine) (o : OpenFile) (turn : Turn) (old : Shelf) (next : Next) (new : PathMachine) (after : Shelf) → m.opener ≡ openers.Open o
+  open-resumes : (wsize : ℕ) (m : PathMachine) (o : OpenFile) (turn : Turn) (old : Shelf) (next : Step) (new : PathMachine) (after : Shelf) → m.opener ≡ openers.Open o
       → IsAt nocto lane slot mode o → paths.ThenResumes wsize m turn old next new after → Stays old next (machines.Path new) after
   open-resumes wsize m o turn old next new after at is t = by (subst (λ (k : Opener). steps.Resumes wsize (file_of k) turn old next (file_of t.opener) after) at t.step)
     where
@@ -505,7 +505,7 @@ module _ (nocto : Bool) (lane slot : ℕ) (mode : Mode) where
   on-way : (m new : PathMachine) (o : OpenFile) → new ≡ m → m.opener ≡ openers.Open o → IsAt nocto lane slot mode o → IsOpener nocto lane slot mode (machines.Path new)
   on-way m new o same at is = record { m = new; o = o; is = refl; opener = ap (λ (p : PathMachine). p.opener) same ∙ at; at = is }
 
-  open-follows : (step : WalkNext) (wsize : ℕ) (m : PathMachine) (o : OpenFile) (turn : Turn) (old : Shelf) (next : Next) (new : PathMachine) (after : Shelf) → m.opener ≡ openers.Open o
+  open-follows : (step : WalkStep) (wsize : ℕ) (m : PathMachine) (o : OpenFile) (turn : Turn) (old : Shelf) (next : Step) (new : PathMachine) (after : Shelf) → m.opener ≡ openers.Open o
       → IsAt nocto lane slot mode o → paths.Follows step wsize m turn old next new after → Stays old next (machines.Path new) after
   open-follows (walks.Send call) wsize m o turn old next new after at is f =
       (then-goes next (machines.Path new) (on-way m new o f.1 at is) (send-not call next f.0), ap (λ (k : Shelf). k.opens) f.2)
@@ -515,23 +515,23 @@ module _ (nocto : Bool) (lane slot : ℕ) (mode : Mode) where
       (record { lane_is = is.lane_is; slot_is = is.slot_is; mode_is = is.mode_is; nocto_is = is.nocto_is }) f
   open-follows (walks.Refused fault) wsize m o turn old next new after at is f = (then-refused next (machines.Path new) fault f.0, ap (λ (k : Shelf). k.opens) f.2)
 
-  path-goes : (b : Bool) (wsize : ℕ) (m : PathMachine) (o : OpenFile) (turn : Turn) (old : Shelf) (next : Next) (new : PathMachine) (after : Shelf) → m.opener ≡ openers.Open o
+  path-goes : (b : Bool) (wsize : ℕ) (m : PathMachine) (o : OpenFile) (turn : Turn) (old : Shelf) (next : Step) (new : PathMachine) (after : Shelf) → m.opener ≡ openers.Open o
       → IsAt nocto lane slot mode o → paths.PathResumes b wsize m turn old next new after → Stays old next (machines.Path new) after
   path-goes true wsize m o turn old next new after at is r = open-resumes wsize m o turn old next new after at is r
   path-goes false wsize m o turn old next new after at is r =
       open-follows (walking.go_next m.walk turn old) wsize (record m { walk = walking.go_after m.walk turn old }) o turn (walking.go_shelf m.walk turn old) next new after at is r
 
-  starts-if : (taken : Bool) (wsize : ℕ) (m : PathMachine) (o : OpenFile) (turn : Turn) (old : Shelf) (next : Next) (new : PathMachine) (after : Shelf) → m.opener ≡ openers.Open o
+  starts-if : (taken : Bool) (wsize : ℕ) (m : PathMachine) (o : OpenFile) (turn : Turn) (old : Shelf) (next : Step) (new : PathMachine) (after : Shelf) → m.opener ≡ openers.Open o
       → IsAt nocto lane slot mode o → paths.StartsIf taken wsize m turn old next new after → Stays old next (machines.Path new) after
   starts-if true wsize m o turn old next new after at is s = (then-refused next (machines.Path new) faults.Slot s.0, ap (λ (k : Shelf). k.opens) s.2)
   starts-if false wsize m o turn old next new after at is s =
       path-goes m.arrived wsize (record m { opener = begun_at (turn.moment - 1) m.opener }) (record o { opening = record o.opening { moment = turn.moment - 1 } }) turn old next new after
       (ap (begun_at (turn.moment - 1)) at) (record { lane_is = is.lane_is; slot_is = is.slot_is; mode_is = is.mode_is; nocto_is = is.nocto_is }) s
 
-  stays-as : (old : Shelf) (next : Next) (to new : Machine) (after : Shelf) → new ≡ to → Stays old next to after → Stays old next new after
+  stays-as : (old : Shelf) (next : Step) (to new : Machine) (after : Shelf) → new ≡ to → Stays old next to after → Stays old next new after
   stays-as old next to new after is s = subst (λ (m : Machine). Stays old next m after) (sym is) s
 
-  pub opener-starts : (machine : Machine) (wsize : ℕ) (turn : Turn) (old : Shelf) (next : Next) (new : Machine) (after : Shelf) → IsOpener nocto lane slot mode machine
+  pub opener-starts : (machine : Machine) (wsize : ℕ) (turn : Turn) (old : Shelf) (next : Step) (new : Machine) (after : Shelf) → IsOpener nocto lane slot mode machine
       → Starts wsize machine turn old next new after → Stays old next new after
   opener-starts machine wsize turn old next new after i s = by (subst (λ (n : Machine). Starts wsize n turn old next new after) i.is s)
     where
@@ -540,12 +540,12 @@ module _ (nocto : Bool) (lane slot : ℕ) (mode : Mode) where
           (starts-if (slot_taken i.m.opener old.opens) wsize i.m i.o turn old next t.machine after i.opener i.at t.step)
 
   -- where its slot is taken as it begins
-  taken-if : (b : Bool) (wsize : ℕ) (m : PathMachine) (turn : Turn) (old : Shelf) (next : Next) (new : PathMachine) (after : Shelf) → b ≡ true → paths.StartsIf b wsize m turn old next new after
+  taken-if : (b : Bool) (wsize : ℕ) (m : PathMachine) (turn : Turn) (old : Shelf) (next : Step) (new : PathMachine) (after : Shelf) → b ≡ true → paths.StartsIf b wsize m turn old next new after
       → (next ≡ opens.refused faults.Slot) × (after.opens ≡ old.opens)
   taken-if true wsize m turn old next new after is s = (s.0, ap (λ (k : Shelf). k.opens) s.2)
   taken-if false wsize m turn old next new after is s = absurd (let no_way : false ≡ true = is in cc)
 
-  pub opener-taken : (machine : Machine) (other : Opened) (wsize : ℕ) (turn : Turn) (old : Shelf) (next : Next) (new : Machine) (after : Shelf) → IsOpener nocto lane slot mode machine
+  pub opener-taken : (machine : Machine) (other : Opened) (wsize : ℕ) (turn : Turn) (old : Shelf) (next : Step) (new : Machine) (after : Shelf) → IsOpener nocto lane slot mode machine
       → finite.get old.opens (lane, slot) ≡ Some other → Starts wsize machine turn old next new after → (next ≡ opens.refused faults.Slot) × (after.opens ≡ old.opens)
   opener-taken machine other wsize turn old next new after i there s = by (subst (λ (n : Machine). Starts wsize n turn old next new after) i.is s)
     where
@@ -558,7 +558,7 @@ module _ (nocto : Bool) (lane slot : ℕ) (mode : Mode) where
       by : Starts wsize (machines.Path i.m) turn old next new after → (next ≡ opens.refused faults.Slot) × (after.opens ≡ old.opens)
       by t = taken-if (slot_taken i.m.opener old.opens) wsize i.m turn old next t.machine after is_taken t.step
 
-  pub opener-resumes : (machine : Machine) (wsize : ℕ) (turn : Turn) (old : Shelf) (next : Next) (new : Machine) (after : Shelf) → IsOpener nocto lane slot mode machine
+  pub opener-resumes : (machine : Machine) (wsize : ℕ) (turn : Turn) (old : Shelf) (next : Step) (new : Machine) (after : Shelf) → IsOpener nocto lane slot mode machine
       → Resumes wsize machine turn old next new after → Stays old next new after
   opener-resumes machine wsize turn old next new after i s = by (subst (λ (n : Machine). Resumes wsize n turn old next new after) i.is s)
     where
@@ -567,17 +567,17 @@ module _ (nocto : Bool) (lane slot : ℕ) (mode : Mode) where
 
   -- ---- with what came of a call
 
-  abbrev Took : Machine → Result Reply Fault → Shelf → Next → Machine → Shelf → Type 0
+  abbrev Took : Machine → Result Reply Fault → Shelf → Step → Machine → Shelf → Type 0
   Took was came old next new after = OpenTook nocto lane slot mode was came old.opens next new after.opens
 
-  puts-over : (there : Option Opened) (was : Machine) (came : Result Reply Fault) (of : Opened) (call : Call) (old new : Opens) (next : Next) (machine : Machine)
+  puts-over : (there : Option Opened) (was : Machine) (came : Result Reply Fault) (of : Opened) (call : Call) (old new : Opens) (next : Step) (machine : Machine)
       → finite.get old (lane, slot) ≡ there → of.mode ≡ mode → ((k : Call) → Expects was k → k ≡ call) → FindsBy nocto call came of.file
       → opens.PutsOver there (lane, slot) of next old new → OpenTook nocto lane slot mode was came old next machine new
   puts-over (Some other) was came of call old new next machine there mode_is expects finds p = table_stays p.1 (then-refused next machine faults.Slot p.0)
   puts-over None was came of call old new next machine there mode_is expects finds (inl p) = puts_open of call there p.1 mode_is p.0 expects finds
   puts-over None was came of call old new next machine there mode_is expects finds (inr p) = table_stays p.1 (then-refused next machine faults.Memory p.0)
 
-  took-follows : (step : OpeningNext) (was : Machine) (came : Result Reply Fault) (o : OpenFile) (old new : Opens) (next : Next) (machine : Machine) → IsAt nocto lane slot mode o
+  took-follows : (step : OpeningStep) (was : Machine) (came : Result Reply Fault) (o : OpenFile) (old new : Opens) (next : Step) (machine : Machine) → IsAt nocto lane slot mode o
       → IsOpener nocto lane slot mode machine → ((k : Call) → Expects was k → k ≡ opening.call_of o.opening o.opening.step)
       → ((f : List ℕ) → step ≡ openings.Ended (Ok f) → FindsBy nocto (opening.call_of o.opening o.opening.step) came f)
       → opens.Follows o step next old new → OpenTook nocto lane slot mode was came old next machine new
@@ -591,7 +591,7 @@ module _ (nocto : Bool) (lane slot : ℕ) (mode : Mode) where
       place : ◌≡◌ {A = Place} (o.lane, o.slot) (lane, slot)
       place = ap {B = Place} (λ (n : ℕ). (n, o.slot)) is.lane_is ∙ ap {B = Place} (λ (n : ℕ). (lane, n)) is.slot_is
 
-  open-takes : (wsize : ℕ) (m : PathMachine) (o : OpenFile) (sent turn : Turn) (came : Result Reply Fault) (old : Shelf) (next : Next) (new : PathMachine) (after : Shelf) → m.arrived ≡ true
+  open-takes : (wsize : ℕ) (m : PathMachine) (o : OpenFile) (sent turn : Turn) (came : Result Reply Fault) (old : Shelf) (next : Step) (new : PathMachine) (after : Shelf) → m.arrived ≡ true
       → m.opener ≡ openers.Open o → IsAt nocto lane slot mode o → paths.ThenTakes wsize m sent turn came old next new after → Took (machines.Path m) came old next (machines.Path new) after
   open-takes wsize m o sent turn came old next new after there at is t =
       by (subst (λ (k : Opener). steps.Takes wsize (file_of k) sent turn came old next (file_of t.opener) after) at t.step)
@@ -609,7 +609,7 @@ module _ (nocto : Bool) (lane slot : ℕ) (mode : Mode) where
           (opening-file again o.opening sent turn came after.attrs s.steps.step f old.pages after.pages e s.steps.led))
           s.steps.follows
 
-  path-takes-open : (b : Bool) (wsize : ℕ) (m : PathMachine) (o : OpenFile) (sent turn : Turn) (came : Result Reply Fault) (old : Shelf) (next : Next) (new : PathMachine) (after : Shelf)
+  path-takes-open : (b : Bool) (wsize : ℕ) (m : PathMachine) (o : OpenFile) (sent turn : Turn) (came : Result Reply Fault) (old : Shelf) (next : Step) (new : PathMachine) (after : Shelf)
       → m.arrived ≡ b → m.opener ≡ openers.Open o → IsAt nocto lane slot mode o → paths.PathTakes b wsize m sent turn came old next new after
       → Took (machines.Path m) came old next (machines.Path new) after
   path-takes-open true wsize m o sent turn came old next new after is at fits t = open-takes wsize m o sent turn came old next new after is at fits t
@@ -617,7 +617,7 @@ module _ (nocto : Bool) (lane slot : ℕ) (mode : Mode) where
       let f = open-follows t.step wsize t.walked o turn t.heard next new after (ap (λ (w : PathMachine). w.opener) t.walked_is ∙ at) fits t.follows in
       table_stays (f.1 ∙ walk-opens (walking.waiting_name m.walk) m.walk sent turn came old t.step t.walked.walk t.heard t.takes) f.0
 
-  pub opener-takes : (machine : Machine) (wsize : ℕ) (sent turn : Turn) (came : Result Reply Fault) (old : Shelf) (next : Next) (new : Machine) (after : Shelf)
+  pub opener-takes : (machine : Machine) (wsize : ℕ) (sent turn : Turn) (came : Result Reply Fault) (old : Shelf) (next : Step) (new : Machine) (after : Shelf)
       → IsOpener nocto lane slot mode machine → Takes wsize machine sent turn came old next new after → Took machine came old next new after
   opener-takes machine wsize sent turn came old next new after i s = by (subst (λ (n : Machine). Takes wsize n sent turn came old next new after) i.is s)
     where

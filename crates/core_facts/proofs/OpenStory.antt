@@ -1,5 +1,5 @@
 -- An open, step by step: its file is found by LOOKUP or CREATE of its last name, and its attributes are asked for.
-use Rattle.core_facts.proofs.Prelude.{◌≡◌, ◌≢◌, ◌-◌, ◌==◌, inl, inr, ℕ, Bool, true, false, List, length, Option, Some, None, Result, Ok, Err, refl, sym, ap, subst, ◌∙◌, arith, if◌then◌else◌, eqb-true, eqb-false, Attr, Wcc, Mode, DirKept, FileKept, Answer, Fault, Entry, Call, Reply, Asked, EndsWith, Asked-wide, Next, Turn, OpenFile, Led, Opening, OpeningNext, OpeningStep, got_by, IsNamed, front_of, last_of}
+use Rattle.core_facts.proofs.Prelude.{◌≡◌, ◌≢◌, ◌-◌, ◌==◌, inl, inr, ℕ, Bool, true, false, List, length, Option, Some, None, Result, Ok, Err, refl, sym, ap, subst, ◌∙◌, arith, if◌then◌else◌, eqb-true, eqb-false, Attr, Wcc, Mode, DirKept, FileKept, Answer, Fault, Entry, Call, Reply, Asked, EndsWith, Asked-wide, Step, Turn, OpenFile, Led, Opening, OpeningStep, OpeningPhase, got_by, IsNamed, front_of, last_of}
 use Rattle.world_model.specs.Heard.{status_of}
 use Rattle.file_ops.specs.Told.{found_by, made_by}
 use Rattle.std.specs.FinMap as finite
@@ -18,10 +18,10 @@ use Rattle.world_model.specs.declared.message.Reply.TheVariants as replies
 use Rattle.claims.specs.Asks.{MakesFile, look_up}
 use Rattle.claims.specs.Asks as asks
 use Rattle.world_model.specs.Leads as leading
-use Rattle.client_shelf.specs.declared.next.Next.TheVariants as nexts
+use Rattle.client_shelf.specs.declared.step.Step.TheVariants as nexts
 use Rattle.file_ops.specs.declared.opening.Led.TheVariants as leads
-use Rattle.file_ops.specs.declared.opening.OpeningNext.TheVariants as openings
-use Rattle.file_ops.specs.declared.opening.OpeningStep.TheVariants as opening_steps
+use Rattle.file_ops.specs.declared.opening.OpeningStep.TheVariants as openings
+use Rattle.file_ops.specs.declared.opening.OpeningPhase.TheVariants as opening_steps
 use Rattle.file_ops.specs.OpenFile as opens
 use Rattle.file_ops.specs.Opening as opening
 use Rattle.core_facts.proofs.Leading.{LeadsTo}
@@ -54,7 +54,7 @@ module _ (top : List ℕ) (h : List Entry) (x : ℕ) (path : List (List ℕ)) (m
     has_to : mode ≡ modes.X → MayMake d
     missing : (reply : Reply) → mode ≡ modes.C → Asked h x (length h) (look_up d (last_of path)) reply → status_of reply ≡ 2 → MayMake d
 
-  abbrev pub StepStory : List ℕ → OpeningStep → Type 0
+  abbrev pub StepStory : List ℕ → OpeningPhase → Type 0
   StepStory d opening_steps.Look = Unit {0}
   StepStory d opening_steps.Make = MayMake d
   StepStory d opening_steps.Find = Unit {0}
@@ -191,10 +191,10 @@ module _ (top : List ℕ) (h : List Entry) (x : ℕ) (path : List (List ℕ)) (m
       named-call : look_up o.dir o.name ≡ look_up o.dir (last_of path)
       named-call = ap (look_up o.dir) s.name_is
 
-      at : (k : OpeningStep) → o.step ≡ k → OpeningTold came (opening.call_of o k)
+      at : (k : OpeningPhase) → o.step ≡ k → OpeningTold came (opening.call_of o k)
       at k is = told-as came (opening.call_of o o.step) (opening.call_of o k) (ap (opening.call_of o) is) t
 
-      by : (k : OpeningStep) → o.step ≡ k → StepStory o.dir k → LedStory false o.dir (opening.led_to o.mode k came)
+      by : (k : OpeningPhase) → o.step ≡ k → StepStory o.dir k → LedStory false o.dir (opening.led_to o.mode k came)
       by opening_steps.Look is p = look-led o.dir o.mode came s.mode_is named s.leads (told-as came _ _ named-call (at opening_steps.Look is))
       by opening_steps.Find is p = found-led o.dir came named s.leads (told-as came _ _ named-call (at opening_steps.Find is))
       by opening_steps.Make is p =
@@ -231,7 +231,7 @@ module _ (top : List ℕ) (h : List Entry) (x : ℕ) (path : List (List ℕ)) (m
 
   -- ---- what a step comes to
 
-  abbrev pub NextStory : OpeningNext → Opening → Type 0
+  abbrev pub NextStory : OpeningStep → Opening → Type 0
   NextStory (openings.Send call) o = OpeningStory o
   NextStory openings.Wait o = OpeningStory o
   NextStory (openings.Ended (Ok file)) o = o.nocto ≡ false → OpenShown o.dir
@@ -257,8 +257,8 @@ module _ (top : List ℕ) (h : List Entry) (x : ℕ) (path : List (List ℕ)) (m
       by true k = k
       by false k = k
 
-  next-as : (to step : OpeningNext) (o : Opening) → step ≡ to → NextStory to o → NextStory step o
-  next-as to step o is s = subst (λ (n : OpeningNext). NextStory n o) (sym is) s
+  next-as : (to step : OpeningStep) (o : Opening) → step ≡ to → NextStory to o → NextStory step o
+  next-as to step o is s = subst (λ (n : OpeningStep). NextStory n o) (sym is) s
 
   opened : (o : Opening) (file : List ℕ) (to : _) (result : Result (List ℕ) Fault) (pages later : _) → OpenShown o.dir → opening.FileOpened file to result pages later
       → NextStory (openings.Ended result) o
@@ -270,7 +270,7 @@ module _ (top : List ℕ) (h : List Entry) (x : ℕ) (path : List (List ℕ)) (m
   knew o file to (Ok opened_file) pages later s f = λ is. absurd (let no_way : true ≡ false = sym s ∙ is in cc)
   knew o file to (Err fault) pages later s f = λ is. absurd (let no_way : faults.Memory ≡ faults.Kind = sym f.0 ∙ is in cc)
 
-  pub led-next : (again : Bool) (o : Opening) (sent turn : Turn) (led : Led) (step : OpeningNext) (pages later : _) → OpeningStory o → LedStory o.nocto o.dir led
+  pub led-next : (again : Bool) (o : Opening) (sent turn : Turn) (led : Led) (step : OpeningStep) (pages later : _) → OpeningStory o → LedStory o.nocto o.dir led
       → opening.LedIf again o sent turn led step pages later → NextStory step (opening.opening_after again o turn led)
   led-next true o sent turn led step pages later s d l = next-as (openings.Send (opening.call_of o o.step)) step (opening.counted o) l.0 (counted-story o s)
   led-next false o sent turn (leads.Goes to) step pages later s d l =
@@ -291,20 +291,20 @@ module _ (top : List ℕ) (h : List Entry) (x : ℕ) (path : List (List ℕ)) (m
   OpenAnswer nocto d (answers.Done value) = (value ≡ values.Nothing) × (nocto ≡ false → OpenShown d)
   OpenAnswer nocto d (answers.Refused fault) = fault ≡ faults.Kind → KindShown d
 
-  pub as-next : (step : OpeningNext) (m : OpenFile) → NextStory step m.opening
+  pub as-next : (step : OpeningStep) (m : OpenFile) → NextStory step m.opening
       → ThenOf (λ (n : OpenFile). OpeningStory n.opening) (OpenAnswer m.opening.nocto m.opening.dir) (opens.goes_as step) m
   as-next (openings.Send call) m s = s
   as-next openings.Wait m s = s
   as-next (openings.Ended (Ok file)) m s = (refl, s)
   as-next (openings.Ended (Err fault)) m s = s
 
-  puts-then : (other : Option _) (place of : _) (next : Next) (old new : _) (m : OpenFile) → (m.opening.nocto ≡ false → OpenShown m.opening.dir) → opens.PutsOver other place of next old new
+  puts-then : (other : Option _) (place of : _) (next : Step) (old new : _) (m : OpenFile) → (m.opening.nocto ≡ false → OpenShown m.opening.dir) → opens.PutsOver other place of next old new
       → ThenOf (λ (n : OpenFile). OpeningStory n.opening) (OpenAnswer m.opening.nocto m.opening.dir) next m
   puts-then (Some other) place of next old new m s p = then-as (λ (n : OpenFile). OpeningStory n.opening) (OpenAnswer m.opening.nocto m.opening.dir) (opens.refused faults.Slot) next m p.0 (λ is. absurd (cc))
   puts-then None place of next old new m s (inl p) = then-as (λ (n : OpenFile). OpeningStory n.opening) (OpenAnswer m.opening.nocto m.opening.dir) opens.well next m p.0 (refl, s)
   puts-then None place of next old new m s (inr p) = then-as (λ (n : OpenFile). OpeningStory n.opening) (OpenAnswer m.opening.nocto m.opening.dir) (opens.refused faults.Memory) next m p.0 (λ is. absurd (cc))
 
-  pub follows-then : (m after : OpenFile) (step : OpeningNext) (next : Next) (old new : _) → NextStory step after.opening → opens.Follows m step next old new
+  pub follows-then : (m after : OpenFile) (step : OpeningStep) (next : Step) (old new : _) → NextStory step after.opening → opens.Follows m step next old new
       → ThenOf (λ (n : OpenFile). OpeningStory n.opening) (OpenAnswer after.opening.nocto after.opening.dir) next after
   follows-then m after (openings.Send call) next old new s f = then-as _ (OpenAnswer after.opening.nocto after.opening.dir) (nexts.Send call) next after f.0 s
   follows-then m after openings.Wait next old new s f = then-as _ (OpenAnswer after.opening.nocto after.opening.dir) nexts.Wait next after f.0 s

@@ -1,5 +1,5 @@
 -- An open goes well, or is refused for the kind of its file, only where its last reply shows it.
-use Rattle.core_facts.proofs.Prelude.{◌≡◌, ◌+◌, ◌-◌, inl, inr, ℕ, Bool, true, false, List, [], ◌∷◌, ◌++◌, length, take, Result, refl, sym, ap, subst, arith, Attr, Mode, Answer, Fault, Entry, Began, Call, Reply, Op, At, Asked, Rooted, Ended, Terms, Asked-wide, length_last, Next, Shelf, Turn, OpenFile, Opening, OpeningStep, Mounted, Machine, PathMachine, IsNamed, front_of, last_of, machine_of, Starts, Resumes, Takes, State, Busy, Setup}
+use Rattle.core_facts.proofs.Prelude.{◌≡◌, ◌+◌, ◌-◌, inl, inr, ℕ, Bool, true, false, List, [], ◌∷◌, ◌++◌, length, take, Result, refl, sym, ap, subst, arith, Attr, Mode, Answer, Fault, Entry, Began, Call, Reply, Op, At, Asked, Rooted, Ended, Terms, Asked-wide, length_last, Step, Shelf, Turn, OpenFile, Opening, OpeningPhase, Mounted, Machine, PathMachine, IsNamed, front_of, last_of, machine_of, Starts, Resumes, Takes, State, Busy, Setup}
 use Rattle.world_model.proofs.Growth.{Asked-grow, Rooted-wide}
 use Rattle.std.proofs.lemmas.List.Elements.{All-nil}
 use Rattle.nfs_file_calls.specs.declared.call.FileCall.TheVariants as file_calls
@@ -13,8 +13,8 @@ use Rattle.world_model.specs.Leads as leads
 use Rattle.claims.specs.OkRows as rows
 use Rattle.claims.specs.RefusalRows.{IsNoFile}
 use Rattle.world_model.specs.Waiting.{IsDelivered}
-use Rattle.client_shelf.specs.declared.next.Next.TheVariants as nexts
-use Rattle.file_ops.specs.declared.opening.OpeningStep.TheVariants as opening_steps
+use Rattle.client_shelf.specs.declared.step.Step.TheVariants as nexts
+use Rattle.file_ops.specs.declared.opening.OpeningPhase.TheVariants as opening_steps
 use Rattle.file_ops.specs.Opening as opening
 use Rattle.name_ops.specs.Pairs.{walk_of}
 use Rattle.op_machines.specs.declared.machine.Machine.TheVariants as machines
@@ -28,7 +28,7 @@ use Rattle.core_facts.proofs.FilesKept.{all-starts, all-resumes, all-takes}
 use Rattle.core_facts.proofs.Leading.{IsNameTold, NamesTold, names-later, LeadsTo, leads-from, leads-later, WalkLeads, walk-later, IsHeard, heard-tells}
 use Rattle.core_facts.proofs.OneCalls.{then-as}
 use Rattle.core_facts.proofs.OneCallStory.{front-last, ends-later, ends-until}
-use Rattle.core_facts.proofs.OpenPath.{OpenRuns, Over, Step, open-resumes, open-takes}
+use Rattle.core_facts.proofs.OpenPath.{OpenRuns, Over, StepIs, open-resumes, open-takes}
 use Rattle.core_facts.proofs.OpenStory.{OpeningStory, StepStory, MayMake, has_to, missing, IsFileOf, found, made, GotLast, OpenAnswer}
 use Rattle.core_facts.proofs.Steps.{ThenOf}
 use Rattle.core_facts.proofs.Tales.{IsTold, TaleLaws, reached-answered}
@@ -54,7 +54,7 @@ module _ (m : Mounted) where
     may-later d (has_to is) = has_to is
     may-later d (missing reply is a none) = missing reply is (asked-on h e x _ reply a) none
 
-    step-later : (d : List ℕ) (step : OpeningStep) → StepStory m.root h x path mode d step → StepStory m.root (h ++ e ∷ []) x path mode d step
+    step-later : (d : List ℕ) (step : OpeningPhase) → StepStory m.root h x path mode d step → StepStory m.root (h ++ e ∷ []) x path mode d step
     step-later d opening_steps.Look s = tt
     step-later d opening_steps.Make s = may-later d s
     step-later d opening_steps.Find s = tt
@@ -102,26 +102,26 @@ module _ (m : Mounted) where
   abbrev Shelved : List Entry → Shelf → Type 0
   Shelved h shelf = NamesTold h shelf.names
 
-  asks-none : (h : List Entry) (x : ℕ) (op : Op) (next : Next) → AsksFor (NoWait h x op) next
+  asks-none : (h : List Entry) (x : ℕ) (op : Op) (next : Step) → AsksFor (NoWait h x op) next
   asks-none h x op (nexts.Send call) = tt
   asks-none h x op nexts.Wait = tt
   asks-none h x op (nexts.Done answer) = tt
 
-  for-open : (h : List Entry) (x : ℕ) (op : Op) (next : Next) (new : Machine)
-      → ((slot : ℕ) (mode : Mode) (path : List (List ℕ)) → op ≡ ops.OpenFile slot mode path → IsNamed path → Step m.root h x path mode m.nocto next new)
+  for-open : (h : List Entry) (x : ℕ) (op : Op) (next : Step) (new : Machine)
+      → ((slot : ℕ) (mode : Mode) (path : List (List ℕ)) → op ≡ ops.OpenFile slot mode path → IsNamed path → StepIs m.root h x path mode m.nocto next new)
       → ThenOf (λ k. Story h x op (Busy k)) (λ a. Story h x op (Ends a)) next new
   for-open h x op (nexts.Send call) new t = t
   for-open h x op nexts.Wait new t = t
   for-open h x op (nexts.Done answer) new t = t
 
-  step-as : (h : List Entry) (x : ℕ) (path : List (List ℕ)) (mode : Mode) (next : Next) (to new : Machine) → new ≡ to → Step m.root h x path mode m.nocto next to
-      → Step m.root h x path mode m.nocto next new
-  step-as h x path mode next to new is t = subst (λ (k : Machine). Step m.root h x path mode m.nocto next k) (sym is) t
+  step-as : (h : List Entry) (x : ℕ) (path : List (List ℕ)) (mode : Mode) (next : Step) (to new : Machine) → new ≡ to → StepIs m.root h x path mode m.nocto next to
+      → StepIs m.root h x path mode m.nocto next new
+  step-as h x path mode next to new is t = subst (λ (k : Machine). StepIs m.root h x path mode m.nocto next k) (sym is) t
 
   heard-all : (h : List Entry) (x : ℕ) (op : Op) (machine : Machine) (came : Result Reply Fault) (told : IsTold Awaits NoWait h x op machine came) → IsHeard m.root h came told.call
   heard-all h x op machine came told reply is = Asked-wide h x (length h) 0 (length h) told.call reply (omega arith) (omega arith) (told.heard reply is).asked
 
-  starts-if : (b : Bool) (h : List Entry) (x lane slot : ℕ) (mode : Mode) (path : List (List ℕ)) (wsize : ℕ) (turn : Turn) (old : Shelf) (next : Next) (new : PathMachine) (after : Shelf)
+  starts-if : (b : Bool) (h : List Entry) (x lane slot : ℕ) (mode : Mode) (path : List (List ℕ)) (wsize : ℕ) (turn : Turn) (old : Shelf) (next : Step) (new : PathMachine) (after : Shelf)
       → NamesTold h old.names
       → paths.StartsIf b wsize (record {
         walk = walk_of m.root (front_of path);
@@ -131,7 +131,7 @@ module _ (m : Mounted) where
           opening = record { dir = m.root; name = last_of path; mode = mode; nocto = m.nocto; moment = 0; step = opening.first_step mode; asked = false; put_off = 0 };
         });
         arrived = false;
-      }) turn old next new after → Step m.root h x path mode m.nocto next (machines.Path new)
+      }) turn old next new after → StepIs m.root h x path mode m.nocto next (machines.Path new)
   starts-if true h x lane slot mode path wsize turn old next new after t s =
       then-as (OpenRuns m.root h x path mode m.nocto) (Over m.root h x path mode m.nocto) (nexts.Done (answers.Refused faults.Slot)) next (machines.Path new) s.0
       (inr (faults.Slot, refl, λ is. absurd (let no_way : faults.Slot ≡ faults.Kind = is in cc)))

@@ -1,12 +1,12 @@
 -- How many calls of an operation on two paths, and of a removal, wait after each of its steps; and of any operation on names.
-use Rattle.core_facts.proofs.Prelude.{◌≡◌, ◌+◌, ◌||◌, ℕ, Bool, true, false, List, Option, Some, None, Result, Ok, Err, inl, inr, refl, sym, ap, subst, ◌∙◌, arith, if◌then◌else◌, Opens, plan_of, Fault, Call, Reply, Next, Shelf, Turn, Link, Pair, PairNext, Deed, Look, Seek, Move, RemoveFile, Rename, Visit, Walk, WalkNext, access_call, access_attr, access_told, deed_call, deed_told, link_call, TakesLink, found_by, look_again, moved_told, text_call, rename_call, TakesRename, sym_link_call, NameMachine, one_if, of_walk, of_visit, pair_by, of_pair, of_stat, of_names}
+use Rattle.core_facts.proofs.Prelude.{◌≡◌, ◌+◌, ◌||◌, ℕ, Bool, true, false, List, Option, Some, None, Result, Ok, Err, inl, inr, refl, sym, ap, subst, ◌∙◌, arith, if◌then◌else◌, Opens, plan_of, Fault, Call, Reply, Step, Shelf, Turn, Link, Pair, PairStep, Deed, Look, Seek, Move, RemoveFile, Rename, Visit, Walk, WalkStep, access_call, access_attr, access_told, deed_call, deed_told, link_call, TakesLink, found_by, look_again, moved_told, text_call, rename_call, TakesRename, sym_link_call, NameMachine, one_if, of_walk, of_visit, pair_by, of_pair, of_stat, of_names}
 use Rattle.name_ops.specs.declared.remove_file.Deed.TheVariants.{Remove}
 use Rattle.core_facts.specs.InFlight.{removal_by, of_removal}
 use Rattle.world_model.specs.declared.answer.Answer.TheVariants as answers
 use Rattle.world_model.specs.declared.answer.Fault.TheVariants as faults
 use Rattle.world_model.specs.declared.answer.Value.TheVariants as values
-use Rattle.name_ops.specs.declared.pair.PairNext.TheVariants as two
-use Rattle.name_ops.specs.declared.walk.WalkNext.TheVariants as walks
+use Rattle.name_ops.specs.declared.pair.PairStep.TheVariants as two
+use Rattle.name_ops.specs.declared.walk.WalkStep.TheVariants as walks
 use Rattle.name_ops.specs.ListDir as listing
 use Rattle.name_ops.specs.Pairs as pairs
 use Rattle.name_ops.specs.RemoveFile as removals
@@ -19,7 +19,7 @@ use Rattle.core_facts.proofs.NameCounts.{leaves-as, sends-leaves, waits-leaves, 
 
 -- ---- two walks and a call
 
-abbrev pub PairCounts : PairNext → ℕ → ℕ → Type 0
+abbrev pub PairCounts : PairStep → ℕ → ℕ → Type 0
 PairCounts (two.Look call) before after = after ≡ before + 1
 PairCounts two.Wait before after = after ≡ before
 PairCounts (two.Ask first second) before after = after ≡ before + 1
@@ -35,7 +35,7 @@ pair-own : (p : Pair) (others : ℕ) → p.asked ≡ true → of_pair p ≡ othe
 pair-own p others asked one =
     let own : of_pair p ≡ 1 = pair-as p true p.first.asked p.second.asked asked refl refl in omega (arith, own, one)
 
-led-second : (first : List ℕ) (step : WalkNext) (room : Bool) (p : Pair) (before : ℕ) → before ≡ 0 → p.asked ≡ false → p.first.asked ≡ false → WalkGoes step p.second
+led-second : (first : List ℕ) (step : WalkStep) (room : Bool) (p : Pair) (before : ℕ) → before ≡ 0 → p.asked ≡ false → p.first.asked ≡ false → WalkGoes step p.second
     → PairCounts (pairs.led_second first step room) before (of_pair (pairs.second_kept step room p))
 led-second first (walks.Send call) room p before none asked idle g =
     let own : of_pair p ≡ of_walk p.second = pair-as p false false true asked idle g.0 in
@@ -52,7 +52,7 @@ go-walk : (b : Bool) (w : Walk) (turn : Turn) (shelf : Shelf) → b ≡ false �
 go-walk true w turn shelf idle is = absurd cc
 go-walk false w turn shelf idle is = on-walk w turn shelf is
 
-led-first : (step : WalkNext) (p : Pair) (turn : Turn) (shelf : Shelf) (before : ℕ) → before ≡ 0 → p.asked ≡ false → p.second.asked ≡ false → WalkGoes step p.first
+led-first : (step : WalkStep) (p : Pair) (turn : Turn) (shelf : Shelf) (before : ℕ) → before ≡ 0 → p.asked ≡ false → p.second.asked ≡ false → WalkGoes step p.first
     → PairCounts (pairs.led_first step p turn shelf) before (of_pair (pairs.first_kept step p turn shelf))
 led-first (walks.Send call) p turn shelf before none asked idle g =
     let own : of_pair p ≡ of_walk p.first = pair-as p false true false asked g.0 idle in
@@ -90,7 +90,7 @@ pair-if : (b : Bool) (p : Pair) (turn : Turn) (shelf : Shelf) → (p.asked || p.
 pair-if true p turn shelf is = refl
 pair-if false p turn shelf is = pair-on p.first.asked p turn shelf refl (or-left p.asked p.second.asked is) (or-right p.asked p.second.asked is)
 
-pair-took : (b : Bool) (p : Pair) (sent turn : Turn) (came : Result Reply Fault) (old : Shelf) (next : PairNext) (new : Pair) (after : Shelf) (others : ℕ)
+pair-took : (b : Bool) (p : Pair) (sent turn : Turn) (came : Result Reply Fault) (old : Shelf) (next : PairStep) (new : Pair) (after : Shelf) (others : ℕ)
     → p.asked ≡ false → p.first.asked ≡ b → of_pair p ≡ others + 1 → pairs.PairTakes b p sent turn came old next new after → PairCounts next others (of_pair new)
 pair-took true p sent turn came old next new after others asked is one t = by p.second.asked refl
   where
@@ -101,17 +101,17 @@ pair-took true p sent turn came old next new after others asked is one t = by p.
         let took = walk-takes p.first sent turn came old t.step t.walked.first t.heard others (sym own ∙ one) t.takes in
         let here = led-first t.step t.walked turn t.heard others took.none (ap (λ (w : Pair). w.asked) t.walked_is ∙ asked)
         (ap (λ (w : Pair). w.second.asked) t.walked_is ∙ idle) took.goes in
-        subst (λ (n : PairNext). PairCounts n others (of_pair new)) (sym t.next_is)
+        subst (λ (n : PairStep). PairCounts n others (of_pair new)) (sym t.next_is)
         (subst (λ (w : Pair). PairCounts (pairs.led_first t.step t.walked turn t.heard) others (of_pair w)) (sym t.pair_is) here)
 pair-took false p sent turn came old next new after others asked is one t =
     let own : of_pair p ≡ of_walk p.second = pair-as p false false p.second.asked asked is refl in
     let took = walk-takes p.second sent turn came old t.step t.walked.second after others (sym own ∙ one) t.takes in
     let here = led-second p.first.spot.dir t.step turn.room t.walked others took.none (ap (λ (w : Pair). w.asked) t.walked_is ∙ asked)
     (ap (λ (w : Pair). w.first.asked) t.walked_is ∙ is) took.goes in
-    subst (λ (n : PairNext). PairCounts n others (of_pair new)) (sym t.next_is)
+    subst (λ (n : PairStep). PairCounts n others (of_pair new)) (sym t.next_is)
     (subst (λ (w : Pair). PairCounts (pairs.led_second p.first.spot.dir t.step turn.room) others (of_pair w)) (sym t.pair_is) here)
 
-next-by : (call : List ℕ → List ℕ → Call) (step : PairNext) (before after : ℕ) → PairCounts step before after → Plain (pairs.next_by call step) before after
+next-by : (call : List ℕ → List ℕ → Call) (step : PairStep) (before after : ℕ) → PairCounts step before after → Plain (pairs.next_by call step) before after
 next-by call (two.Look look) before after c = (c, tt)
 next-by call two.Wait before after c = (c, tt)
 next-by call (two.Ask first second) before after c = (c, tt)
@@ -122,19 +122,19 @@ pair-leaves : (call : List ℕ → List ℕ → Call) (p : Pair) (turn : Turn) (
 pair-leaves call p turn shelf =
     next-by call (pairs.pair_next p turn shelf) (of_pair p) (of_pair (pairs.pair_after p turn shelf)) (pair-if (p.asked || p.second.asked) p turn shelf refl)
 
-walks-leave : (call : List ℕ → List ℕ → Call) (p : Pair) (sent turn : Turn) (came : Result Reply Fault) (old : Shelf) (next : Next) (new : Pair) (after : Shelf) (others : ℕ)
+walks-leave : (call : List ℕ → List ℕ → Call) (p : Pair) (sent turn : Turn) (came : Result Reply Fault) (old : Shelf) (next : Step) (new : Pair) (after : Shelf) (others : ℕ)
     → p.asked ≡ false → of_pair p ≡ others + 1 → pairs.Walks call p sent turn came old next new after → Plain next others (of_pair new)
 walks-leave call p sent turn came old next new after others idle one w =
     leaves-as (pairs.next_by call w.step) next others (of_pair new) (Unit {0}) w.next_is
     (next-by call w.step others (of_pair new) (pair-took p.first.asked p sent turn came old w.step new after others idle refl one w.takes))
 
-link-leaves : (asked : Bool) (m : Link) (sent turn : Turn) (came : Result Reply Fault) (old : Shelf) (next : Next) (new : Pair) (after : Shelf) (others : ℕ)
+link-leaves : (asked : Bool) (m : Link) (sent turn : Turn) (came : Result Reply Fault) (old : Shelf) (next : Step) (new : Pair) (after : Shelf) (others : ℕ)
     → m.pair.asked ≡ asked → of_pair m.pair ≡ others + 1 → TakesLink asked m sent turn came old next new after → Plain next others (of_pair new)
 link-leaves true m sent turn came old next new after others is one t =
     again-leaves _ _ _ next others (of_pair new) (Unit {0}) t.1.next_is (ap of_pair t.0 ∙ one) (pair-own m.pair others is one) tt
 link-leaves false m sent turn came old next new after others is one t = walks-leave (link_call m.name) m.pair sent turn came old next new after others is one t
 
-rename-leaves : (asked : Bool) (m : Rename) (sent turn : Turn) (came : Result Reply Fault) (old : Shelf) (next : Next) (new : Pair) (after : Shelf) (others : ℕ)
+rename-leaves : (asked : Bool) (m : Rename) (sent turn : Turn) (came : Result Reply Fault) (old : Shelf) (next : Step) (new : Pair) (after : Shelf) (others : ℕ)
     → m.pair.asked ≡ asked → of_pair m.pair ≡ others + 1 → TakesRename asked m sent turn came old next new after → Plain next others (of_pair new)
 rename-leaves true m sent turn came old next new after others is one t =
     again-leaves _ _ _ next others (of_pair new) (Unit {0}) t.1.next_is (ap of_pair t.0 ∙ one) (pair-own m.pair others is one) tt
@@ -152,20 +152,20 @@ asks-removal : (room : Bool) (deed : Deed) (m : RemoveFile) (before : ℕ) → b
 asks-removal true deed m before none = (omega (arith, none), tt)
 asks-removal false deed m before none = (sym none, tt)
 
-asked-removal : (room : Bool) (deed : Deed) (m : RemoveFile) (next : Next) (new : RemoveFile) (before : ℕ) → before ≡ 0 → next ≡ removals.asked_next m deed room
+asked-removal : (room : Bool) (deed : Deed) (m : RemoveFile) (next : Step) (new : RemoveFile) (before : ℕ) → before ≡ 0 → next ≡ removals.asked_next m deed room
     → new ≡ removals.asked_after m deed room → Plain next before (of_removal new)
 asked-removal room deed m next new before none is state =
     leaves-as (removals.asked_next m deed room) next before (of_removal new) (Unit {0}) is
     (leaves-after (removals.asked_next m deed room) before (of_removal new) (of_removal (removals.asked_after m deed room)) (Unit {0}) (ap of_removal state) (asks-removal room deed m before none))
 
-follows-removal : (step : WalkNext) (room : Bool) (m : RemoveFile) (opens : Opens) (next : Next) (new : RemoveFile) (before : ℕ) → m.deed ≡ None
+follows-removal : (step : WalkStep) (room : Bool) (m : RemoveFile) (opens : Opens) (next : Step) (new : RemoveFile) (before : ℕ) → m.deed ≡ None
     → WalkCounts step before (of_walk m.walk) → removals.Follows step room m opens next new → Plain next before (of_removal new)
 follows-removal (walks.Send call) room m opens next new before walking c f = sends-leaves call next before (of_removal new) (Unit {0}) f.0 (ap of_removal f.1 ∙ removal-walk m walking ∙ c) tt
 follows-removal walks.Wait room m opens next new before walking c f = waits-leaves next before (of_removal new) (Unit {0}) f.0 (ap of_removal f.1 ∙ removal-walk m walking ∙ c) tt
 follows-removal (walks.At dir) room m opens next new before walking c f = asked-removal room (removals.first_deed f.any) m next new before c.0 f.next_is f.machine_is
 follows-removal (walks.Refused fault) room m opens next new before walking c f = done-leaves (answers.Refused fault) next before (of_removal new) (Unit {0}) f.0 c
 
-goes-removal : (deed : Option Deed) (m : RemoveFile) (turn : Turn) (old : Shelf) (next : Next) (new : RemoveFile) (after : Shelf) → m.deed ≡ deed → m.asked ≡ false
+goes-removal : (deed : Option Deed) (m : RemoveFile) (turn : Turn) (old : Shelf) (next : Step) (new : RemoveFile) (after : Shelf) → m.deed ≡ deed → m.asked ≡ false
     → removals.Goes deed m turn old next new after → Plain next (of_removal m) (of_removal new)
 goes-removal (Some deed) m turn old next new after is idle g =
     asked-removal turn.room deed m next new (of_removal m) (removal-own m deed is ∙ ap one_if idle) g.next_is g.machine_is
@@ -174,46 +174,46 @@ goes-removal None m turn old next new after is idle g =
     (walk-counts m.walk turn old) g.follows in
     subst (λ (n : ℕ). Plain next n (of_removal new)) (sym (removal-walk m is)) here
 
-resumes-removal : (asked : Bool) (m : RemoveFile) (turn : Turn) (old : Shelf) (next : Next) (new : RemoveFile) (after : Shelf) → m.asked ≡ asked
+resumes-removal : (asked : Bool) (m : RemoveFile) (turn : Turn) (old : Shelf) (next : Step) (new : RemoveFile) (after : Shelf) → m.asked ≡ asked
     → removals.Resumes asked m turn old next new after → Plain next (of_removal m) (of_removal new)
 resumes-removal true m turn old next new after is r = waits-leaves next (of_removal m) (of_removal new) (Unit {0}) r.next_is (ap of_removal r.machine_is) tt
 resumes-removal false m turn old next new after is r = goes-removal m.deed m turn old next new after refl is r
 
-again-removal : (deed : Deed) (m : RemoveFile) (old : Shelf) (next : Next) (new : RemoveFile) (after : Shelf) (others : ℕ) → of_removal m ≡ others + 1
+again-removal : (deed : Deed) (m : RemoveFile) (old : Shelf) (next : Step) (new : RemoveFile) (after : Shelf) (others : ℕ) → of_removal m ≡ others + 1
     → removals.Again deed m old next new after → Plain next others (of_removal new)
 again-removal deed m old next new after others one a = sends-leaves (removals.call_of m deed) next others (of_removal new) (Unit {0}) a.next_is (ap of_removal a.machine_is ∙ one) tt
 
-plans-removal : (is_open : Bool) (file : List ℕ) (m : RemoveFile) (room : Bool) (old : Shelf) (next : Next) (new : RemoveFile) (after : Shelf) (others : ℕ) → others ≡ 0
+plans-removal : (is_open : Bool) (file : List ℕ) (m : RemoveFile) (room : Bool) (old : Shelf) (next : Step) (new : RemoveFile) (after : Shelf) (others : ℕ) → others ≡ 0
     → removals.Plans is_open file m room old next new after → Plain next others (of_removal new)
 plans-removal is_open file m room old next new after others none p =
     asked-removal room (removals.deed_of file (plan_of is_open old.counter)) m next new others none p.next_is p.machine_is
 
-look-removal : (again : Bool) (told : Result (List ℕ) Fault) (m : RemoveFile) (room : Bool) (old : Shelf) (next : Next) (new : RemoveFile) (after : Shelf) (others : ℕ)
+look-removal : (again : Bool) (told : Result (List ℕ) Fault) (m : RemoveFile) (room : Bool) (old : Shelf) (next : Step) (new : RemoveFile) (after : Shelf) (others : ℕ)
     → others ≡ 0 → of_removal m ≡ others + 1 → removals.FollowsLook again told m room old next new after → Plain next others (of_removal new)
 look-removal true told m room old next new after others none one f = again-removal Look m old next new after others one f
 look-removal false (Ok file) m room old next new after others none one f = plans-removal f.is_open file m room old next new after others none f.plans
 look-removal false (Err fault) m room old next new after others none one f = done-leaves (answers.Refused fault) next others (of_removal new) (Unit {0}) f.next_is none
 
-missed-removal : (missing : Bool) (fault : Fault) (file to : List ℕ) (m : RemoveFile) (room : Bool) (next : Next) (new : RemoveFile) (others : ℕ) → others ≡ 0
+missed-removal : (missing : Bool) (fault : Fault) (file to : List ℕ) (m : RemoveFile) (room : Bool) (next : Step) (new : RemoveFile) (others : ℕ) → others ≡ 0
     → next ≡ removals.missed_next missing fault file to m room → new ≡ removals.missed_after missing file to m room → Plain next others (of_removal new)
 missed-removal true fault file to m room next new others none is state = asked-removal room (Move file to) m next new others none is state
 missed-removal false fault file to m room next new others none is state = done-leaves (answers.Refused fault) next others (of_removal new) (Unit {0}) is none
 
-seek-removal : (again : Bool) (told : Result (List ℕ) Fault) (file to : List ℕ) (m : RemoveFile) (room : Bool) (old : Shelf) (next : Next) (new : RemoveFile) (after : Shelf)
+seek-removal : (again : Bool) (told : Result (List ℕ) Fault) (file to : List ℕ) (m : RemoveFile) (room : Bool) (old : Shelf) (next : Step) (new : RemoveFile) (after : Shelf)
     (others : ℕ) → others ≡ 0 → of_removal m ≡ others + 1 → removals.FollowsSeek again told file to m room old next new after → Plain next others (of_removal new)
 seek-removal true told file to m room old next new after others none one f = again-removal (Seek file to) m old next new after others one f
 seek-removal false (Ok found) file to m room old next new after others none one f = plans-removal true file m room old next new after others none f
 seek-removal false (Err fault) file to m room old next new after others none one f =
     missed-removal (removals.is_missing fault) fault file to m room next new others none f.next_is f.machine_is
 
-moves-removal : (again : Bool) (refusal : Option Fault) (file to : List ℕ) (m : RemoveFile) (old : removals.Places) (next : Next) (new : removals.Places) (others after : ℕ)
+moves-removal : (again : Bool) (refusal : Option Fault) (file to : List ℕ) (m : RemoveFile) (old : removals.Places) (next : Step) (new : removals.Places) (others after : ℕ)
     → others ≡ 0 → after ≡ others + 1 → removals.EndsMove again refusal file to m old next new → Plain next others after
 moves-removal true refusal file to m old next new others after none one e = sends-leaves _ next others after (Unit {0}) e.0 one tt
 moves-removal false None file to m old next new others after none one (inl e) = done-leaves (answers.Done values.Nothing) next others after (Unit {0}) e.0 none
 moves-removal false None file to m old next new others after none one (inr e) = done-leaves (answers.Refused faults.Memory) next others after (Unit {0}) e.0 none
 moves-removal false (Some fault) file to m old next new others after none one e = done-leaves (answers.Refused fault) next others after (Unit {0}) e.0 none
 
-deed-removal : (deed : Deed) (m : RemoveFile) (sent turn : Turn) (came : Result Reply Fault) (old : Shelf) (next : Next) (new : RemoveFile) (after : Shelf) (others : ℕ)
+deed-removal : (deed : Deed) (m : RemoveFile) (sent turn : Turn) (came : Result Reply Fault) (old : Shelf) (next : Step) (new : RemoveFile) (after : Shelf) (others : ℕ)
     → others ≡ 0 → of_removal m ≡ others + 1 → removals.TakesDeed deed m sent turn came old next new after → Plain next others (of_removal new)
 deed-removal Look m sent turn came old next new after others none one t =
     look-removal (look_again sent turn came old) (found_by came) m turn.room t.heard next new after others none one t.follows
@@ -224,12 +224,12 @@ deed-removal (Move file to) m sent turn came old next new after others none one 
 deed-removal Remove m sent turn came old next new after others none one t =
     again-leaves _ _ _ next others (of_removal new) (Unit {0}) t.1.next_is (ap of_removal t.0 ∙ one) none tt
 
-if-removal : (asked : Bool) (deed : Deed) (m : RemoveFile) (sent turn : Turn) (came : Result Reply Fault) (old : Shelf) (next : Next) (new : RemoveFile) (after : Shelf) (others : ℕ)
+if-removal : (asked : Bool) (deed : Deed) (m : RemoveFile) (sent turn : Turn) (came : Result Reply Fault) (old : Shelf) (next : Step) (new : RemoveFile) (after : Shelf) (others : ℕ)
     → one_if asked ≡ others + 1 → of_removal m ≡ others + 1 → removals.TakesIf asked deed m sent turn came old next new after → Plain next others (of_removal new)
 if-removal true deed m sent turn came old next new after others own one t = deed-removal deed m sent turn came old next new after others (one-left true others own) one t
 if-removal false deed m sent turn came old next new after others own one t = absurd (omega (arith, own))
 
-takes-removal : (deed : Option Deed) (m : RemoveFile) (sent turn : Turn) (came : Result Reply Fault) (old : Shelf) (next : Next) (new : RemoveFile) (after : Shelf) (others : ℕ)
+takes-removal : (deed : Option Deed) (m : RemoveFile) (sent turn : Turn) (came : Result Reply Fault) (old : Shelf) (next : Step) (new : RemoveFile) (after : Shelf) (others : ℕ)
     → m.deed ≡ deed → of_removal m ≡ others + 1 → removals.Takes deed m sent turn came old next new after → Plain next others (of_removal new)
 takes-removal (Some deed) m sent turn came old next new after others is one t =
     if-removal m.asked deed m sent turn came old next new after others (sym (removal-own m deed is) ∙ one) one t
@@ -239,22 +239,22 @@ takes-removal None m sent turn came old next new after others is one t =
 
 -- ---- any operation on names
 
-as-names : (next : Next) (before after : ℕ) (to new : NameMachine) → new ≡ to → of_names to ≡ after → Plain next before after → Plain next before (of_names new)
+as-names : (next : Step) (before after : ℕ) (to new : NameMachine) → new ≡ to → of_names to ≡ after → Plain next before after → Plain next before (of_names new)
 as-names next before after to new is same l = leaves-after next before (of_names new) after (Unit {0}) (ap of_names is ∙ same) l
 
-visit-names : (call : List ℕ → Call) (v : Visit) (with_visit : Visit → NameMachine) (turn : Turn) (old : Shelf) (next : Next) (new : NameMachine) (after : Shelf)
+visit-names : (call : List ℕ → Call) (v : Visit) (with_visit : Visit → NameMachine) (turn : Turn) (old : Shelf) (next : Step) (new : NameMachine) (after : Shelf)
     → ((w : Visit) → of_names (with_visit w) ≡ of_visit w) → steps.VisitGoes call v with_visit turn old next new after → Plain next (of_visit v) (of_names new)
 visit-names call v with_visit turn old next new after same g =
     as-names next (of_visit v) (of_visit (visiting.visit_after v turn old)) (with_visit (visiting.visit_after v turn old)) new g.machine_is (same (visiting.visit_after v turn old))
     (visit-leaves call v turn old next (visiting.visit_after v turn old) g.next_is refl)
 
-pair-names : (call : List ℕ → List ℕ → Call) (p : Pair) (with_pair : Pair → NameMachine) (turn : Turn) (old : Shelf) (next : Next) (new : NameMachine) (after : Shelf)
+pair-names : (call : List ℕ → List ℕ → Call) (p : Pair) (with_pair : Pair → NameMachine) (turn : Turn) (old : Shelf) (next : Step) (new : NameMachine) (after : Shelf)
     → ((w : Pair) → of_names (with_pair w) ≡ of_pair w) → steps.PairGoes call p with_pair turn old next new after → Plain next (of_pair p) (of_names new)
 pair-names call p with_pair turn old next new after same g =
     as-names next (of_pair p) (of_pair (pairs.pair_after p turn old)) (with_pair (pairs.pair_after p turn old)) new g.machine_is (same (pairs.pair_after p turn old))
     (leaves-as (pairs.next_by call (pairs.pair_next p turn old)) next (of_pair p) (of_pair (pairs.pair_after p turn old)) (Unit {0}) g.next_is (pair-leaves call p turn old))
 
-pub name-goes : (m : NameMachine) (turn : Turn) (old : Shelf) (next : Next) (new : NameMachine) (after : Shelf) → steps.NameGoes m turn old next new after
+pub name-goes : (m : NameMachine) (turn : Turn) (old : Shelf) (next : Step) (new : NameMachine) (after : Shelf) → steps.NameGoes m turn old next new after
     → Plain next (of_names m) (of_names new)
 name-goes (machines.Change m) turn old next new after g = visit-names (deed_call m.deed m.name) m.visit (steps.change_with m) turn old next new after (λ w. refl) g
 name-goes (machines.Stat m) turn old next new after g =
@@ -271,7 +271,7 @@ name-goes (machines.SymLink m) turn old next new after g =
     (copy-leaves (sym_link_call m.name m.target) m.visit turn old next (visiting.visit_after m.visit turn old) g.next_is refl)
 name-goes (machines.List m) turn old next new after g = visit-names (listing.page_call m.place) m.visit (steps.list_with m) turn old next new after (λ w. refl) g
 
-pub name-takes : (m : NameMachine) (sent turn : Turn) (came : Result Reply Fault) (old : Shelf) (next : Next) (new : NameMachine) (after : Shelf) (others : ℕ)
+pub name-takes : (m : NameMachine) (sent turn : Turn) (came : Result Reply Fault) (old : Shelf) (next : Step) (new : NameMachine) (after : Shelf) (others : ℕ)
     → of_names m ≡ others + 1 → steps.NameTakes m sent turn came old next new after → Plain next others (of_names new)
 name-takes (machines.Change m) sent turn came old next new after others one t =
     as-names next others (of_visit t.visit) (steps.change_with m t.visit) new t.machine_is refl

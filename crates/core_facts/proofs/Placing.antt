@@ -1,5 +1,5 @@
 -- Along a history each operation is at work, and has its place in the order of its file.
-use Rattle.core_facts.proofs.Prelude.{◌≡◌, ◌≢◌, ◌≤◌, ◌<◌, ◌+◌, ◌-◌, ◌⊎◌, inl, inr, ℕ, zero, suc, List, [], ◌∷◌, ◌++◌, length, remove, Bool, true, false, nat_eq, Option, Some, None, position, slice_get, slice_set, Err, refl, sym, ap, subst, ◌∙◌, arith, if◌then◌else◌, eqb-true, eqb-false, eq-eqb, ne_eqb, Waiting, waiting_at, Answer, Entry, Began, Op, said_of, LaneFile, Next, Send, Wait, Done, Shelf, Mounted, Machine, machine_of, Lane, Purpose, State, Busy, Over, Setup, IsFresh, is_busy, IsOther, numbers_of, with_state, IsRefused, Leads, Stirs, counted, StartsLane, TakesAt, AnswersAt, View, turn_at, unmade_turn, in_flight, Counts}
+use Rattle.core_facts.proofs.Prelude.{◌≡◌, ◌≢◌, ◌≤◌, ◌<◌, ◌+◌, ◌-◌, ◌⊎◌, inl, inr, ℕ, zero, suc, List, [], ◌∷◌, ◌++◌, length, remove, Bool, true, false, nat_eq, Option, Some, None, position, slice_get, slice_set, Err, refl, sym, ap, subst, ◌∙◌, arith, if◌then◌else◌, eqb-true, eqb-false, eq-eqb, ne_eqb, Waiting, waiting_at, Answer, Entry, Began, Op, said_of, LaneFile, Step, Send, Wait, Done, Shelf, Mounted, Machine, machine_of, Lane, Purpose, State, Busy, Over, Setup, IsFresh, is_busy, IsOther, numbers_of, with_state, IsRefused, Leads, Stirs, counted, StartsLane, TakesAt, AnswersAt, View, turn_at, unmade_turn, in_flight, Counts}
 use Rattle.client_core.specs.Numbers.{IsIdle}
 use Rattle.core_facts.specs.Lanes.{AreApart}
 use Rattle.core_facts.proofs.AllCounts.{counts-calls, begins-unbegun}
@@ -68,7 +68,7 @@ pub record Placed (v : View) : Type 0 where
 -- ---- one step
 
 -- The operation of the lane at a place made a step, and what that leads to is still to come. The other lanes are as they were.
-pub record Owes (v : View) (at number : ℕ) (machine : Machine) (base : ℕ → Option (List ℕ)) (next : Next) : Type 0 where
+pub record Owes (v : View) (at number : ℕ) (machine : Machine) (base : ℕ → Option (List ℕ)) (next : Step) : Type 0 where
   pub there : slice_get v.lanes at ≡ Some (record { number = number; state = Busy machine })
   pub apart : AreApart v.lanes
   pub rest : (k : ℕ) (lane : Lane) → slice_get v.lanes k ≡ Some lane → k ≢ at → StateLive lane.number lane.state
@@ -77,7 +77,7 @@ pub record Owes (v : View) (at number : ℕ) (machine : Machine) (base : ℕ →
   pub others : (n : ℕ) → n ≢ number → base n ≡ seat_in n v.lanes
   pub step : OfMachine number (SitsWith number base) (leaves number base) (joins number base least most) next machine v.shelf.order
 
-module _ (v : View) (at number : ℕ) (machine : Machine) (base : ℕ → Option (List ℕ)) (next : Next) (o : Owes v at number machine base next) where
+module _ (v : View) (at number : ℕ) (machine : Machine) (base : ℕ → Option (List ℕ)) (next : Step) (o : Owes v at number machine base next) where
   owes-set : (state : State) (shelf : Shelf) → StateLive number state → SitsWith number base (seat_state state) shelf.order → Placed (with_state v at number state shelf)
   owes-set state shelf live sits = record {
     live = by-place (λ (l : Lane). StateLive l.number l.state) (slice_set v.lanes at (record { number = number; state = state })) at (record { number = number; state = state })
@@ -115,7 +115,7 @@ module _ (v : View) (at number : ℕ) (machine : Machine) (base : ℕ → Option
   of-lane : IsLive number machine → LaneLive number machine
   of-lane live = record { live = live; least = o.least; most = o.most }
 
-leads-placed : (v new : View) (at number before : ℕ) (machine : Machine) (base : ℕ → Option (List ℕ)) (next : Next) → Owes v at number machine base next
+leads-placed : (v new : View) (at number before : ℕ) (machine : Machine) (base : ℕ → Option (List ℕ)) (next : Step) → Owes v at number machine base next
     → Counts next before machine → Leads v at number machine next new → Placed new
 leads-placed v new at number before machine base (Send call) o c (inl m) =
     let p = owes-here v at number machine base (Send call) o (of-lane v at number machine base (Send call) o o.step.0) o.step.1 in
@@ -125,7 +125,7 @@ leads-placed v new at number before machine base (Send call) o c (inr r) =
     (all-takes number (SitsWith number base) (leaves number base) (joins number base o.least o.most) machine v.wsize (turn_at v) (unmade_turn v) (Err r.fault) v.shelf r.next
     r.after r.left before o.step.0 c.0 o.step.1 r.takes) r.leads)
   where
-    by : (next : Next) (state : State) → OfMachine number (SitsWith number base) (leaves number base) (joins number base o.least o.most) next r.after r.left.order
+    by : (next : Step) (state : State) → OfMachine number (SitsWith number base) (leaves number base) (joins number base o.least o.most) next r.after r.left.order
         → IsRefused r.after next state → Placed (with_state v at number state r.left)
     by (Send again) state s is = absurd is
     by Wait state s is =

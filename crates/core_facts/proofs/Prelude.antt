@@ -20,8 +20,8 @@ pub use Rattle.client_core.specs.declared.setup.Setup.{Setup}
 pub use Rattle.client_shelf.specs.Busy.{goes_again}
 pub use Rattle.client_shelf.specs.LaneFiles.{is_first, left}
 pub use Rattle.client_shelf.specs.declared.lane_files.LaneFile.{LaneFile}
-pub use Rattle.client_shelf.specs.declared.next.Next.{Next}
-pub use Rattle.client_shelf.specs.declared.next.Next.TheVariants.{Done, Send, Wait}
+pub use Rattle.client_shelf.specs.declared.step.Step.{Step}
+pub use Rattle.client_shelf.specs.declared.step.Step.TheVariants.{Done, Send, Wait}
 pub use Rattle.client_shelf.specs.declared.repeats.Repeat.{Repeat}
 pub use Rattle.client_shelf.specs.declared.shelf.Shelf.{Shelf}
 pub use Rattle.client_shelf.specs.declared.turn.Turn.{Turn}
@@ -33,8 +33,8 @@ pub use Rattle.core_facts.specs.Reaches.{HearsRecord, IsSetUp, MaySetUp, Reaches
 pub use Rattle.core_facts.specs.Resting.{NoneBusy}
 pub use Rattle.core_facts.specs.Tries.{IsOutstanding, Tried, runs, unsent}
 pub use Rattle.dir_list.specs.declared.progress.ListFault.{ListFault}
-pub use Rattle.dir_list.specs.declared.progress.Step.{Step}
-pub use Rattle.dir_list.specs.declared.progress.Step.TheVariants.{End, More}
+pub use Rattle.dir_list.specs.declared.progress.ListStep.{ListStep}
+pub use Rattle.dir_list.specs.declared.progress.ListStep.TheVariants.{End, More}
 pub use Rattle.file_ops.proofs.SaveCounts.{by-step, ends_as}
 pub use Rattle.file_ops.specs.Closings.{closed_answer, refusal_of, remove_of}
 pub use Rattle.file_ops.specs.Judging.{commit_told}
@@ -48,8 +48,8 @@ pub use Rattle.file_ops.specs.declared.closing.Removal.{Removal}
 pub use Rattle.file_ops.specs.declared.open_file.OpenFile.{OpenFile}
 pub use Rattle.file_ops.specs.declared.opening.Led.{Led}
 pub use Rattle.file_ops.specs.declared.opening.Opening.{Opening}
-pub use Rattle.file_ops.specs.declared.opening.OpeningNext.{OpeningNext}
 pub use Rattle.file_ops.specs.declared.opening.OpeningStep.{OpeningStep}
+pub use Rattle.file_ops.specs.declared.opening.OpeningPhase.{OpeningPhase}
 pub use Rattle.file_ops.specs.declared.put_file.PutFile.{PutFile}
 pub use Rattle.file_ops.specs.declared.put_file.Putting.{Putting}
 pub use Rattle.file_ops.specs.declared.read_file.ReadFile.{ReadFile}
@@ -75,7 +75,7 @@ pub use Rattle.name_ops.specs.SymLink.{ChangesByCopy, CopiesBy, TakesSymLink, la
 pub use Rattle.name_ops.specs.declared.link.Link.{Link}
 pub use Rattle.name_ops.specs.declared.list_dir.ListDir.{ListDir}
 pub use Rattle.name_ops.specs.declared.pair.Pair.{Pair}
-pub use Rattle.name_ops.specs.declared.pair.PairNext.{PairNext}
+pub use Rattle.name_ops.specs.declared.pair.PairStep.{PairStep}
 pub use Rattle.name_ops.specs.declared.remove_file.Deed.{Deed}
 pub use Rattle.name_ops.specs.declared.remove_file.Deed.TheVariants.{Look, Move, Seek}
 pub use Rattle.name_ops.specs.declared.remove_file.RemoveFile.{RemoveFile}
@@ -84,9 +84,9 @@ pub use Rattle.name_ops.specs.declared.stat.Stat.{Stat}
 pub use Rattle.name_ops.specs.declared.sym_link.SymLink.{SymLink}
 pub use Rattle.name_ops.specs.declared.told.Told.{Told}
 pub use Rattle.name_ops.specs.declared.visit.Visit.{Visit}
-pub use Rattle.name_ops.specs.declared.visit.VisitNext.{VisitNext}
+pub use Rattle.name_ops.specs.declared.visit.VisitStep.{VisitStep}
 pub use Rattle.name_ops.specs.declared.walk.Walk.{Walk}
-pub use Rattle.name_ops.specs.declared.walk.WalkNext.{WalkNext}
+pub use Rattle.name_ops.specs.declared.walk.WalkStep.{WalkStep}
 pub use Rattle.nfs_dir_calls.specs.declared.keeping.DirKept.{DirKept}
 pub use Rattle.nfs_file_calls.specs.declared.owned.FileKept.{FileKept}
 pub use Rattle.nfs_types.specs.declared.attr.Attr.{Attr}

@@ -1,9 +1,9 @@
 -- How many calls of a put wait after each of its steps.
-use Rattle.core_facts.proofs.Prelude.{◌≡◌, ◌+◌, ℕ, Bool, true, false, List, Some, Result, Ok, Err, refl, sym, ap, subst, ◌∙◌, arith, Fault, Reply, is_first, Next, Shelf, Turn, Opening, OpeningNext, PutFile, Putting, Saving, Writing, closed_answer, refusal_of, joined, one_if, of_opening, of_saving, of_writing, of_putting, by-step}
+use Rattle.core_facts.proofs.Prelude.{◌≡◌, ◌+◌, ℕ, Bool, true, false, List, Some, Result, Ok, Err, refl, sym, ap, subst, ◌∙◌, arith, Fault, Reply, is_first, Step, Shelf, Turn, Opening, OpeningStep, PutFile, Putting, Saving, Writing, closed_answer, refusal_of, joined, one_if, of_opening, of_saving, of_writing, of_putting, by-step}
 use Rattle.file_ops.proofs.SaveCounts.{SaveCounts, save-goes, save-takes}
 use Rattle.world_model.specs.declared.answer.Answer.TheVariants as answers
-use Rattle.client_shelf.specs.declared.next.Next.TheVariants as nexts
-use Rattle.file_ops.specs.declared.opening.OpeningNext.TheVariants as openings
+use Rattle.client_shelf.specs.declared.step.Step.TheVariants as nexts
+use Rattle.file_ops.specs.declared.opening.OpeningStep.TheVariants as openings
 use Rattle.file_ops.specs.declared.put_file.Putting.TheVariants as putting
 use Rattle.file_ops.specs.OpenFile as opens
 use Rattle.file_ops.specs.Opening as opening
@@ -18,13 +18,13 @@ abbrev pub of_put : PutFile → ℕ
 of_put m = of_putting m.state m.opening m.write.state
 
 module _ (opening_is : Opening) (write : Writing) where
-  abbrev pub PutLeaves : Next → ℕ → Putting → Type 0
+  abbrev pub PutLeaves : Step → ℕ → Putting → Type 0
   PutLeaves next before state = Plain next before (of_putting state opening_is write)
 
-  put-as : (to : Putting) (next : Next) (before : ℕ) (state : Putting) → state ≡ to → PutLeaves next before to → PutLeaves next before state
+  put-as : (to : Putting) (next : Step) (before : ℕ) (state : Putting) → state ≡ to → PutLeaves next before to → PutLeaves next before state
   put-as to next before state is l = subst (λ (s : Putting). PutLeaves next before s) (sym is) l
 
-  put-follows : (gives : _) (lane : ℕ) (saving : Saving) (old : Shelf) (next : Next) (state : Putting) (new : Shelf) (before : ℕ)
+  put-follows : (gives : _) (lane : ℕ) (saving : Saving) (old : Shelf) (next : Step) (state : Putting) (new : Shelf) (before : ℕ)
       → SaveCounts gives before (of_saving saving) → puts.Follows gives lane saving old next state new → PutLeaves next before state
   put-follows gives lane saving old next state new before c f = by-step
       (λ g. SaveCounts g before (of_saving saving) → puts.Follows g lane saving old next state new → PutLeaves next before state)
@@ -32,7 +32,7 @@ module _ (opening_is : Opening) (write : Writing) where
       (λ k l. put-as (putting.Saves saving) next before state l.1 (waits-leaves next before (of_saving saving) (Unit {0}) l.0 k tt))
       (λ result k l. done-leaves (closed_answer (refusal_of result)) next before (of_putting state opening_is write) (Unit {0}) l.next_is k.0) gives c f
 
-  put-queues : (b : Bool) (wsize lane : ℕ) (turn : Turn) (saving : Saving) (old : Shelf) (next : Next) (state : Putting) (new : Shelf)
+  put-queues : (b : Bool) (wsize lane : ℕ) (turn : Turn) (saving : Saving) (old : Shelf) (next : Step) (state : Putting) (new : Shelf)
       → puts.QueuesIf b wsize lane turn saving old next state new → PutLeaves next (of_saving saving) state
   put-queues true wsize lane turn saving old next state new q =
       put-follows q.gives lane q.saved q.gone next state new (of_saving saving) (save-goes wsize turn.xid turn.room false saving old.back q.gives q.saved q.gone.back q.goes) q.follows
@@ -40,7 +40,7 @@ module _ (opening_is : Opening) (write : Writing) where
       put-as (putting.Saves saving) next (of_saving saving) state q.state_is (waits-leaves next (of_saving saving) (of_saving saving) (Unit {0}) q.next_is refl tt)
 
   -- a step of its write
-  after-write : (told : Next) (wsize lane : ℕ) (file : List ℕ) (turn : Turn) (old : Shelf) (next : Next) (state : Putting) (new : Shelf) (before : ℕ)
+  after-write : (told : Step) (wsize lane : ℕ) (file : List ℕ) (turn : Turn) (old : Shelf) (next : Step) (state : Putting) (new : Shelf) (before : ℕ)
       → Plain told before (of_writing write) → puts.AfterWrite told wsize lane file turn old next state new → PutLeaves next before state
   after-write (nexts.Send call) wsize lane file turn old next state new before c a =
       put-as (putting.Adds file) next before state a.1 (sends-leaves call next before (of_writing write) (Unit {0}) a.0 c.0 tt)
@@ -52,24 +52,24 @@ module _ (opening_is : Opening) (write : Writing) where
   after-write (nexts.Done (answers.Refused fault)) wsize lane file turn old next state new before c a =
       done-leaves (closed_answer (Some fault)) next before (of_putting state opening_is write) (Unit {0}) a.next_is c
 
-writes-on : (wsize : ℕ) (m : PutFile) (file : List ℕ) (turn : Turn) (told : Next) (written : Writing) (mid : Shelf) (next : Next) (new : PutFile) (after : Shelf) (before : ℕ)
+writes-on : (wsize : ℕ) (m : PutFile) (file : List ℕ) (turn : Turn) (told : Step) (written : Writing) (mid : Shelf) (next : Step) (new : PutFile) (after : Shelf) (before : ℕ)
     → Plain told before (of_writing written) → puts.WritesOn wsize m file turn told written mid next new after → Plain next before (of_put new)
 writes-on wsize m file turn told written mid next new after before c w =
     leaves-after next before (of_put new) (of_putting new.state m.opening written) (Unit {0}) (ap (λ (p : PutFile). of_putting new.state p.opening p.write.state) w.machine_is)
     (after-write m.opening written told wsize m.write.lane file turn mid next new.state after before c w.follows)
 
 -- the put before its bytes are pending
-stays-put : (m : PutFile) (old : Shelf) (next : Next) (new : PutFile) (after : Shelf) (before : ℕ) → of_put m ≡ before → puts.Stays m old next new after → Plain next before (of_put new)
+stays-put : (m : PutFile) (old : Shelf) (next : Step) (new : PutFile) (after : Shelf) (before : ℕ) → of_put m ≡ before → puts.Stays m old next new after → Plain next before (of_put new)
 stays-put m old next new after before is s = waits-leaves next before (of_put new) (Unit {0}) s.next_is (ap of_put s.machine_is ∙ is) tt
 
-pub put-starts : (m : PutFile) (turn : Turn) (next : Next) → m.opening.asked ≡ false → next ≡ opens.goes_as (opening.go_next (puts.opening_at turn m) turn)
+pub put-starts : (m : PutFile) (turn : Turn) (next : Step) → m.opening.asked ≡ false → next ≡ opens.goes_as (opening.go_next (puts.opening_at turn m) turn)
     → Plain next 0 (of_opening (opening.go_after (puts.opening_at turn m) turn))
 put-starts m turn next idle is =
     opening-leaves (opening.go_next (puts.opening_at turn m) turn) next 0 (of_opening (opening.go_after (puts.opening_at turn m) turn)) is
     (subst (λ (n : ℕ). OpeningCounts (opening.go_next (puts.opening_at turn m) turn) n (of_opening (opening.go_after (puts.opening_at turn m) turn))) (ap one_if idle)
     (opening-goes (puts.opening_at turn m) turn))
 
-pub put-resumes : (at : Putting) (wsize : ℕ) (m : PutFile) (turn : Turn) (old : Shelf) (next : Next) (new : PutFile) (after : Shelf) → m.state ≡ at
+pub put-resumes : (at : Putting) (wsize : ℕ) (m : PutFile) (turn : Turn) (old : Shelf) (next : Step) (new : PutFile) (after : Shelf) → m.state ≡ at
     → puts.Resumes at wsize m turn old next new after → Plain next (of_putting at m.opening m.write.state) (of_put new)
 put-resumes putting.Idle wsize m turn old next new after is r = stays-put m old next new after 0 (ap (λ (s : Putting). of_putting s m.opening m.write.state) is) r
 put-resumes putting.Opens wsize m turn old next new after is r =
@@ -85,7 +85,7 @@ put-resumes (putting.Saves saving) wsize m turn old next new after is r =
     (ap (λ (p : PutFile). of_putting new.state p.opening p.write.state) r.1)
     (put-queues m.opening m.write.state (is_first m.write.lane old.order) wsize m.write.lane turn saving old next new.state after r.0)
 
-after-opening : (step : OpeningNext) (wsize : ℕ) (m : PutFile) (turn : Turn) (old : Shelf) (next : Next) (new : PutFile) (after : Shelf) (others : ℕ) → m.state ≡ putting.Opens
+after-opening : (step : OpeningStep) (wsize : ℕ) (m : PutFile) (turn : Turn) (old : Shelf) (next : Step) (new : PutFile) (after : Shelf) (others : ℕ) → m.state ≡ putting.Opens
     → OpeningCounts step others (of_opening m.opening) → puts.AfterOpening step wsize m turn old next new after → Plain next others (of_put new)
 after-opening (openings.Send call) wsize m turn old next new after others is c a =
     sends-leaves call next others (of_put new) (Unit {0}) a.0 (ap of_put a.1 ∙ ap (λ (s : Putting). of_putting s m.opening m.write.state) is ∙ c) tt
@@ -96,7 +96,7 @@ after-opening (openings.Ended (Ok file)) wsize m turn old next new after others 
     (writes-on wsize m file turn a.told a.written a.mid next new after 0 (writes-leave wsize m.write.lane file m.write.offset (made_bytes m.write.text) turn (puts.put_at m.write.lane file old) a.told a.written a.mid a.writes) a.goes)
 after-opening (openings.Ended (Err fault)) wsize m turn old next new after others is c a = done-leaves (answers.Refused fault) next others (of_put new) (Unit {0}) a.0 c
 
-pub put-takes : (at : Putting) (wsize : ℕ) (m : PutFile) (sent turn : Turn) (came : Result Reply Fault) (old : Shelf) (next : Next) (new : PutFile) (after : Shelf) (others : ℕ)
+pub put-takes : (at : Putting) (wsize : ℕ) (m : PutFile) (sent turn : Turn) (came : Result Reply Fault) (old : Shelf) (next : Step) (new : PutFile) (after : Shelf) (others : ℕ)
     → m.state ≡ at → of_putting at m.opening m.write.state ≡ others + 1 → puts.Takes at wsize m sent turn came old next new after → Plain next others (of_put new)
 put-takes putting.Idle wsize m sent turn came old next new after others is one t = absurd (omega (arith, one))
 put-takes putting.Opens wsize m sent turn came old next new after others is one t =

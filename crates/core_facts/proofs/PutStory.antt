@@ -1,5 +1,5 @@
 -- A put that went well: COMMIT of its file was answered 0 since it began.
-use Rattle.core_facts.proofs.Prelude.{◌≡◌, ◌+◌, ◌-◌, ℕ, Bool, true, false, List, [], ◌∷◌, ◌++◌, length, Result, Ok, refl, sym, ap, subst, ◌∙◌, Verf, Answer, Fault, Entry, Began, Call, Reply, Op, Asked, Next, Shelf, Turn, PutFile, Putting, Saving, commit_told, WalkNext, Mounted, Machine, Opener, PathMachine, machine_of, file_of, slot_taken, begun_at, placed, Starts, Resumes, Takes, State, Busy, Over, in_flight}
+use Rattle.core_facts.proofs.Prelude.{◌≡◌, ◌+◌, ◌-◌, ℕ, Bool, true, false, List, [], ◌∷◌, ◌++◌, length, Result, Ok, refl, sym, ap, subst, ◌∙◌, Verf, Answer, Fault, Entry, Began, Call, Reply, Op, Asked, Step, Shelf, Turn, PutFile, Putting, Saving, commit_told, WalkStep, Mounted, Machine, Opener, PathMachine, machine_of, file_of, slot_taken, begun_at, placed, Starts, Resumes, Takes, State, Busy, Over, in_flight}
 use Rattle.op_machines.specs.Openers.{opening_in}
 use Rattle.core_facts.specs.InFlight.{of_file}
 use Rattle.nfs_file_calls.specs.declared.owned.FileKept.TheVariants as kept
@@ -8,10 +8,10 @@ use Rattle.world_model.specs.declared.message.Reply.TheVariants as replies
 use Rattle.world_model.specs.declared.op.Op.TheVariants as ops
 use Rattle.world_model.specs.Commits.{Committed}
 use Rattle.world_model.proofs.Growth.{Committed-grow}
-use Rattle.client_shelf.specs.declared.next.Next.TheVariants as nexts
+use Rattle.client_shelf.specs.declared.step.Step.TheVariants as nexts
 use Rattle.file_ops.specs.declared.put_file.Putting.TheVariants as putting
 use Rattle.file_ops.specs.Saves as saves
-use Rattle.name_ops.specs.declared.walk.WalkNext.TheVariants as walks
+use Rattle.name_ops.specs.declared.walk.WalkStep.TheVariants as walks
 use Rattle.name_ops.specs.Walking as walking
 use Rattle.op_machines.specs.declared.machine.Machine.TheVariants as machines
 use Rattle.op_machines.specs.declared.opener.Opener.TheVariants as openers
@@ -45,32 +45,32 @@ PutState h x (Over answer) = PutWell (IsCommitted h x) answer
 abbrev pub PutStory : List Entry → ℕ → Op → State → Type 0
 PutStory h x op state = (path : List (List ℕ)) (offset : ℕ) (bytes : List ℕ) → op ≡ ops.Put path offset bytes → PutState h x state
 
-abbrev pub Goes : List Entry → ℕ → Next → Machine → Type 0
+abbrev pub Goes : List Entry → ℕ → Step → Machine → Type 0
 Goes h x next new = ThenOf (λ n. PutState h x (Busy n)) (λ a. PutState h x (Over a)) next new
 
-for-put : (h : List Entry) (x : ℕ) (op : Op) (next : Next) (new : Machine) → ((path : List (List ℕ)) (offset : ℕ) (bytes : List ℕ) → op ≡ ops.Put path offset bytes → Goes h x next new)
+for-put : (h : List Entry) (x : ℕ) (op : Op) (next : Step) (new : Machine) → ((path : List (List ℕ)) (offset : ℕ) (bytes : List ℕ) → op ≡ ops.Put path offset bytes → Goes h x next new)
     → ThenOf (λ n. PutStory h x op (Busy n)) (λ a. PutStory h x op (Over a)) next new
 for-put h x op (nexts.Send call) new t = t
 for-put h x op nexts.Wait new t = t
 for-put h x op (nexts.Done answer) new t = t
 
-goes-as : (h : List Entry) (x : ℕ) (next : Next) (to new : Machine) → new ≡ to → Goes h x next to → Goes h x next new
+goes-as : (h : List Entry) (x : ℕ) (next : Step) (to new : Machine) → new ≡ to → Goes h x next to → Goes h x next new
 goes-as h x next to new is t = subst (λ (n : Machine). Goes h x next n) (sym is) t
 
 -- what a step of its own machine leads to
-then-put : (h : List Entry) (x : ℕ) (m : PathMachine) (q : PutFile) (next : Next) → ThenOf (PutHas (IsCommitted h x)) (PutWell (IsCommitted h x)) next q.state
+then-put : (h : List Entry) (x : ℕ) (m : PathMachine) (q : PutFile) (next : Step) → ThenOf (PutHas (IsCommitted h x)) (PutWell (IsCommitted h x)) next q.state
     → Goes h x next (machines.Path (record m { opener = openers.Put q }))
 then-put h x m q (nexts.Send call) t = record { m = record m { opener = openers.Put q }; p = q; is = refl; opener = refl; has = λ there. t }
 then-put h x m q nexts.Wait t = record { m = record m { opener = openers.Put q }; p = q; is = refl; opener = refl; has = λ there. t }
 then-put h x m q (nexts.Done answer) t = t
 
-opener-goes : (h : List Entry) (x : ℕ) (m : PathMachine) (opener : Opener) (q : PutFile) (next : Next) (new : PathMachine) → new ≡ record m { opener = opener } → opener ≡ openers.Put q
+opener-goes : (h : List Entry) (x : ℕ) (m : PathMachine) (opener : Opener) (q : PutFile) (next : Step) (new : PathMachine) → new ≡ record m { opener = opener } → opener ≡ openers.Put q
     → ThenOf (PutHas (IsCommitted h x)) (PutWell (IsCommitted h x)) next q.state → Goes h x next (machines.Path new)
 opener-goes h x m opener q next new is at t =
     goes-as h x next (machines.Path (record m { opener = openers.Put q })) (machines.Path new)
     (ap machines.Path (is ∙ ap (λ (o : Opener). record m { opener = o }) at)) (then-put h x m q next t)
 
-then-goes : (h : List Entry) (x : ℕ) (wsize : ℕ) (m : PathMachine) (p : PutFile) (turn : Turn) (was : Shelf) (next : Next) (new : PathMachine) (after : Shelf) → m.opener ≡ openers.Put p
+then-goes : (h : List Entry) (x : ℕ) (wsize : ℕ) (m : PathMachine) (p : PutFile) (turn : Turn) (was : Shelf) (next : Step) (new : PathMachine) (after : Shelf) → m.opener ≡ openers.Put p
     → PutHas (IsCommitted h x) p.state → paths.ThenResumes wsize m turn was next new after → Goes h x next (machines.Path new)
 then-goes h x wsize m p turn was next new after at has t = by t.opener refl (subst (λ (o : Opener). steps.Resumes wsize (file_of o) turn was next (file_of t.opener) after) at t.step)
   where
@@ -85,20 +85,20 @@ then-goes h x wsize m p turn was next new after at has t = by t.opener refl (sub
             (subst (λ (k : PutFile). ThenOf (PutHas (IsCommitted h x)) (PutWell (IsCommitted h x)) next k.state) (some-put q step.machine step.machine_is) s.then_)
 
 -- on its way
-follows-goes : (step : WalkNext) (h : List Entry) (x : ℕ) (wsize : ℕ) (m : PathMachine) (p : PutFile) (turn : Turn) (was : Shelf) (next : Next) (new : PathMachine) (after : Shelf)
+follows-goes : (step : WalkStep) (h : List Entry) (x : ℕ) (wsize : ℕ) (m : PathMachine) (p : PutFile) (turn : Turn) (was : Shelf) (next : Step) (new : PathMachine) (after : Shelf)
     → m.opener ≡ openers.Put p → m.arrived ≡ false → paths.Follows step wsize m turn was next new after → Goes h x next (machines.Path new)
 follows-goes (walks.Send call) h x wsize m p turn was next new after at on_way f =
-    subst (λ (n : Next). Goes h x n (machines.Path new)) (sym f.0)
+    subst (λ (n : Step). Goes h x n (machines.Path new)) (sym f.0)
     (record { m = m; p = p; is = ap machines.Path f.1; opener = at; has = λ there. absurd (let no_way : true ≡ false = sym there ∙ on_way in cc) })
 follows-goes walks.Wait h x wsize m p turn was next new after at on_way f =
-    subst (λ (n : Next). Goes h x n (machines.Path new)) (sym f.0)
+    subst (λ (n : Step). Goes h x n (machines.Path new)) (sym f.0)
     (record { m = m; p = p; is = ap machines.Path f.1; opener = at; has = λ there. absurd (let no_way : true ≡ false = sym there ∙ on_way in cc) })
 follows-goes (walks.At dir) h x wsize m p turn was next new after at on_way f =
     then-goes h x wsize (record m { opener = placed dir m.opener; arrived = true }) (record p { opening = opening_in dir p.opening; state = putting.Opens }) turn was next new after
     (ap (placed dir) at) tt f
-follows-goes (walks.Refused fault) h x wsize m p turn was next new after at on_way f = subst (λ (n : Next). Goes h x n (machines.Path new)) (sym f.0) tt
+follows-goes (walks.Refused fault) h x wsize m p turn was next new after at on_way f = subst (λ (n : Step). Goes h x n (machines.Path new)) (sym f.0) tt
 
-path-goes : (b : Bool) (h : List Entry) (x : ℕ) (wsize : ℕ) (m : PathMachine) (p : PutFile) (turn : Turn) (was : Shelf) (next : Next) (new : PathMachine) (after : Shelf) → m.arrived ≡ b
+path-goes : (b : Bool) (h : List Entry) (x : ℕ) (wsize : ℕ) (m : PathMachine) (p : PutFile) (turn : Turn) (was : Shelf) (next : Step) (new : PathMachine) (after : Shelf) → m.arrived ≡ b
     → m.opener ≡ openers.Put p → (m.arrived ≡ true → PutHas (IsCommitted h x) p.state) → paths.PathResumes b wsize m turn was next new after → Goes h x next (machines.Path new)
 path-goes true h x wsize m p turn was next new after is at has r = then-goes h x wsize m p turn was next new after at (has is) r
 path-goes false h x wsize m p turn was next new after is at has r =
@@ -116,7 +116,7 @@ put-shown h x m p came there opener told s at idle verf is =
       asked = subst (λ (k : Call). Asked h x (length h) k (replies.File (kept.Commit c.wcc verf))) (expects idle) (told.heard (replies.File (kept.Commit c.wcc verf)) c.is);
     }
 
-path-hears : (b : Bool) (h : List Entry) (x : ℕ) (wsize : ℕ) (m : PathMachine) (p : PutFile) (sent turn : Turn) (came : Result Reply Fault) (was : Shelf) (next : Next) (new : PathMachine)
+path-hears : (b : Bool) (h : List Entry) (x : ℕ) (wsize : ℕ) (m : PathMachine) (p : PutFile) (sent turn : Turn) (came : Result Reply Fault) (was : Shelf) (next : Step) (new : PathMachine)
     (after : Shelf) (others : ℕ) → m.arrived ≡ b → m.opener ≡ openers.Put p → (m.arrived ≡ true → PutHas (IsCommitted h x) p.state) → of_path m ≡ others + 1
     → IsTold h x (machines.Path m) came → paths.PathTakes b wsize m sent turn came was next new after → Goes h x next (machines.Path new)
 path-hears true h x wsize m p sent turn came was next new after others is at has one told t =
@@ -153,7 +153,7 @@ state-later h e x (Busy machine) s = record { m = s.m; p = s.p; is = s.is; opene
 state-later h e x (Over answer) s = well-later h e x answer s
 
 -- a put as it begins: it is on its way
-put-begins : (h : List Entry) (x : ℕ) (wsize : ℕ) (turn : Turn) (m : PathMachine) (p : PutFile) (old : Shelf) (next : Next) (new : Machine) (after : Shelf) → m.arrived ≡ false
+put-begins : (h : List Entry) (x : ℕ) (wsize : ℕ) (turn : Turn) (m : PathMachine) (p : PutFile) (old : Shelf) (next : Step) (new : Machine) (after : Shelf) → m.arrived ≡ false
     → m.opener ≡ openers.Put p → Starts wsize (machines.Path m) turn old next new after → Goes h x next new
 put-begins h x wsize turn m p old next new after on_way at s =
     goes-as h x next (machines.Path s.machine) new s.machine_is

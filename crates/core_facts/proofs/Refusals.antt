@@ -1,5 +1,5 @@
 -- An operation is answered with a status of a server or a refusal by RPC only where a record refused a call of it so.
-use Rattle.core_facts.proofs.Prelude.{◌≡◌, ◌≢◌, ◌<◌, ◌+◌, ℕ, List, [], ◌∷◌, ◌++◌, length, Option, Some, None, Result, Ok, Err, refl, sym, ap, subst, arith, DirKept, FileKept, Answer, Fault, Entry, Began, Call, Reply, Op, Asked, length_last, Next, Shelf, Turn, Mounted, Machine, machine_of, Takes, State, Busy, Over, Setup}
+use Rattle.core_facts.proofs.Prelude.{◌≡◌, ◌≢◌, ◌<◌, ◌+◌, ℕ, List, [], ◌∷◌, ◌++◌, length, Option, Some, None, Result, Ok, Err, refl, sym, ap, subst, arith, DirKept, FileKept, Answer, Fault, Entry, Began, Call, Reply, Op, Asked, length_last, Step, Shelf, Turn, Mounted, Machine, machine_of, Takes, State, Busy, Over, Setup}
 use Rattle.world_model.specs.Heard.{Refused, status_of}
 use Rattle.nfs_dir_calls.specs.declared.keeping.DirKept.TheVariants as found
 use Rattle.nfs_dir_calls.specs.Replies.{SpellsReply as SpellsDir}
@@ -11,7 +11,7 @@ use Rattle.world_model.specs.declared.message.Call.TheVariants as calls
 use Rattle.world_model.specs.declared.message.Reply.TheVariants as replies
 use Rattle.world_model.specs.Messages.{SpellsResults}
 use Rattle.world_model.proofs.Growth.{Refused-grow, Refused-wide}
-use Rattle.client_shelf.specs.declared.next.Next.TheVariants as nexts
+use Rattle.client_shelf.specs.declared.step.Step.TheVariants as nexts
 use Rattle.core_facts.specs.Refusing.{IsRefusedSo, IsRefusalShown, RefusalsShown}
 use Rattle.core_facts.proofs.AllCounts.{begins-unbegun}
 use Rattle.core_facts.proofs.AllFaults as steps
@@ -115,17 +115,17 @@ StateStory h x (Over answer) = AnswerStory h x answer
 abbrev Story : List Entry → ℕ → Op → State → Type 0
 Story h x op state = StateStory h x state
 
-asked-none : (next : Next) (new : Machine) → AskedOf NoCall next new
+asked-none : (next : Step) (new : Machine) → AskedOf NoCall next new
 asked-none (nexts.Send call) new = tt
 asked-none nexts.Wait new = tt
 asked-none (nexts.Done answer) new = tt
 
-kept-none : (others : ℕ) (old : Machine) (next : Next) (new : Machine) → KeptOf NoCall others old next new
+kept-none : (others : ℕ) (old : Machine) (next : Step) (new : Machine) → KeptOf NoCall others old next new
 kept-none others old (nexts.Send call) new = λ some c e. tt
 kept-none others old nexts.Wait new = λ some c e. tt
 kept-none others old (nexts.Done answer) new = tt
 
-asks-none : (h : List Entry) (x : ℕ) (op : Op) (next : Next) → AsksFor (NoWait h x op) next
+asks-none : (h : List Entry) (x : ℕ) (op : Op) (next : Step) → AsksFor (NoWait h x op) next
 asks-none h x op (nexts.Send call) = tt
 asks-none h x op nexts.Wait = tt
 asks-none h x op (nexts.Done answer) = tt
@@ -134,10 +134,10 @@ answer-story : (h : List Entry) (x : ℕ) (answer : Answer) → FineAnswer (Show
 answer-story h x (answers.Done value) f = tt
 answer-story h x (answers.Refused fault) f = f
 
-did : (h : List Entry) (x : ℕ) (op : Op) (next : Next) (new : Machine) (after : Shelf) → steps.MachineStep (Shown h x) (own h x) next new → Did NoWait NoShelf Story h x op next new after
+did : (h : List Entry) (x : ℕ) (op : Op) (next : Step) (new : Machine) (after : Shelf) → steps.MachineStep (Shown h x) (own h x) next new → Did NoWait NoShelf Story h x op next new after
 did h x op next new after s = record { shelf = tt; asks = asks-none h x op next; then_ = by next s }
   where
-    by : (n : Next) → steps.MachineStep (Shown h x) (own h x) n new → ThenOf (λ m. Story h x op (Busy m)) (λ a. Story h x op (Over a)) n new
+    by : (n : Step) → steps.MachineStep (Shown h x) (own h x) n new → ThenOf (λ m. Story h x op (Busy m)) (λ a. Story h x op (Over a)) n new
     by (nexts.Send call) k = k.1
     by nexts.Wait k = k.1
     by (nexts.Done answer) k = answer-story h x answer k.0

@@ -1,5 +1,5 @@
 -- After each entry of a history no lane can go on, or no further call may wait.
-use Rattle.core_facts.proofs.Prelude.{◌≡◌, ◌+◌, ℕ, zero, suc, List, [], ◌∷◌, ◌++◌, length, map, Bool, true, false, Option, Some, None, MatchOption, position, slice_get, refl, sym, ap, subst, ◌∙◌, inl, inr, xid_at, next_xid, failed_after, awaited, Waiting, Answer, Entry, Began, Answered, Dialed, Sent, Executed, Foreign, Flushed, Reboot, Delivered, Failed, Clock, Op, said_of, Next, Send, Wait, Done, Shelf, Turn, Machine, Resumes, Lane, Purpose, State, Busy, Over, Setup, NoneBusy, IsFresh, is_busy, lost_lane, Reaches, begins, goes, loses, StepsTo, last_reading, IsBusyAt, with_state, Leads, Moves, moves_none, moves_more, BeginsIf, counted, TakesAt, HearsFor, failed_view, lost, AnswersAt, View, turn_at}
+use Rattle.core_facts.proofs.Prelude.{◌≡◌, ◌+◌, ℕ, zero, suc, List, [], ◌∷◌, ◌++◌, length, map, Bool, true, false, Option, Some, None, MatchOption, position, slice_get, refl, sym, ap, subst, ◌∙◌, inl, inr, xid_at, next_xid, failed_after, awaited, Waiting, Answer, Entry, Began, Answered, Dialed, Sent, Executed, Foreign, Flushed, Reboot, Delivered, Failed, Clock, Op, said_of, Step, Send, Wait, Done, Shelf, Turn, Machine, Resumes, Lane, Purpose, State, Busy, Over, Setup, NoneBusy, IsFresh, is_busy, lost_lane, Reaches, begins, goes, loses, StepsTo, last_reading, IsBusyAt, with_state, Leads, Moves, moves_none, moves_more, BeginsIf, counted, TakesAt, HearsFor, failed_view, lost, AnswersAt, View, turn_at}
 use Rattle.std.proofs.Common.{nat_lt}
 use Rattle.rpc_retry.specs.Fail.{after_failure}
 use Rattle.core_facts.specs.Resting.{IsSettled}
@@ -15,7 +15,7 @@ use Rattle.rpc_retry.proofs.Failing.{length-failed}
 
 -- ---- a session that is lost stays so, and no other one is
 
-pub leads-lost : (v : View) (at number : ℕ) (machine : Machine) (next : Next) (new : View) → Leads v at number machine next new → new.lost ≡ v.lost
+pub leads-lost : (v : View) (at number : ℕ) (machine : Machine) (next : Step) (new : View) → Leads v at number machine next new → new.lost ≡ v.lost
 leads-lost v at number machine (Send call) new (inl m) = ap (λ (w : View). w.lost) m.is
 leads-lost v at number machine (Send call) new (inr r) = ap (λ (w : View). w.lost) r.is
 leads-lost v at number machine Wait new leads = ap (λ (w : View). w.lost) leads

@@ -1,9 +1,9 @@
 -- For which calls a save waits, and what came before it goes on to send again or ends well.
-use Rattle.core_facts.proofs.Prelude.{◌≡◌, ◌+◌, ◌-◌, ◌==◌, ◌&&◌, ◌≤◌, ℕ, Bool, true, false, List, [], ◌∷◌, Option, Some, None, Result, Ok, Err, inl, inr, refl, sym, ap, subst, ◌∙◌, arith, if◌then◌else◌, nat_lt, Verdict, AllStable, SendAgain, Verf, Answer, Fault, Call, Reply, Next, Repeat, Turn, goes_again, chosen, Pending, of_file, Segments, Phase, Sending, Committing, Resending, CommittingAgain, Saving, commit_told, of_saving}
+use Rattle.core_facts.proofs.Prelude.{◌≡◌, ◌+◌, ◌-◌, ◌==◌, ◌&&◌, ◌≤◌, ℕ, Bool, true, false, List, [], ◌∷◌, Option, Some, None, Result, Ok, Err, inl, inr, refl, sym, ap, subst, ◌∙◌, arith, if◌then◌else◌, nat_lt, Verdict, AllStable, SendAgain, Verf, Answer, Fault, Call, Reply, Step, Repeat, Turn, goes_again, chosen, Pending, of_file, Segments, Phase, Sending, Committing, Resending, CommittingAgain, Saving, commit_told, of_saving}
 use Rattle.std.proofs.lemmas.Bool.{ltb-false}
 use Rattle.world_model.specs.declared.answer.Answer.TheVariants as answers
 use Rattle.world_model.specs.declared.answer.Fault.TheVariants.{Memory}
-use Rattle.client_shelf.specs.declared.next.Next.TheVariants as nexts
+use Rattle.client_shelf.specs.declared.step.Step.TheVariants as nexts
 use Rattle.file_ops.specs.Saves as saves
 use Rattle.file_ops.specs.Syncs as syncs
 
@@ -57,7 +57,7 @@ abbrev pub SaveExpects : Saving → Call → Type 0
 SaveExpects s call = saves.is_sending s.phase ≡ false → call ≡ saves.commit_of s.file
 
 -- a step as one of a sync: it asks for a call that it expects
-abbrev pub AsksSo : Next → Saving → Type 0
+abbrev pub AsksSo : Step → Saving → Type 0
 AsksSo (nexts.Send call) new = SaveExpects new call
 AsksSo nexts.Wait new = Unit {0}
 AsksSo (nexts.Done answer) new = Unit {0}
@@ -67,13 +67,13 @@ abbrev pub WellDone : Type 0 → Answer → Type 0
 WellDone C (answers.Done value) = C
 WellDone C (answers.Refused fault) = Unit {0}
 
-abbrev pub EndsSo : Type 0 → Next → Type 0
+abbrev pub EndsSo : Type 0 → Step → Type 0
 EndsSo C (nexts.Send call) = Unit {0}
 EndsSo C nexts.Wait = Unit {0}
 EndsSo C (nexts.Done answer) = WellDone C answer
 
 -- A step of a save, of which so many other calls wait. C holds where it sends again or ends well.
-pub record SaveSteps (C : Type 0) (others : ℕ) (s : Saving) (next : Next) (new : Saving) : Type 0 where
+pub record SaveSteps (C : Type 0) (others : ℕ) (s : Saving) (next : Step) (new : Saving) : Type 0 where
   pub file : new.file ≡ s.file
   pub asks : AsksSo next new
   pub stays : 1 ≤ others → saves.is_sending new.phase ≡ saves.is_sending s.phase
@@ -154,7 +154,7 @@ module _ (C : Type 0) where
   -- ---- what came of a call
 
   -- seen from a save of the same file and phase
-  from-steps : (others : ℕ) (was s : Saving) (next : Next) (new : Saving) → s.file ≡ was.file → saves.is_sending s.phase ≡ saves.is_sending was.phase
+  from-steps : (others : ℕ) (was s : Saving) (next : Step) (new : Saving) → s.file ≡ was.file → saves.is_sending s.phase ≡ saves.is_sending was.phase
       → SaveSteps C others s next new → SaveSteps C others was next new
   from-steps others was s next new file phase c = record { file = c.file ∙ file; asks = c.asks; stays = λ some. c.stays some ∙ phase; again = c.again; ended = c.ended }
 

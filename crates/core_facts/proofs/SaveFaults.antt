@@ -1,5 +1,5 @@
 -- Which faults a step of a save gives: its own, those of what came of its calls, and those that it keeps.
-use Rattle.core_facts.proofs.Prelude.{◌≡◌, ◌+◌, ◌==◌, ◌&&◌, ◌||◌, ℕ, Bool, true, false, List, [], ◌∷◌, Option, Some, None, Result, Ok, Err, inl, inr, refl, sym, subst, nat_lt, Verdict, AllStable, SendAgain, Verf, Wcc, FileKept, Fault, Reply, Next, Repeat, Turn, goes_again, chosen, Pending, of_file, Segments, Phase, Sending, Committing, Resending, CommittingAgain, Saving, commit_told}
+use Rattle.core_facts.proofs.Prelude.{◌≡◌, ◌+◌, ◌==◌, ◌&&◌, ◌||◌, ℕ, Bool, true, false, List, [], ◌∷◌, Option, Some, None, Result, Ok, Err, inl, inr, refl, sym, subst, nat_lt, Verdict, AllStable, SendAgain, Verf, Wcc, FileKept, Fault, Reply, Step, Repeat, Turn, goes_again, chosen, Pending, of_file, Segments, Phase, Sending, Committing, Resending, CommittingAgain, Saving, commit_told}
 use Rattle.file_ops.specs.Judging.{write_told, write_told_by, written_by, commit_told_by}
 use Rattle.nfs_file_calls.specs.declared.owned.FileKept.TheVariants as kept
 use Rattle.world_model.specs.declared.answer.Fault.TheVariants.{Memory, Nfs, Bad}
@@ -10,7 +10,7 @@ use Rattle.core_facts.proofs.Faults.{OwnFaults, OfReply, Came, FineResult, FineO
 
 module _ (P : Fault → Type 0) (own : OwnFaults P) where
   -- the step is so, and so is the fault that the save keeps
-  abbrev pub SaveFine : Next → Saving → Type 0
+  abbrev pub SaveFine : Step → Saving → Type 0
   SaveFine next new = FineNext P next × FineOption P new.refusal
 
   leads-fine : (to : _) (saved : Saving) (next : _) (new : Saving) → saves.Leads to saved next new → SaveFine (syncs.sync_next to) saved → SaveFine (syncs.sync_next next) new

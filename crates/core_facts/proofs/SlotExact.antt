@@ -1,5 +1,5 @@
 -- An operation that finds no place in its slots, or no right, is refused so.
-use Rattle.core_facts.proofs.Prelude.{◌≡◌, ◌<◌, ◌≤◌, ℕ, Bool, true, false, List, [], ◌∷◌, ◌++◌, length, Option, Some, None, refl, sym, ap, subst, ◌∙◌, arith, Mode, Opened, Answer, Entry, Began, Op, At, Ended, can_write, slot_of, Terms, At-back, At-last, At-one, length_last, Next, Shelf, Turn, Mounted, Machine, PathMachine, machine_of, Starts, State, Busy, Over, Setup, View, Reaches}
+use Rattle.core_facts.proofs.Prelude.{◌≡◌, ◌<◌, ◌≤◌, ℕ, Bool, true, false, List, [], ◌∷◌, ◌++◌, length, Option, Some, None, refl, sym, ap, subst, ◌∙◌, arith, Mode, Opened, Answer, Entry, Began, Op, At, Ended, can_write, slot_of, Terms, At-back, At-last, At-one, length_last, Step, Shelf, Turn, Mounted, Machine, PathMachine, machine_of, Starts, State, Busy, Over, Setup, View, Reaches}
 use Rattle.std.proofs.Common.{is_some}
 use Rattle.claims.specs.Rights.{Changes, write, fill, truncate, NoPlace, taken, free, NoRight, read, change}
 use Rattle.claims.specs.Slots.{InSlot}
@@ -8,7 +8,7 @@ use Rattle.world_model.specs.declared.answer.Answer.TheVariants as answers
 use Rattle.world_model.specs.declared.answer.Fault.TheVariants as faults
 use Rattle.world_model.specs.declared.op.Op.TheVariants as ops
 use Rattle.claims.specs.Caused.{IsTried}
-use Rattle.client_shelf.specs.declared.next.Next.TheVariants as nexts
+use Rattle.client_shelf.specs.declared.step.Step.TheVariants as nexts
 use Rattle.op_machines.specs.PathSteps as paths
 use Rattle.core_facts.proofs.AllCounts.{begins-unbegun}
 use Rattle.core_facts.proofs.HeldSlots.{may, Goes, goes_well, finds_none, finds_other, all-goes, Given, is-given, always-later}
@@ -97,15 +97,15 @@ placed-exact terms h x op answer p = record {
   right = λ lane line began other. absurd (p.right lane line began other);
 }
 
-then-placed : (terms : Terms) (h : List Entry) (x : ℕ) (op : Op) (next : Next) (new : Machine) → Placed terms h x op
+then-placed : (terms : Terms) (h : List Entry) (x : ℕ) (op : Op) (next : Step) (new : Machine) → Placed terms h x op
     → ThenOf (λ m. ExactState terms h x op (Busy m)) (λ a. ExactState terms h x op (Over a)) next new
 then-placed terms h x op (nexts.Send call) new p = p
 then-placed terms h x op nexts.Wait new p = p
 then-placed terms h x op (nexts.Done answer) new p = λ tried. placed-exact terms h x op answer p
 
-then-exact : (terms : Terms) (h : List Entry) (x : ℕ) (op : Op) (answer : Answer) (next : Next) (new : Machine) → next ≡ nexts.Done answer → Exact terms h x op answer
+then-exact : (terms : Terms) (h : List Entry) (x : ℕ) (op : Op) (answer : Answer) (next : Step) (new : Machine) → next ≡ nexts.Done answer → Exact terms h x op answer
     → ThenOf (λ m. ExactState terms h x op (Busy m)) (λ a. ExactState terms h x op (Over a)) next new
-then-exact terms h x op answer next new is e = subst (λ (n : Next). ThenOf (λ (m : Machine). ExactState terms h x op (Busy m)) (λ a. ExactState terms h x op (Over a)) n new) (sym is) (λ tried. e)
+then-exact terms h x op answer next new is e = subst (λ (n : Step). ThenOf (λ (m : Machine). ExactState terms h x op (Busy m)) (λ a. ExactState terms h x op (Over a)) n new) (sym is) (λ tried. e)
 
 -- ---- at its first step
 
@@ -156,14 +156,14 @@ module _ (terms : Terms) (h : List Entry) (lane line : ℕ) (op : Op) (old : She
     right = λ l n began k. in-lane (λ m. OtherAt terms Later m (length h) op → answer ≡ answers.Refused faults.Mode) other l n began k;
   }
 
-  abbrev After : Next → Machine → Type 0
+  abbrev After : Step → Machine → Type 0
   After next new = ThenOf (λ m. ExactState terms Later (length h) op (Busy m)) (λ a. ExactState terms Later (length h) op (Over a)) next new
 
   -- an operation on a slot
   not-open : (slot : ℕ) → slot_of op ≡ Some slot → (s : ℕ) (mode : Mode) (path : List (List ℕ)) → op ≡ ops.OpenFile s mode path → ⊥
   not-open slot on s mode path is = let no_way : None ≡ Some slot = sym (ap slot_of is) ∙ on in cc
 
-  on-slot : (slot : ℕ) (next : Next) (new : Machine) → slot_of op ≡ Some slot → Goes op (finite.get old.opens (lane, slot)) next → After next new
+  on-slot : (slot : ℕ) (next : Step) (new : Machine) → slot_of op ≡ Some slot → Goes op (finite.get old.opens (lane, slot)) next → After next new
   on-slot slot next new on (goes_well o there right) = then-placed terms Later (length h) op next new (placed none other)
     where
       none : NoneAt terms Later lane (length h) op → ⊥
@@ -204,7 +204,7 @@ module _ (terms : Terms) (h : List Entry) (lane line : ℕ) (op : Op) (old : She
   is-none None e = refl
   is-none (Some o) e = absurd cc
 
-  pub opening : (slot : ℕ) (mode : Mode) (path : List (List ℕ)) (b : Bool) (wsize : ℕ) (m : PathMachine) (turn : Turn) (next : Next) (path_new : PathMachine) (new : Machine) (after : Shelf)
+  pub opening : (slot : ℕ) (mode : Mode) (path : List (List ℕ)) (b : Bool) (wsize : ℕ) (m : PathMachine) (turn : Turn) (next : Step) (path_new : PathMachine) (new : Machine) (after : Shelf)
       → op ≡ ops.OpenFile slot mode path → is_some (finite.get old.opens (lane, slot)) ≡ b → paths.StartsIf b wsize m turn old next path_new after → After next new
   opening slot mode path true wsize m turn next path_new new after is there s =
       then-exact terms Later (length h) op (answers.Refused faults.Slot) next new s.0
@@ -221,14 +221,14 @@ module _ (terms : Terms) (h : List Entry) (lane line : ℕ) (op : Op) (old : She
       none (is_free s on free_it) = no-slot s (ap slot_of is) on
 
   -- any other
-  elsewhere : (next : Next) (new : Machine) → slot_of op ≡ None → ((s : ℕ) (mode : Mode) (path : List (List ℕ)) → op ≡ ops.OpenFile s mode path → ⊥) → After next new
+  elsewhere : (next : Step) (new : Machine) → slot_of op ≡ None → ((s : ℕ) (mode : Mode) (path : List (List ℕ)) → op ≡ ops.OpenFile s mode path → ⊥) → After next new
   elsewhere next new none open_not = then-placed terms Later (length h) op next new (placed no_place (not-other none))
     where
       no_place : NoneAt terms Later lane (length h) op → ⊥
       no_place (is_taken s mode path f k same i) = open_not s mode path same
       no_place (is_free s on free_it) = no-slot s none on
 
-all-begin : (terms : Terms) (mounted : Mounted) (h : List Entry) (lane line : ℕ) (op : Op) (wsize : ℕ) (turn : Turn) (old : Shelf) (next : Next) (new : Machine) (after : Shelf)
+all-begin : (terms : Terms) (mounted : Mounted) (h : List Entry) (lane line : ℕ) (op : Op) (wsize : ℕ) (turn : Turn) (old : Shelf) (next : Step) (new : Machine) (after : Shelf)
     → Given terms.modes h lane old → Starts wsize (machine_of mounted lane op) turn old next new after
     → ThenOf (λ m. ExactState terms (h ++ Began lane line op ∷ []) (length h) op (Busy m)) (λ a. ExactState terms (h ++ Began lane line op ∷ []) (length h) op (Over a)) next new
 all-begin terms mounted h lane line (ops.OpenFile slot mode path) wsize turn old next new after given s =

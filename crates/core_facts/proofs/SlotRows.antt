@@ -1,5 +1,5 @@
 -- An operation is refused for its slot only where it finds no place there, and for its open only where that isn't for it.
-use Rattle.core_facts.proofs.Prelude.{◌≡◌, ◌≤◌, ◌-◌, ℕ, Bool, true, false, List, [], ◌∷◌, ◌++◌, length, Option, Some, None, option_map, Result, Ok, Err, refl, sym, ap, subst, ◌∙◌, arith, Mode, DirKept, FileKept, Opened, Answer, Fault, Entry, Began, Reply, Op, At, Ended, can_write, slot_of, Terms, At-grow, At-below, At-last, At-one, Next, Shelf, Turn, file_at, Mounted, FileMachine, Machine, Opener, PathMachine, machine_of, file_of, slot_taken, begun_at, placed, Starts, Resumes, Takes, WalkNext, State, Busy, Over, Setup, View, Reaches}
+use Rattle.core_facts.proofs.Prelude.{◌≡◌, ◌≤◌, ◌-◌, ℕ, Bool, true, false, List, [], ◌∷◌, ◌++◌, length, Option, Some, None, option_map, Result, Ok, Err, refl, sym, ap, subst, ◌∙◌, arith, Mode, DirKept, FileKept, Opened, Answer, Fault, Entry, Began, Reply, Op, At, Ended, can_write, slot_of, Terms, At-grow, At-below, At-last, At-one, Step, Shelf, Turn, file_at, Mounted, FileMachine, Machine, Opener, PathMachine, machine_of, file_of, slot_taken, begun_at, placed, Starts, Resumes, Takes, WalkStep, State, Busy, Over, Setup, View, Reaches}
 use Rattle.claims.specs.Rights.{can_read, write, fill, truncate, NoPlace, taken, free, NoRight, read, change}
 use Rattle.std.specs.FinMap as finite
 use Rattle.nfs_types.specs.declared.mode.Mode.TheVariants as modes
@@ -9,13 +9,13 @@ use Rattle.world_model.specs.declared.answer.Answer.TheVariants as answers
 use Rattle.world_model.specs.declared.answer.Fault.TheVariants as faults
 use Rattle.world_model.specs.declared.message.Reply.TheVariants as replies
 use Rattle.world_model.specs.declared.op.Op.TheVariants as ops
-use Rattle.client_shelf.specs.declared.next.Next.TheVariants as nexts
+use Rattle.client_shelf.specs.declared.step.Step.TheVariants as nexts
 use Rattle.op_machines.specs.declared.file_machine.FileMachine.TheVariants as files
 use Rattle.op_machines.specs.declared.machine.Machine.TheVariants as machines
 use Rattle.op_machines.specs.declared.opener.Opener.TheVariants as openers
 use Rattle.op_machines.specs.FileSteps as moves
 use Rattle.op_machines.specs.PathSteps as paths
-use Rattle.name_ops.specs.declared.walk.WalkNext.TheVariants as walks
+use Rattle.name_ops.specs.declared.walk.WalkStep.TheVariants as walks
 use Rattle.name_ops.specs.Walking as walking
 use Rattle.core_facts.proofs.AllCounts.{begins-unbegun}
 use Rattle.core_facts.proofs.AllFaults as steps
@@ -125,7 +125,7 @@ IsOther (machines.Name m) = Unit {0}
 file-as : (to new : FileMachine) → new ≡ to → FileOther to → FileOther new
 file-as to new is o = subst FileOther (sym is) o
 
-file-starts : (m : FileMachine) (wsize : ℕ) (turn : Turn) (old : Shelf) (next : Next) (new : FileMachine) (after : Shelf) → FileOther m → moves.Starts wsize m turn old next new after → FileOther new
+file-starts : (m : FileMachine) (wsize : ℕ) (turn : Turn) (old : Shelf) (next : Step) (new : FileMachine) (after : Shelf) → FileOther m → moves.Starts wsize m turn old next new after → FileOther new
 file-starts (files.Open m) wsize turn old next new after o s = absurd o
 file-starts (files.Read m) wsize turn old next new after o s = file-as _ new s.machine_is tt
 file-starts (files.Write m) wsize turn old next new after o s = file-as _ new s.machine_is tt
@@ -134,7 +134,7 @@ file-starts (files.Close m) wsize turn old next new after o s = file-as _ new s.
 file-starts (files.Truncate m) wsize turn old next new after o s = file-as _ new s.machine_is tt
 file-starts (files.Put m) wsize turn old next new after o s = file-as _ new s.machine_is tt
 
-file-resumes : (m : FileMachine) (wsize : ℕ) (turn : Turn) (old : Shelf) (next : Next) (new : FileMachine) (after : Shelf) → FileOther m → moves.Resumes wsize m turn old next new after → FileOther new
+file-resumes : (m : FileMachine) (wsize : ℕ) (turn : Turn) (old : Shelf) (next : Step) (new : FileMachine) (after : Shelf) → FileOther m → moves.Resumes wsize m turn old next new after → FileOther new
 file-resumes (files.Open m) wsize turn old next new after o s = absurd o
 file-resumes (files.Read m) wsize turn old next new after o s = file-as _ new s.machine_is tt
 file-resumes (files.Write m) wsize turn old next new after o s = file-as _ new s.machine_is tt
@@ -143,7 +143,7 @@ file-resumes (files.Close m) wsize turn old next new after o s = file-as _ new s
 file-resumes (files.Truncate m) wsize turn old next new after o s = file-as _ new s.machine_is tt
 file-resumes (files.Put m) wsize turn old next new after o s = file-as _ new s.machine_is tt
 
-file-takes : (m : FileMachine) (wsize : ℕ) (sent turn : Turn) (came : Result Reply Fault) (old : Shelf) (next : Next) (new : FileMachine) (after : Shelf) → FileOther m
+file-takes : (m : FileMachine) (wsize : ℕ) (sent turn : Turn) (came : Result Reply Fault) (old : Shelf) (next : Step) (new : FileMachine) (after : Shelf) → FileOther m
     → moves.Takes wsize m sent turn came old next new after → FileOther new
 file-takes (files.Open m) wsize sent turn came old next new after o s = absurd o
 file-takes (files.Read m) wsize sent turn came old next new after o s = file-as _ new s.machine_is tt
@@ -164,12 +164,12 @@ begun-other : (moment : ℕ) (k : Opener) → FileOther (file_of k) → FileOthe
 begun-other moment (openers.Open m) o = o
 begun-other moment (openers.Put m) o = tt
 
-then-other : (wsize : ℕ) (m : PathMachine) (turn : Turn) (old : Shelf) (next : Next) (new : PathMachine) (after : Shelf) → FileOther (file_of m.opener)
+then-other : (wsize : ℕ) (m : PathMachine) (turn : Turn) (old : Shelf) (next : Step) (new : PathMachine) (after : Shelf) → FileOther (file_of m.opener)
     → paths.ThenResumes wsize m turn old next new after → FileOther (file_of new.opener)
 then-other wsize m turn old next new after o t =
     path-as (record m { opener = t.opener }) new t.machine_is (file-resumes (file_of m.opener) wsize turn old next (file_of t.opener) after o t.step)
 
-follows-other : (step : WalkNext) (wsize : ℕ) (m : PathMachine) (turn : Turn) (old : Shelf) (next : Next) (new : PathMachine) (after : Shelf) → FileOther (file_of m.opener)
+follows-other : (step : WalkStep) (wsize : ℕ) (m : PathMachine) (turn : Turn) (old : Shelf) (next : Step) (new : PathMachine) (after : Shelf) → FileOther (file_of m.opener)
     → paths.Follows step wsize m turn old next new after → FileOther (file_of new.opener)
 follows-other (walks.Send call) wsize m turn old next new after o f = path-as m new f.1 o
 follows-other walks.Wait wsize m turn old next new after o f = path-as m new f.1 o
@@ -177,19 +177,19 @@ follows-other (walks.At dir) wsize m turn old next new after o f =
     then-other wsize (record m { opener = placed dir m.opener; arrived = true }) turn old next new after (placed-other dir m.opener o) f
 follows-other (walks.Refused fault) wsize m turn old next new after o f = path-as m new f.1 o
 
-path-resumes : (b : Bool) (wsize : ℕ) (m : PathMachine) (turn : Turn) (old : Shelf) (next : Next) (new : PathMachine) (after : Shelf) → FileOther (file_of m.opener)
+path-resumes : (b : Bool) (wsize : ℕ) (m : PathMachine) (turn : Turn) (old : Shelf) (next : Step) (new : PathMachine) (after : Shelf) → FileOther (file_of m.opener)
     → paths.PathResumes b wsize m turn old next new after → FileOther (file_of new.opener)
 path-resumes true wsize m turn old next new after o r = then-other wsize m turn old next new after o r
 path-resumes false wsize m turn old next new after o r =
     follows-other (walking.go_next m.walk turn old) wsize (record m { walk = walking.go_after m.walk turn old }) turn (walking.go_shelf m.walk turn old) next new after o r
 
-path-starts : (b : Bool) (wsize : ℕ) (m : PathMachine) (turn : Turn) (old : Shelf) (next : Next) (new : PathMachine) (after : Shelf) → FileOther (file_of m.opener)
+path-starts : (b : Bool) (wsize : ℕ) (m : PathMachine) (turn : Turn) (old : Shelf) (next : Step) (new : PathMachine) (after : Shelf) → FileOther (file_of m.opener)
     → paths.StartsIf b wsize m turn old next new after → FileOther (file_of new.opener)
 path-starts true wsize m turn old next new after o s = path-as m new s.1 o
 path-starts false wsize m turn old next new after o s =
     path-resumes m.arrived wsize (record m { opener = begun_at (turn.moment - 1) m.opener }) turn old next new after (begun-other (turn.moment - 1) m.opener o) s
 
-path-takes : (b : Bool) (wsize : ℕ) (m : PathMachine) (sent turn : Turn) (came : Result Reply Fault) (old : Shelf) (next : Next) (new : PathMachine) (after : Shelf) → FileOther (file_of m.opener)
+path-takes : (b : Bool) (wsize : ℕ) (m : PathMachine) (sent turn : Turn) (came : Result Reply Fault) (old : Shelf) (next : Step) (new : PathMachine) (after : Shelf) → FileOther (file_of m.opener)
     → paths.PathTakes b wsize m sent turn came old next new after → FileOther (file_of new.opener)
 path-takes true wsize m sent turn came old next new after o t =
     path-as (record m { opener = t.opener }) new t.machine_is (file-takes (file_of m.opener) wsize sent turn came old next (file_of t.opener) after o t.step)
@@ -199,19 +199,19 @@ path-takes false wsize m sent turn came old next new after o t =
 other-as : (to new : Machine) → new ≡ to → IsOther to → IsOther new
 other-as to new is o = subst IsOther (sym is) o
 
-other-starts : (m : Machine) (wsize : ℕ) (turn : Turn) (old : Shelf) (next : Next) (new : Machine) (after : Shelf) → IsOther m → Starts wsize m turn old next new after → IsOther new
+other-starts : (m : Machine) (wsize : ℕ) (turn : Turn) (old : Shelf) (next : Step) (new : Machine) (after : Shelf) → IsOther m → Starts wsize m turn old next new after → IsOther new
 other-starts (machines.File m) wsize turn old next new after o s = other-as (machines.File s.machine) new s.machine_is (file-starts m wsize turn old next s.machine after o s.step)
 other-starts (machines.Path m) wsize turn old next new after o s =
     other-as (machines.Path s.machine) new s.machine_is (path-starts (slot_taken m.opener old.opens) wsize m turn old next s.machine after o s.step)
 other-starts (machines.Name m) wsize turn old next new after o s = other-as (machines.Name s.machine) new s.machine_is tt
 
-other-resumes : (m : Machine) (wsize : ℕ) (turn : Turn) (old : Shelf) (next : Next) (new : Machine) (after : Shelf) → IsOther m → Resumes wsize m turn old next new after → IsOther new
+other-resumes : (m : Machine) (wsize : ℕ) (turn : Turn) (old : Shelf) (next : Step) (new : Machine) (after : Shelf) → IsOther m → Resumes wsize m turn old next new after → IsOther new
 other-resumes (machines.File m) wsize turn old next new after o s = other-as (machines.File s.machine) new s.machine_is (file-resumes m wsize turn old next s.machine after o s.step)
 other-resumes (machines.Path m) wsize turn old next new after o s =
     other-as (machines.Path s.machine) new s.machine_is (path-resumes m.arrived wsize m turn old next s.machine after o s.step)
 other-resumes (machines.Name m) wsize turn old next new after o s = other-as (machines.Name s.machine) new s.machine_is tt
 
-other-takes : (m : Machine) (wsize : ℕ) (sent turn : Turn) (came : Result Reply Fault) (old : Shelf) (next : Next) (new : Machine) (after : Shelf) → IsOther m
+other-takes : (m : Machine) (wsize : ℕ) (sent turn : Turn) (came : Result Reply Fault) (old : Shelf) (next : Step) (new : Machine) (after : Shelf) → IsOther m
     → Takes wsize m sent turn came old next new after → IsOther new
 other-takes (machines.File m) wsize sent turn came old next new after o s =
     other-as (machines.File s.machine) new s.machine_is (file-takes m wsize sent turn came old next s.machine after o s.step)
@@ -396,21 +396,21 @@ row-answer : (terms : Terms) (h : List Entry) (x : ℕ) (op : Op) (answer : Answ
 row-answer terms h x op (answers.Done value) f = tt
 row-answer terms h x op (answers.Refused fault) f = f
 
-then-row : (terms : Terms) (h : List Entry) (x : ℕ) (op : Op) (next : Next) (new : Machine) → steps.MachineStep (Row terms h x op) (own terms h x op) next new → MayEnd (opens_slot op) new
+then-row : (terms : Terms) (h : List Entry) (x : ℕ) (op : Op) (next : Step) (new : Machine) → steps.MachineStep (Row terms h x op) (own terms h x op) next new → MayEnd (opens_slot op) new
     → ThenOf (λ m. RowState terms h x op (Busy m)) (λ a. RowState terms h x op (Over a)) next new
 then-row terms h x op (nexts.Send call) new f o = record { fine = f.1; other = o }
 then-row terms h x op nexts.Wait new f o = record { fine = f.1; other = o }
 then-row terms h x op (nexts.Done answer) new f o = row-answer terms h x op answer f.0
 
-may-starts : (b : Bool) (m : Machine) (wsize : ℕ) (turn : Turn) (old : Shelf) (next : Next) (new : Machine) (after : Shelf) → MayEnd b m → Starts wsize m turn old next new after → MayEnd b new
+may-starts : (b : Bool) (m : Machine) (wsize : ℕ) (turn : Turn) (old : Shelf) (next : Step) (new : Machine) (after : Shelf) → MayEnd b m → Starts wsize m turn old next new after → MayEnd b new
 may-starts true m wsize turn old next new after o s = tt
 may-starts false m wsize turn old next new after o s = other-starts m wsize turn old next new after o s
 
-may-resumes : (b : Bool) (m : Machine) (wsize : ℕ) (turn : Turn) (old : Shelf) (next : Next) (new : Machine) (after : Shelf) → MayEnd b m → Resumes wsize m turn old next new after → MayEnd b new
+may-resumes : (b : Bool) (m : Machine) (wsize : ℕ) (turn : Turn) (old : Shelf) (next : Step) (new : Machine) (after : Shelf) → MayEnd b m → Resumes wsize m turn old next new after → MayEnd b new
 may-resumes true m wsize turn old next new after o s = tt
 may-resumes false m wsize turn old next new after o s = other-resumes m wsize turn old next new after o s
 
-may-takes : (b : Bool) (m : Machine) (wsize : ℕ) (sent turn : Turn) (came : Result Reply Fault) (old : Shelf) (next : Next) (new : Machine) (after : Shelf) → MayEnd b m
+may-takes : (b : Bool) (m : Machine) (wsize : ℕ) (sent turn : Turn) (came : Result Reply Fault) (old : Shelf) (next : Step) (new : Machine) (after : Shelf) → MayEnd b m
     → Takes wsize m sent turn came old next new after → MayEnd b new
 may-takes true m wsize sent turn came old next new after o s = tt
 may-takes false m wsize sent turn came old next new after o s = other-takes m wsize sent turn came old next new after o s

@@ -1,12 +1,12 @@
 -- A sync that went well: COMMIT of the file that its slot holds was answered 0 since it began.
-use Rattle.core_facts.proofs.Prelude.{◌≡◌, ◌+◌, ℕ, List, [], ◌∷◌, ◌++◌, length, Option, Some, None, option_map, Result, refl, sym, ap, subst, ◌∙◌, Opened, Answer, Fault, Value, Entry, Began, Reply, Op, Modes, Ended, is_first, Next, Shelf, Turn, SyncFile, Syncing, joined, Mounted, Machine, machine_of, Starts, Resumes, Takes, State, Busy, Over, Setup, View, of_saving, of_syncing, in_flight, Reaches}
+use Rattle.core_facts.proofs.Prelude.{◌≡◌, ◌+◌, ℕ, List, [], ◌∷◌, ◌++◌, length, Option, Some, None, option_map, Result, refl, sym, ap, subst, ◌∙◌, Opened, Answer, Fault, Value, Entry, Began, Reply, Op, Modes, Ended, is_first, Step, Shelf, Turn, SyncFile, Syncing, joined, Mounted, Machine, machine_of, Starts, Resumes, Takes, State, Busy, Over, Setup, View, of_saving, of_syncing, in_flight, Reaches}
 use Rattle.std.specs.FinMap as finite
 use Rattle.world_model.specs.declared.answer.Answer.TheVariants as answers
 use Rattle.world_model.specs.declared.answer.Fault.TheVariants as faults
 use Rattle.world_model.specs.declared.op.Op.TheVariants as ops
 use Rattle.world_model.specs.Commits.{Committed}
 use Rattle.world_model.proofs.Growth.{Committed-grow}
-use Rattle.client_shelf.specs.declared.next.Next.TheVariants as nexts
+use Rattle.client_shelf.specs.declared.step.Step.TheVariants as nexts
 use Rattle.file_ops.specs.declared.sync_file.Syncing.TheVariants as syncing
 use Rattle.file_ops.specs.Saves as saves
 use Rattle.file_ops.specs.Syncs as syncs
@@ -39,17 +39,17 @@ StateStory m h x op (Over (answers.Refused fault)) = Unit {0}
 abbrev SyncStory : Modes → List Entry → ℕ → Op → State → Type 0
 SyncStory m h x op state = (slot : ℕ) → op ≡ ops.Sync slot → StateStory m h x op state
 
-abbrev Then : Modes → List Entry → ℕ → Op → Next → Machine → Type 0
+abbrev Then : Modes → List Entry → ℕ → Op → Step → Machine → Type 0
 Then m h x op next new = ThenOf (λ k. StateStory m h x op (Busy k)) (λ a. StateStory m h x op (Over a)) next new
 
 -- of every operation that is a sync
-for-slot : (m : Modes) (h : List Entry) (x : ℕ) (op : Op) (next : Next) (new : Machine) → ((slot : ℕ) → op ≡ ops.Sync slot → Then m h x op next new)
+for-slot : (m : Modes) (h : List Entry) (x : ℕ) (op : Op) (next : Step) (new : Machine) → ((slot : ℕ) → op ≡ ops.Sync slot → Then m h x op next new)
     → ThenOf (λ k. SyncStory m h x op (Busy k)) (λ a. SyncStory m h x op (Over a)) next new
 for-slot m h x op (nexts.Send call) new t = t
 for-slot m h x op nexts.Wait new t = t
 for-slot m h x op (nexts.Done answer) new t = t
 
-then-as : (m : Modes) (h : List Entry) (x : ℕ) (op : Op) (next : Next) (to new : Machine) → new ≡ to → Then m h x op next to → Then m h x op next new
+then-as : (m : Modes) (h : List Entry) (x : ℕ) (op : Op) (next : Step) (to new : Machine) → new ≡ to → Then m h x op next to → Then m h x op next new
 then-as m h x op next to new is t = subst (Then m h x op next) (sym is) t
 
 answer-ends : (m : Modes) (h : List Entry) (x : ℕ) (op : Op) (held : Held m h x op) (answer : Answer) → WellDone (Committed h x (length h) held.o.file) answer → StateStory m h x op (Over answer)
@@ -57,18 +57,18 @@ answer-ends m h x op held (answers.Done value) w = record { held = held; committ
 answer-ends m h x op held (answers.Refused fault) w = tt
 
 -- what a step of its machine leads to
-then-runs : (m : Modes) (h : List Entry) (x : ℕ) (op : Op) (held : Held m h x op) (s : SyncFile) (next : Next) (state : Syncing)
+then-runs : (m : Modes) (h : List Entry) (x : ℕ) (op : Op) (held : Held m h x op) (s : SyncFile) (next : Step) (state : Syncing)
     → ThenOf (SyncHas held.o.file (Committed h x (length h) held.o.file)) (WellDone (Committed h x (length h) held.o.file)) next state
     → Then m h x op next (machines.File (files.Sync (record s { state = state })))
 then-runs m h x op held s (nexts.Send call) state t = record { held = held; s = record s { state = state }; is = refl; has = t }
 then-runs m h x op held s nexts.Wait state t = record { held = held; s = record s { state = state }; is = refl; has = t }
 then-runs m h x op held s (nexts.Done answer) state t = answer-ends m h x op held answer t
 
-refused-then : (m : Modes) (h : List Entry) (x : ℕ) (op : Op) (fault : Fault) (next : Next) (new : Machine) → next ≡ nexts.Done (answers.Refused fault) → Then m h x op next new
-refused-then m h x op fault next new is = subst (λ (n : Next). Then m h x op n new) (sym is) tt
+refused-then : (m : Modes) (h : List Entry) (x : ℕ) (op : Op) (fault : Fault) (next : Step) (new : Machine) → next ≡ nexts.Done (answers.Refused fault) → Then m h x op next new
+refused-then m h x op fault next new is = subst (λ (n : Step). Then m h x op n new) (sym is) tt
 
 -- as it begins
-begins-at : (m : Modes) (h : List Entry) (lane line slot : ℕ) (at : Option Opened) (wsize : ℕ) (s : SyncFile) (turn : Turn) (old : Shelf) (next : Next) (state : Syncing) (new : Machine) (after : Shelf)
+begins-at : (m : Modes) (h : List Entry) (lane line slot : ℕ) (at : Option Opened) (wsize : ℕ) (s : SyncFile) (turn : Turn) (old : Shelf) (next : Step) (state : Syncing) (new : Machine) (after : Shelf)
     → Given m h lane old → finite.get old.opens (lane, slot) ≡ at → new ≡ machines.File (files.Sync (record s { state = state }))
     → syncs.StartsAt (option_map (λ (o : Opened). o.file) at) wsize s turn old next state after
     → Then m (h ++ Began lane line (ops.Sync slot) ∷ []) (length h) (ops.Sync slot) next new
@@ -88,13 +88,13 @@ begins-at m h lane line slot (Some o) wsize s turn old next state new after give
     steps = sync-queues o.file (Committed later (length h) (length later) o.file) (is_first s.lane (joined s.lane o.file old).order) wsize s.lane turn (saves.begun o.file old.seq) (joined s.lane o.file old)
         next state after (begun-has o.file (Committed later (length h) (length later) o.file) o.file old.seq refl) t
 
-sync-begins : (m : Modes) (mounted : Mounted) (h : List Entry) (lane line slot : ℕ) (wsize : ℕ) (turn : Turn) (old : Shelf) (next : Next) (new : Machine) (after : Shelf) → Given m h lane old
+sync-begins : (m : Modes) (mounted : Mounted) (h : List Entry) (lane line slot : ℕ) (wsize : ℕ) (turn : Turn) (old : Shelf) (next : Step) (new : Machine) (after : Shelf) → Given m h lane old
     → Starts wsize (machine_of mounted lane (ops.Sync slot)) turn old next new after → Then m (h ++ Began lane line (ops.Sync slot) ∷ []) (length h) (ops.Sync slot) next new
 sync-begins m mounted h lane line slot wsize turn old next new after given s =
     begins-at m h lane line slot (finite.get old.opens (lane, slot)) wsize (record { lane = lane; slot = slot; state = syncing.Idle }) turn old next s.step.state new after given refl
     (s.machine_is ∙ ap machines.File s.step.machine_is) s.step.step
 
-sync-goes-on : (m : Modes) (h : List Entry) (x : ℕ) (op : Op) (machine : Machine) (wsize : ℕ) (turn : Turn) (old : Shelf) (next : Next) (new : Machine) (after : Shelf) → SyncRuns m h x op machine
+sync-goes-on : (m : Modes) (h : List Entry) (x : ℕ) (op : Op) (machine : Machine) (wsize : ℕ) (turn : Turn) (old : Shelf) (next : Step) (new : Machine) (after : Shelf) → SyncRuns m h x op machine
     → Resumes wsize machine turn old next new after → Then m h x op next new
 sync-goes-on m h x op machine wsize turn old next new after k r = by (subst (λ (n : Machine). Resumes wsize n turn old next new after) k.is r)
   where
@@ -104,7 +104,7 @@ sync-goes-on m h x op machine wsize turn old next new after k r = by (subst (λ 
         then-as m h x op next (machines.File (files.Sync (record k.s { state = s.step.state }))) new (s.machine_is ∙ ap machines.File s.step.machine_is)
         (then-runs m h x op k.held k.s next s.step.state t.then_)
 
-sync-hears : (m : Modes) (h : List Entry) (x : ℕ) (op : Op) (machine : Machine) (wsize : ℕ) (sent turn : Turn) (came : Result Reply Fault) (old : Shelf) (next : Next) (new : Machine) (after : Shelf)
+sync-hears : (m : Modes) (h : List Entry) (x : ℕ) (op : Op) (machine : Machine) (wsize : ℕ) (sent turn : Turn) (came : Result Reply Fault) (old : Shelf) (next : Step) (new : Machine) (after : Shelf)
     (others : ℕ) → SyncRuns m h x op machine → in_flight machine ≡ others + 1 → IsTold h x machine came → Takes wsize machine sent turn came old next new after → Then m h x op next new
 sync-hears m h x op machine wsize sent turn came old next new after others k one told t =
     by (sym (ap in_flight k.is) ∙ one) (subst (λ (n : Machine). IsTold h x n came) k.is told) (subst (λ (n : Machine). Takes wsize n sent turn came old next new after) k.is t)

@@ -1,6 +1,6 @@
 -- The table of opens says of each slot of an idle lane what the history shows; of a lane with an operation under way, but for the slot that
 -- this opens or closes.
-use Rattle.core_facts.proofs.Prelude.{◌≡◌, ◌≢◌, inl, inr, ℕ, List, [], ◌∷◌, ◌++◌, length, Bool, true, false, nat_eq, Option, Some, None, Result, Ok, refl, sym, ap, subst, ◌∙◌, arith, Err, ◌≤◌, ◌+◌, eqb-true, eqb-false, Mode, DirKept, FileKept, Opened, Place, Opens, Answer, Fault, Value, Entry, Answered, Delivered, Call, Reply, Op, Modes, Ended, EndsWith, UnderWay, length_last, Next, Send, Wait, Done, Shelf, Turn, OpenFile, CloseFile, Closing, Machine, Opener, file_of, slot_taken, Starts, Resumes, Takes, State, Busy, Over}
+use Rattle.core_facts.proofs.Prelude.{◌≡◌, ◌≢◌, inl, inr, ℕ, List, [], ◌∷◌, ◌++◌, length, Bool, true, false, nat_eq, Option, Some, None, Result, Ok, refl, sym, ap, subst, ◌∙◌, arith, Err, ◌≤◌, ◌+◌, eqb-true, eqb-false, Mode, DirKept, FileKept, Opened, Place, Opens, Answer, Fault, Value, Entry, Answered, Delivered, Call, Reply, Op, Modes, Ended, EndsWith, UnderWay, length_last, Step, Send, Wait, Done, Shelf, Turn, OpenFile, CloseFile, Closing, Machine, Opener, file_of, slot_taken, Starts, Resumes, Takes, State, Busy, Over}
 use Rattle.std.proofs.Common.{is_some}
 use Rattle.std.specs.FinMap as finite
 use Rattle.nfs_dir_calls.specs.declared.keeping.DirKept.TheVariants as found
@@ -149,28 +149,28 @@ module _ (m : Modes) (h : List Entry) (x n : ℕ) where
 
   -- ---- one step of the operation
 
-  abbrev pub ThenStory : Kind → Opens → Next → Machine → Type 0
+  abbrev pub ThenStory : Kind → Opens → Step → Machine → Type 0
   ThenStory kind opens next new = ThenOf (λ k. StoryOf m h x n kind (Busy k) opens) (λ a. StoryOf m h x n kind (Over a) opens) next new
 
-  pub record Stepped (kind : Kind) (old : Shelf) (next : Next) (new : Machine) (after : Shelf) : Type 0 where
+  pub record Stepped (kind : Kind) (old : Shelf) (next : Step) (new : Machine) (after : Shelf) : Type 0 where
     pub then_ : ThenStory kind after.opens next new
     pub others : (q : Place) → q.0 ≢ n → finite.get after.opens q ≡ finite.get old.opens q
 
   same-table : (old after : Shelf) → after.opens ≡ old.opens → (q : Place) → q.0 ≢ n → finite.get after.opens q ≡ finite.get old.opens q
   same-table old after same q other = ap (λ (o : Opens). finite.get o q) same
 
-  plain-stepped : (old : Shelf) (next : Next) (new : Machine) (after : Shelf) → Leaves old new after → SlotsAgree m h n old.opens → Stepped plainly old next new after
+  plain-stepped : (old : Shelf) (next : Step) (new : Machine) (after : Shelf) → Leaves old new after → SlotsAgree m h n old.opens → Stepped plainly old next new after
   plain-stepped old next new after l a = record { then_ = by next; others = same-table old after l.1 }
     where
       later : SlotsAgree m h n after.opens
       later = subst (SlotsAgree m h n) (sym l.1) a
 
-      by : (k : Next) → ThenStory plainly after.opens k new
+      by : (k : Step) → ThenStory plainly after.opens k new
       by (Send call) = (l.0, later)
       by Wait = (l.0, later)
       by (Done answer) = later
 
-  open-stepped : (slot : ℕ) (mode : Mode) (old : Shelf) (next : Next) (new : Machine) (after : Shelf) → ThenOf (IsOpener m.nocto n slot mode) IsRefusal next new → after.opens ≡ old.opens
+  open-stepped : (slot : ℕ) (mode : Mode) (old : Shelf) (next : Step) (new : Machine) (after : Shelf) → ThenOf (IsOpener m.nocto n slot mode) IsRefusal next new → after.opens ≡ old.opens
       → finite.get old.opens (n, slot) ≡ None → FineNext (IsPlaced m h x n slot) next → SlotsAgree m h n old.opens → Stepped (opening slot mode) old next new after
   open-stepped slot mode old next new after t same free known a = record { then_ = by next t known; others = same-table old after same }
     where
@@ -184,16 +184,16 @@ module _ (m : Modes) (h : List Entry) (x n : ℕ) where
       over (answers.Done value) r f = absurd r
       over (answers.Refused fault) r f = (later, f)
 
-      by : (k : Next) → ThenOf (IsOpener m.nocto n slot mode) IsRefusal k new → FineNext (IsPlaced m h x n slot) k → ThenStory (opening slot mode) after.opens k new
+      by : (k : Step) → ThenOf (IsOpener m.nocto n slot mode) IsRefusal k new → FineNext (IsPlaced m h x n slot) k → ThenStory (opening slot mode) after.opens k new
       by (Send call) o f = record { opener = o; free = still; agree = later }
       by Wait o f = record { opener = o; free = still; agree = later }
       by (Done answer) r f = over answer r f
 
   -- an open whose slot is taken as it begins
-  taken-stepped : (slot : ℕ) (mode : Mode) (old : Shelf) (next : Next) (new : Machine) (after : Shelf) → next ≡ Done (answers.Refused faults.Slot) → after.opens ≡ old.opens
+  taken-stepped : (slot : ℕ) (mode : Mode) (old : Shelf) (next : Step) (new : Machine) (after : Shelf) → next ≡ Done (answers.Refused faults.Slot) → after.opens ≡ old.opens
       → WasTaken m h x n slot → SlotsAgree m h n old.opens → Stepped (opening slot mode) old next new after
   taken-stepped slot mode old next new after is same taken a = record {
-    then_ = subst (λ (k : Next). ThenStory (opening slot mode) after.opens k new) (sym is) (subst (SlotsAgree m h n) (sym same) a, λ e. taken);
+    then_ = subst (λ (k : Step). ThenStory (opening slot mode) after.opens k new) (sym is) (subst (SlotsAgree m h n) (sym same) a, λ e. taken);
     others = same-table old after same;
   }
 
@@ -269,20 +269,20 @@ module _ (m : Modes) (h : List Entry) (x n : ℕ) where
       opener-place : (o : OpenFile) → IsAt m.nocto n slot mode o → ◌≡◌ {A = Place} (o.lane, o.slot) (n, slot)
       opener-place o at = ap {B = Place} (λ (k : ℕ). (k, o.slot)) at.lane_is ∙ ap {B = Place} (λ (k : ℕ). (n, k)) at.slot_is
 
-  close-stepped : (slot : ℕ) (c : CloseFile) (state : Closing) (old : Shelf) (next : Next) (new : Machine) (after : Shelf) → new ≡ machines.File (files.Close (record c { state = state }))
+  close-stepped : (slot : ℕ) (c : CloseFile) (state : Closing) (old : Shelf) (next : Step) (new : Machine) (after : Shelf) → new ≡ machines.File (files.Close (record c { state = state }))
       → c.lane ≡ n → c.slot ≡ slot → OthersAgree m h n slot old.opens → CloseSteps (Agrees m h n slot) (n, slot) old.opens next state after.opens → Stepped (closing slot) old next new after
   close-stepped slot c state old next new after is of_lane of_slot a t = record { then_ = by next t.then_; others = λ q other. t.others q (apart-lane q n slot other) }
     where
       later : OthersAgree m h n slot after.opens
       later = others-same m h n slot old.opens after.opens (λ s other. t.others (n, s) (apart-slot n s slot other)) a
 
-      by : (k : Next) → ThenOf (λ s. ClosingHas (Agrees m h n slot) s (finite.get after.opens (n, slot))) (λ b. finite.get after.opens (n, slot) ≡ None) k state
+      by : (k : Step) → ThenOf (λ s. ClosingHas (Agrees m h n slot) s (finite.get after.opens (n, slot))) (λ b. finite.get after.opens (n, slot) ≡ None) k state
           → ThenStory (closing slot) after.opens k new
       by (Send call) has = record { c = record c { state = state }; is = is; lane_is = of_lane; slot_is = of_slot; has = has; others = later }
       by Wait has = record { c = record c { state = state }; is = is; lane_is = of_lane; slot_is = of_slot; has = has; others = later }
       by (Done answer) none = record { none = none; others = later }
 
-  pub story-starts : (kind : Kind) (machine : Machine) (wsize : ℕ) (turn : Turn) (old : Shelf) (next : Next) (new : Machine) (after : Shelf) → BeginsAs m.nocto n kind machine
+  pub story-starts : (kind : Kind) (machine : Machine) (wsize : ℕ) (turn : Turn) (old : Shelf) (next : Step) (new : Machine) (after : Shelf) → BeginsAs m.nocto n kind machine
       → SlotsAgree m h n old.opens → ((slot : ℕ) (o : Opened) → finite.get old.opens (n, slot) ≡ Some o → WasTaken m h x n slot) → Starts wsize machine turn old next new after
       → Stepped kind old next new after
   story-starts (opening slot mode) machine wsize turn old next new after b a taken s = by (finite.get old.opens (n, slot)) refl
@@ -301,7 +301,7 @@ module _ (m : Modes) (h : List Entry) (x n : ℕ) where
           (close-starts (Agrees m h n slot) n slot wsize b.c turn old next t.step.state after b.lane_is b.slot_is (a slot) t.step.step)
   story-starts plainly machine wsize turn old next new after b a taken s = plain-stepped old next new after (plain-starts machine wsize turn old next new after b s) a
 
-  pub story-resumes : (kind : Kind) (machine : Machine) (wsize : ℕ) (turn : Turn) (old : Shelf) (next : Next) (new : Machine) (after : Shelf) → StoryOf m h x n kind (Busy machine) old.opens
+  pub story-resumes : (kind : Kind) (machine : Machine) (wsize : ℕ) (turn : Turn) (old : Shelf) (next : Step) (new : Machine) (after : Shelf) → StoryOf m h x n kind (Busy machine) old.opens
       → Resumes wsize machine turn old next new after → Stepped kind old next new after
   story-resumes (opening slot mode) machine wsize turn old next new after t r =
       let o = opener-resumes m.nocto n slot mode machine wsize turn old next new after t.opener r in
@@ -333,12 +333,12 @@ module _ (m : Modes) (h : List Entry) (x n : ℕ) where
       let e = subst (λ (k : Call). EndsWith h x (length h) k reply) (expects t.call t.expects ∙ is) t.ends in
       made nocto d name making attr wcc e.last e.spells
 
-  open-took : (slot : ℕ) (mode : Mode) (was : Machine) (came : Result Reply Fault) (old : Shelf) (next : Next) (new : Machine) (after : Shelf)
+  open-took : (slot : ℕ) (mode : Mode) (was : Machine) (came : Result Reply Fault) (old : Shelf) (next : Step) (new : Machine) (after : Shelf)
       → ((reply : Reply) → came ≡ Ok reply → TellsOf h x was reply) → FineNext (IsPlaced m h x n slot) next → SlotsAgree m h n old.opens → finite.get old.opens (n, slot) ≡ None → OpenTook m.nocto n slot mode was came old.opens next new after.opens
       → Stepped (opening slot mode) old next new after
   open-took slot mode was came old next new after tells known a clear (table_stays same t) = open-stepped slot mode old next new after t same clear known a
   open-took slot mode was came old next new after tells known a clear (puts_open of call free now mode_is is expects finds) = record {
-    then_ = subst (λ (k : Next). ThenStory (opening slot mode) after.opens k new) (sym is) (record {
+    then_ = subst (λ (k : Step). ThenStory (opening slot mode) after.opens k new) (sym is) (record {
       o = of;
       there = ap (λ (o : Opens). finite.get o (n, slot)) now ∙ get-put_same old.opens (n, slot) of;
       mode_is = mode_is;
@@ -352,7 +352,7 @@ module _ (m : Modes) (h : List Entry) (x n : ℕ) where
       other-slot : (q : Place) → q ≢ (n, slot) → finite.get after.opens q ≡ finite.get old.opens q
       other-slot q apart = ap (λ (o : Opens). finite.get o q) now ∙ get-put_other old.opens (n, slot) q of apart
 
-  pub story-takes : (kind : Kind) (machine : Machine) (wsize : ℕ) (sent turn : Turn) (came : Result Reply Fault) (old : Shelf) (next : Next) (new : Machine) (after : Shelf)
+  pub story-takes : (kind : Kind) (machine : Machine) (wsize : ℕ) (sent turn : Turn) (came : Result Reply Fault) (old : Shelf) (next : Step) (new : Machine) (after : Shelf)
       → ((reply : Reply) → came ≡ Ok reply → TellsOf h x machine reply) → FineResult IsOuter came → StoryOf m h x n kind (Busy machine) old.opens → Takes wsize machine sent turn came old next new after
       → Stepped kind old next new after
   story-takes (opening slot mode) machine wsize sent turn came old next new after tells fine t k =

@@ -1,5 +1,5 @@
 -- Along a history that the core goes with, its table of opens says of each slot what the history shows.
-use Rattle.core_facts.proofs.Prelude.{◌≡◌, ◌≢◌, ◌<◌, ◌≤◌, ◌⊎◌, inl, inr, ℕ, zero, suc, List, [], ◌∷◌, ◌++◌, length, remove, Bool, true, false, nat_eq, Option, Some, None, MatchOption, position, slice_get, slice_set, Ok, Err, refl, sym, ap, subst, ◌∙◌, arith, ◌+◌, eqb-true, eqb-false, cases_lt, Opened, Place, Opens, xid_at, Waiting, waiting_at, Answer, Fault, Entry, Began, Answered, Dialed, Sent, Executed, Foreign, Flushed, Reboot, Delivered, Failed, Clock, Reply, Op, At, Modes, Ended, UnderWay, At-grow, At-one, length_last, said_of, Next, Send, Wait, Done, Shelf, Mounted, Machine, machine_of, Lane, Purpose, State, Busy, Over, Setup, IsFresh, is_busy, IsOther, numbers_of, with_state, IsRefused, Leads, Stirs, Moves, moves_none, moves_more, counted, BeginsIf, TakesAt, View, turn_at, unmade_turn, IsSetUp, StepsTo, HearsRecord, Reaches, begins, goes, loses, last_reading, NoneBusy}
+use Rattle.core_facts.proofs.Prelude.{◌≡◌, ◌≢◌, ◌<◌, ◌≤◌, ◌⊎◌, inl, inr, ℕ, zero, suc, List, [], ◌∷◌, ◌++◌, length, remove, Bool, true, false, nat_eq, Option, Some, None, MatchOption, position, slice_get, slice_set, Ok, Err, refl, sym, ap, subst, ◌∙◌, arith, ◌+◌, eqb-true, eqb-false, cases_lt, Opened, Place, Opens, xid_at, Waiting, waiting_at, Answer, Fault, Entry, Began, Answered, Dialed, Sent, Executed, Foreign, Flushed, Reboot, Delivered, Failed, Clock, Reply, Op, At, Modes, Ended, UnderWay, At-grow, At-one, length_last, said_of, Step, Send, Wait, Done, Shelf, Mounted, Machine, machine_of, Lane, Purpose, State, Busy, Over, Setup, IsFresh, is_busy, IsOther, numbers_of, with_state, IsRefused, Leads, Stirs, Moves, moves_none, moves_more, counted, BeginsIf, TakesAt, View, turn_at, unmade_turn, IsSetUp, StepsTo, HearsRecord, Reaches, begins, goes, loses, last_reading, NoneBusy}
 use Rattle.open_files.specs.Slots.{place_cmp}
 use Rattle.world_model.specs.Operations.{AnsweredBefore}
 use Rattle.std.specs.FinMap as finite
@@ -60,7 +60,7 @@ less-numbers numbers at n gone there apart other = other-of n numbers (λ k here
 abbrev pub Plain : List Entry → ℕ → Op → State → Type 0
 Plain h x op state = Unit {0}
 
-plain-then : (next : Next) (new : Machine) → ThenOf (λ (m : Machine). Unit {0}) (λ a. Unit {0}) next new
+plain-then : (next : Step) (new : Machine) → ThenOf (λ (m : Machine). Unit {0}) (λ a. Unit {0}) next new
 plain-then (Send call) new = tt
 plain-then Wait new = tt
 plain-then (Done answer) new = tt
@@ -84,7 +84,7 @@ module _ (modes : Modes) (mounted : Mounted) (same : mounted.nocto ≡ modes.noc
     pub idle : (n : ℕ) → IsOther n (numbers_of v.lanes) → SlotsAgree modes h n v.shelf.opens
 
   -- The machine of the lane at a place made a step, and what that leads to is still to come.
-  record Owing (h : List Entry) (v : View) (at number : ℕ) (machine : Machine) (next : Next) : Type 0 where
+  record Owing (h : List Entry) (v : View) (at number : ℕ) (machine : Machine) (next : Step) : Type 0 where
     pub there : slice_get v.lanes at ≡ Some (record { number = number; state = Busy machine })
     pub rest : (k : ℕ) (lane : Lane) → slice_get v.lanes k ≡ Some lane → k ≢ at → LaneTold h lane v.shelf.opens
     pub idle : (n : ℕ) → IsOther n (numbers_of v.lanes) → SlotsAgree modes h n v.shelf.opens
@@ -135,7 +135,7 @@ module _ (modes : Modes) (mounted : Mounted) (same : mounted.nocto ≡ modes.noc
       now = record { number = number; state = state }
 
   -- where its machine has made a step
-  owes : (h : List Entry) (v : View) (at number : ℕ) (machine after : Machine) (shelf : Shelf) (next : Next) → LanesKnown h v → Slots h v
+  owes : (h : List Entry) (v : View) (at number : ℕ) (machine after : Machine) (shelf : Shelf) (next : Step) → LanesKnown h v → Slots h v
       → slice_get v.lanes at ≡ Some (record { number = number; state = Busy machine })
       → ((x : ℕ) (op : Op) → UnderWay h number x (length h) op → Stepped modes h x number (kind_of op) v.shelf next after shelf)
       → Owing h (with_state v at number (Busy after) shelf) at number after next
@@ -156,7 +156,7 @@ module _ (modes : Modes) (mounted : Mounted) (same : mounted.nocto ≡ modes.noc
   no-reply : (h : List Entry) (x : ℕ) (machine : Machine) (fault : Fault) (reply : Reply) → Err fault ≡ Ok reply → TellsOf h x machine reply
   no-reply h x machine fault reply e = absurd (cc)
 
-  leads-slots : (h : List Entry) (v new : View) (at number : ℕ) (machine : Machine) (next : Next) → LanesKnown h v → Owing h v at number machine next → Leads v at number machine next new → Slots h new
+  leads-slots : (h : List Entry) (v new : View) (at number : ℕ) (machine : Machine) (next : Step) → LanesKnown h v → Owing h v at number machine next → Leads v at number machine next new → Slots h new
   leads-slots h v new at number machine (Send call) known o (inl m) = subst (Slots h) (sym m.is) (record {
     lanes = by-place (λ lane. LaneTold h lane v.shelf.opens) v.lanes at (record { number = number; state = Busy machine }) o.there o.told o.rest;
     idle = o.idle;
@@ -171,7 +171,7 @@ module _ (modes : Modes) (mounted : Mounted) (same : mounted.nocto ≡ modes.noc
       others : OthersSame number v.shelf.opens f.left.opens
       others = let b = (lanes-under-way h v known).busy at (record { number = number; state = Busy machine }) o.there in (step b.x b.op b.under_way).others
 
-      by : (next : Next) (state : State) → IsRefused f.after next state
+      by : (next : Step) (state : State) → IsRefused f.after next state
           → ((x : ℕ) (op : Op) → UnderWay h number x (length h) op → ThenStory modes h x number (kind_of op) f.left.opens next f.after)
           → LaneTold h (record { number = number; state = state }) f.left.opens
       by (Send again) state is t = absurd is

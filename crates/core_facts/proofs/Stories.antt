@@ -1,7 +1,7 @@
 -- What the steps of operations keep along a history holds of each operation that is under way, and of each answer.
 use Rattle.core_facts.proofs.Passing.{Anything, forget, passes-any}
 use Rattle.core_facts.proofs.Answered.{HadStory, answered-story}
-use Rattle.core_facts.proofs.Prelude.{◌≡◌, ◌≢◌, ◌<◌, ◌≤◌, ◌+◌, ◌-◌, ◌⊎◌, inl, inr, ℕ, zero, suc, List, [], ◌∷◌, ◌++◌, length, map, Bool, true, false, nat_eq, Option, Some, None, MatchOption, position, slice_get, slice_set, Result, Ok, Err, refl, sym, ap, subst, ◌∙◌, arith, eqb-true, eqb-false, eq-eqb, xid_at, Waiting, failed_after, next_xid, made_call, waiting_at, without, at_made, others_made, others_taken, gone, Answer, Refused, Fault, Entry, Began, Answered, Dialed, Sent, Executed, Foreign, Flushed, Reboot, Delivered, Failed, Clock, Call, Reply, Op, At, Asked, IsLost, SpellsReply, proc_of, Ended, EndsWith, UnderWay, At-grow, At-below, At-cases, length_last, said_of, Says, Next, Send, Wait, Done, Shelf, Turn, Machine, Starts, Resumes, Takes, Lane, Purpose, State, Busy, Over, Setup, is_busy, lost_lane, IsOther, numbers_of, with_state, record_of, Makes, IsRefused, Leads, Stirs, Moves, moves_none, moves_more, counted, BeginsIf, TakesAt, View, turn_at, unmade_turn, in_flight, IsUnbegun, Counts, where_, calls_for, StepsTo, HearsRecord, Reaches, begins, goes, loses, last_reading, NoneBusy, Tried, unsent, runs}
+use Rattle.core_facts.proofs.Prelude.{◌≡◌, ◌≢◌, ◌<◌, ◌≤◌, ◌+◌, ◌-◌, ◌⊎◌, inl, inr, ℕ, zero, suc, List, [], ◌∷◌, ◌++◌, length, map, Bool, true, false, nat_eq, Option, Some, None, MatchOption, position, slice_get, slice_set, Result, Ok, Err, refl, sym, ap, subst, ◌∙◌, arith, eqb-true, eqb-false, eq-eqb, xid_at, Waiting, failed_after, next_xid, made_call, waiting_at, without, at_made, others_made, others_taken, gone, Answer, Refused, Fault, Entry, Began, Answered, Dialed, Sent, Executed, Foreign, Flushed, Reboot, Delivered, Failed, Clock, Call, Reply, Op, At, Asked, IsLost, SpellsReply, proc_of, Ended, EndsWith, UnderWay, At-grow, At-below, At-cases, length_last, said_of, Says, Step, Send, Wait, Done, Shelf, Turn, Machine, Starts, Resumes, Takes, Lane, Purpose, State, Busy, Over, Setup, is_busy, lost_lane, IsOther, numbers_of, with_state, record_of, Makes, IsRefused, Leads, Stirs, Moves, moves_none, moves_more, counted, BeginsIf, TakesAt, View, turn_at, unmade_turn, in_flight, IsUnbegun, Counts, where_, calls_for, StepsTo, HearsRecord, Reaches, begins, goes, loses, last_reading, NoneBusy, Tried, unsent, runs}
 use Rattle.rpc_retry.proofs.Records.{before_sent, before_failed}
 use Rattle.world_model.specs.Messages.{SpellsCallBy}
 use Rattle.core_facts.specs.Tries.{IsMade, ended}
@@ -38,12 +38,12 @@ pub record IsTold (h : List Entry) (x : ℕ) (machine : Machine) (came : Result 
 
 -- A fact of an operation, which began at a place, that its steps keep, and each entry.
 pub record StoryLaws (machine_of : ℕ → Op → Machine) (S : List Entry → ℕ → Op → State → Type 0) : Type 0 where
-  pub starts : (h : List Entry) (lane line : ℕ) (op : Op) (wsize : ℕ) (turn : Turn) (old : Shelf) (next : Next) (new : Machine) (after : Shelf)
+  pub starts : (h : List Entry) (lane line : ℕ) (op : Op) (wsize : ℕ) (turn : Turn) (old : Shelf) (next : Step) (new : Machine) (after : Shelf)
       → Starts wsize (machine_of lane op) turn old next new after
       → ThenOf (λ m. S (h ++ Began lane line op ∷ []) (length h) op (Busy m)) (λ a. S (h ++ Began lane line op ∷ []) (length h) op (Over a)) next new
-  pub resumes : (h : List Entry) (x : ℕ) (op : Op) (machine : Machine) (wsize : ℕ) (turn : Turn) (old : Shelf) (next : Next) (new : Machine) (after : Shelf)
+  pub resumes : (h : List Entry) (x : ℕ) (op : Op) (machine : Machine) (wsize : ℕ) (turn : Turn) (old : Shelf) (next : Step) (new : Machine) (after : Shelf)
       → S h x op (Busy machine) → Resumes wsize machine turn old next new after → ThenOf (λ m. S h x op (Busy m)) (λ a. S h x op (Over a)) next new
-  pub takes : (h : List Entry) (x : ℕ) (op : Op) (machine : Machine) (wsize : ℕ) (sent turn : Turn) (came : Result Reply Fault) (old : Shelf) (next : Next) (new : Machine)
+  pub takes : (h : List Entry) (x : ℕ) (op : Op) (machine : Machine) (wsize : ℕ) (sent turn : Turn) (came : Result Reply Fault) (old : Shelf) (next : Step) (new : Machine)
       (after : Shelf) (others : ℕ) → S h x op (Busy machine) → in_flight machine ≡ others + 1 → IsTold h x machine came → Takes wsize machine sent turn came old next new after
       → ThenOf (λ m. S h x op (Busy m)) (λ a. S h x op (Over a)) next new
   pub grows : (h : List Entry) (e : Entry) (x : ℕ) (op : Op) (state : State) → S h x op state → S (h ++ e ∷ []) x op state
@@ -51,12 +51,12 @@ pub record StoryLaws (machine_of : ℕ → Op → Machine) (S : List Entry → �
 
 -- The same where P holds of the history and the shelf as the operation begins in its lane.
 pub record LawsOver (P : List Entry → ℕ → Shelf → Type 0) (machine_of : ℕ → Op → Machine) (S : List Entry → ℕ → Op → State → Type 0) : Type 0 where
-  pub starts : (h : List Entry) (lane line : ℕ) (op : Op) (wsize : ℕ) (turn : Turn) (old : Shelf) (next : Next) (new : Machine) (after : Shelf)
+  pub starts : (h : List Entry) (lane line : ℕ) (op : Op) (wsize : ℕ) (turn : Turn) (old : Shelf) (next : Step) (new : Machine) (after : Shelf)
       → P h lane old → Starts wsize (machine_of lane op) turn old next new after
       → ThenOf (λ m. S (h ++ Began lane line op ∷ []) (length h) op (Busy m)) (λ a. S (h ++ Began lane line op ∷ []) (length h) op (Over a)) next new
-  pub resumes : (h : List Entry) (x : ℕ) (op : Op) (machine : Machine) (wsize : ℕ) (turn : Turn) (old : Shelf) (next : Next) (new : Machine) (after : Shelf)
+  pub resumes : (h : List Entry) (x : ℕ) (op : Op) (machine : Machine) (wsize : ℕ) (turn : Turn) (old : Shelf) (next : Step) (new : Machine) (after : Shelf)
       → S h x op (Busy machine) → Resumes wsize machine turn old next new after → ThenOf (λ m. S h x op (Busy m)) (λ a. S h x op (Over a)) next new
-  pub takes : (h : List Entry) (x : ℕ) (op : Op) (machine : Machine) (wsize : ℕ) (sent turn : Turn) (came : Result Reply Fault) (old : Shelf) (next : Next) (new : Machine)
+  pub takes : (h : List Entry) (x : ℕ) (op : Op) (machine : Machine) (wsize : ℕ) (sent turn : Turn) (came : Result Reply Fault) (old : Shelf) (next : Step) (new : Machine)
       (after : Shelf) (others : ℕ) → S h x op (Busy machine) → in_flight machine ≡ others + 1 → IsTold h x machine came → Takes wsize machine sent turn came old next new after
       → ThenOf (λ m. S h x op (Busy m)) (λ a. S h x op (Over a)) next new
   pub grows : (h : List Entry) (e : Entry) (x : ℕ) (op : Op) (state : State) → S h x op state → S (h ++ e ∷ []) x op state
@@ -143,7 +143,7 @@ by-place P lanes at own there p others k lane here = by (nat_eq k at) refl
     by false d = others k lane here (eqb-false k at d)
 
 -- as long as the step doesn't end the operation
-abbrev pub Going : Next → Type 0 → Type 0
+abbrev pub Going : Step → Type 0 → Type 0
 Going (Send call) P = P
 Going Wait P = P
 Going (Done answer) P = Unit {0}
@@ -176,7 +176,7 @@ module _ (machine_of : ℕ → Op → Machine) (unbegun : (lane : ℕ) (op : Op)
     pub all : AllGood h v
 
   -- The machine of the lane at a place made a step, and what that leads to is still to come.
-  pub record Owing (h : List Entry) (v : View) (at number others : ℕ) (machine : Machine) (next : Next) : Type 0 where
+  pub record Owing (h : List Entry) (v : View) (at number others : ℕ) (machine : Machine) (next : Step) : Type 0 where
     pub there : slice_get v.lanes at ≡ Some (record { number = number; state = Busy machine })
     pub rest : (k : ℕ) (lane : Lane) → slice_get v.lanes k ≡ Some lane → k ≢ at → LaneGood h v.calls.calls lane
     pub calls : calls_for number v.calls.calls ≡ others
@@ -216,7 +216,7 @@ module _ (machine_of : ℕ → Op → Machine) (unbegun : (lane : ℕ) (op : Op)
           (subst (λ (c : Waiting Purpose). IsExpected (next_xid v.calls) c machine) which (record { made = k.made; expects = subst (λ (c : Call). Expects machine c) (sym (made-asked setup h v number call new m r)) (own (sym here)) }))
       by false d = old xid w (sym (others_made xid (next_xid v.calls) v.calls.calls row d) ∙ at) same
 
-  leads-good : (h : List Entry) (v new : View) (at number others : ℕ) (machine : Machine) (next : Next) → LanesKnown h v → Rows setup h v → Owing h v at number others machine next
+  leads-good : (h : List Entry) (v new : View) (at number others : ℕ) (machine : Machine) (next : Step) → LanesKnown h v → Rows setup h v → Owing h v at number others machine next
       → Leads v at number machine next new → AllGood h new
   leads-good h v new at number others machine (Send call) lanes r o (inl m) = subst (AllGood h) (sym m.is)
       (by-place (LaneGood h (v.calls.calls ++ (next_xid v.calls, row) ∷ [])) v.lanes at (record { number = number; state = Busy machine }) o.there
@@ -245,7 +245,7 @@ module _ (machine_of : ℕ → Op → Machine) (unbegun : (lane : ℕ) (op : Op)
       told x op u = laws.takes h x op machine v.wsize (turn_at v) (unmade_turn v) (Err f.fault) v.shelf f.next f.after f.left others (o.told x op u) o.counts.0
           (record { call = call; expects = o.asked; heard = λ reply is. absurd (cc); ends = λ reply is. absurd (cc); fine = unmade-fine v f.fault f.unmade }) f.takes
 
-      by : (next : Next) (state : State) → IsRefused f.after next state → KeptOf Expects others machine next f.after
+      by : (next : Step) (state : State) → IsRefused f.after next state → KeptOf Expects others machine next f.after
           → ((x : ℕ) (op : Op) → UnderWay h number x (length h) op → ThenOf (λ m. S h x op (Busy m)) (λ a. S h x op (Over a)) next f.after)
           → AllGood h (with_state v at number state f.left)
       by (Send again) state is k t = absurd is
@@ -266,7 +266,7 @@ module _ (machine_of : ℕ → Op → Machine) (unbegun : (lane : ℕ) (op : Op)
       (good-set h v at number machine (Over answer) v.shelf o.there o.rest (tt, o.told))
 
   -- what it expects after the step, as long as it goes on
-  going-own : (next : Next) (calls : List (ℕ × Waiting Purpose)) (number others : ℕ) (machine after : Machine) → calls_for number calls ≡ others
+  going-own : (next : Step) (calls : List (ℕ × Waiting Purpose)) (number others : ℕ) (machine after : Machine) → calls_for number calls ≡ others
       → StateExpected calls number (Busy machine) → KeptOf Expects others machine next after → Going next (StateExpected calls number (Busy after))
   going-own (Send call) calls number others machine after count own k = λ xid w waits same.
       let e = own xid w waits same in
@@ -393,7 +393,7 @@ module _ (machine_of : ℕ → Op → Machine) (unbegun : (lane : ℕ) (op : Op)
       none : calls_for lane old.calls.calls ≡ 0
       none = known-old.counted lane ∙ known-none lane old.lanes (λ k l there same. idle-numbers lane (numbers_of old.lanes) t.idle.other k (to-map number_of old.lanes k l there ∙ ap Some same))
 
-      own-calls : (next : Next) (after : Machine) → Going next (StateExpected old.calls.calls lane (Busy after))
+      own-calls : (next : Step) (after : Machine) → Going next (StateExpected old.calls.calls lane (Busy after))
       own-calls (Send call) after = λ xid w waits same. absurd (none-idle old lane xid w t.idle.other known-old.counted waits same)
       own-calls Wait after = λ xid w waits same. absurd (none-idle old lane xid w t.idle.other known-old.counted waits same)
       own-calls (Done answer) after = tt

@@ -1,5 +1,5 @@
 -- A sync that went well: COMMIT of its file was answered 0 since it began.
-use Rattle.core_facts.proofs.Prelude.{◌≡◌, ◌+◌, ℕ, false, List, [], ◌∷◌, ◌++◌, length, Result, Ok, Err, refl, sym, ap, subst, ◌∙◌, arith, Verf, Wcc, FileKept, Answer, Fault, Entry, Began, Call, Reply, Op, Asked, Asked-wide, length_last, Next, Shelf, Turn, Saving, SyncFile, Syncing, commit_told, file_at, Mounted, Machine, machine_of, Starts, Resumes, Takes, State, Busy, Over, of_syncing, in_flight}
+use Rattle.core_facts.proofs.Prelude.{◌≡◌, ◌+◌, ℕ, false, List, [], ◌∷◌, ◌++◌, length, Result, Ok, Err, refl, sym, ap, subst, ◌∙◌, arith, Verf, Wcc, FileKept, Answer, Fault, Entry, Began, Call, Reply, Op, Asked, Asked-wide, length_last, Step, Shelf, Turn, Saving, SyncFile, Syncing, commit_told, file_at, Mounted, Machine, machine_of, Starts, Resumes, Takes, State, Busy, Over, of_syncing, in_flight}
 use Rattle.world_model.proofs.Growth.{Asked-grow, Committed-grow}
 use Rattle.file_ops.specs.Judging.{commit_told_by}
 use Rattle.nfs_file_calls.specs.declared.owned.FileKept.TheVariants as kept
@@ -7,7 +7,7 @@ use Rattle.world_model.specs.declared.answer.Answer.TheVariants as answers
 use Rattle.world_model.specs.declared.message.Reply.TheVariants as replies
 use Rattle.world_model.specs.declared.op.Op.TheVariants as ops
 use Rattle.world_model.specs.Commits.{Committed}
-use Rattle.client_shelf.specs.declared.next.Next.TheVariants as nexts
+use Rattle.client_shelf.specs.declared.step.Step.TheVariants as nexts
 use Rattle.file_ops.specs.declared.sync_file.Syncing.TheVariants as syncing
 use Rattle.file_ops.specs.Saves as saves
 use Rattle.op_machines.specs.declared.file_machine.FileMachine.TheVariants as files
@@ -70,7 +70,7 @@ abbrev pub SyncStory : List Entry → ℕ → Op → State → Type 0
 SyncStory h x op state = (slot : ℕ) → op ≡ ops.Sync slot → StateStory h x state
 
 -- what a step of its machine leads to
-then-runs : (h : List Entry) (x : ℕ) (f : List ℕ) (m : SyncFile) (next : Next) (state : Syncing)
+then-runs : (h : List Entry) (x : ℕ) (f : List ℕ) (m : SyncFile) (next : Step) (state : Syncing)
     → ThenOf (SyncHas f (Committed h x (length h) f)) (WellDone (Committed h x (length h) f)) next state
     → ThenOf (λ n. StateStory h x (Busy n)) (λ a. StateStory h x (Over a)) next (machines.File (files.Sync (record m { state = state })))
 then-runs h x f m (nexts.Send call) state t = record { m = record m { state = state }; f = f; is = refl; has = t }
@@ -78,26 +78,26 @@ then-runs h x f m nexts.Wait state t = record { m = record m { state = state }; 
 then-runs h x f m (nexts.Done answer) state t = record { f = f; well = t }
 
 -- of every operation that is a sync
-for-slot : (h : List Entry) (x : ℕ) (op : Op) (next : Next) (new : Machine)
+for-slot : (h : List Entry) (x : ℕ) (op : Op) (next : Step) (new : Machine)
     → ((slot : ℕ) → op ≡ ops.Sync slot → ThenOf (λ n. StateStory h x (Busy n)) (λ a. StateStory h x (Over a)) next new)
     → ThenOf (λ n. SyncStory h x op (Busy n)) (λ a. SyncStory h x op (Over a)) next new
 for-slot h x op (nexts.Send call) new t = t
 for-slot h x op nexts.Wait new t = t
 for-slot h x op (nexts.Done answer) new t = t
 
-then-as : (h : List Entry) (x : ℕ) (next : Next) (to new : Machine) → new ≡ to → ThenOf (λ n. StateStory h x (Busy n)) (λ a. StateStory h x (Over a)) next to
+then-as : (h : List Entry) (x : ℕ) (next : Step) (to new : Machine) → new ≡ to → ThenOf (λ n. StateStory h x (Busy n)) (λ a. StateStory h x (Over a)) next to
     → ThenOf (λ n. StateStory h x (Busy n)) (λ a. StateStory h x (Over a)) next new
 then-as h x next to new is t = subst (λ (n : Machine). ThenOf (λ k. StateStory h x (Busy k)) (λ a. StateStory h x (Over a)) next n) (sym is) t
 
 -- each of its steps is one of its machine
-sync-begins : (h : List Entry) (x : ℕ) (wsize : ℕ) (turn : Turn) (m : SyncFile) (old : Shelf) (next : Next) (new : Machine) (after : Shelf)
+sync-begins : (h : List Entry) (x : ℕ) (wsize : ℕ) (turn : Turn) (m : SyncFile) (old : Shelf) (next : Step) (new : Machine) (after : Shelf)
     → Starts wsize (machines.File (files.Sync m)) turn old next new after → ThenOf (λ n. StateStory h x (Busy n)) (λ a. StateStory h x (Over a)) next new
 sync-begins h x wsize turn m old next new after s =
     let t = sync-starts (λ f. Committed h x (length h) f) (file_at m.lane m.slot old.opens) wsize m turn old next s.step.state after s.step.step in
     then-as h x next (machines.File (files.Sync (record m { state = s.step.state }))) new (s.machine_is ∙ ap machines.File s.step.machine_is)
     (then-runs h x t.f m next s.step.state t.then_)
 
-sync-goes-on : (h : List Entry) (x : ℕ) (wsize : ℕ) (turn : Turn) (m : SyncFile) (f : List ℕ) (old : Shelf) (next : Next) (new : Machine) (after : Shelf)
+sync-goes-on : (h : List Entry) (x : ℕ) (wsize : ℕ) (turn : Turn) (m : SyncFile) (f : List ℕ) (old : Shelf) (next : Step) (new : Machine) (after : Shelf)
     → SyncHas f (Committed h x (length h) f) m.state → Resumes wsize (machines.File (files.Sync m)) turn old next new after
     → ThenOf (λ n. StateStory h x (Busy n)) (λ a. StateStory h x (Over a)) next new
 sync-goes-on h x wsize turn m f old next new after has s =
@@ -116,7 +116,7 @@ commit-shown h x m f came has told s at idle verf is =
     let call : told.call ≡ saves.commit_of f = expects idle ∙ ap saves.commit_of file in
     record { wcc = c.wcc; verf = verf; asked = subst (λ (k : Call). Asked h x (length h) k (replies.File (kept.Commit c.wcc verf))) call (told.heard (replies.File (kept.Commit c.wcc verf)) c.is) }
 
-sync-hears : (h : List Entry) (x : ℕ) (wsize : ℕ) (sent turn : Turn) (came : Result Reply Fault) (m : SyncFile) (f : List ℕ) (old : Shelf) (next : Next) (new : Machine) (after : Shelf) (others : ℕ)
+sync-hears : (h : List Entry) (x : ℕ) (wsize : ℕ) (sent turn : Turn) (came : Result Reply Fault) (m : SyncFile) (f : List ℕ) (old : Shelf) (next : Step) (new : Machine) (after : Shelf) (others : ℕ)
     → SyncHas f (Committed h x (length h) f) m.state → of_syncing m.state ≡ others + 1 → IsTold h x (machines.File (files.Sync m)) came
     → Takes wsize (machines.File (files.Sync m)) sent turn came old next new after → ThenOf (λ n. StateStory h x (Busy n)) (λ a. StateStory h x (Over a)) next new
 sync-hears h x wsize sent turn came m f old next new after others has one told s =

@@ -1,7 +1,7 @@
 -- What the steps of operations keep along a history, of the shelf, of each call that waits and of each operation under way, holds of each
 -- record that is sent and of each answer. It is an instance of the engine in `Telling`.
 use Rattle.core_facts.proofs.Answered.{HadStory}
-use Rattle.core_facts.proofs.Prelude.{Says, IsFresh, View, Purpose, State, Busy, Over, Setup, Next, Shelf, Turn, in_flight, IsUnbegun, IsSetUp, StepsTo, Reaches, begins, goes, loses, Starts, Resumes, Takes, Machine, next_xid, waiting_at, Waiting, ◌≡◌, ◌<◌, ◌+◌, ◌⊎◌, inl, inr, ℕ, List, [], ◌∷◌, ◌++◌, length, Bool, true, false, Some, None, Result, Ok, Err, refl, sym, ap, subst, ◌∙◌, arith, append_assoc, At-below, At-back, At-cases, At, Asked, IsLost, SpellsReply, Ended, UnderWay, EndsWith, Answer, Refused, Fault, Entry, Began, Answered, Dialed, Sent, Executed, Foreign, Flushed, Reboot, Delivered, Failed, Clock, Call, Reply, Op}
+use Rattle.core_facts.proofs.Prelude.{Says, IsFresh, View, Purpose, State, Busy, Over, Setup, Step, Shelf, Turn, in_flight, IsUnbegun, IsSetUp, StepsTo, Reaches, begins, goes, loses, Starts, Resumes, Takes, Machine, next_xid, waiting_at, Waiting, ◌≡◌, ◌<◌, ◌+◌, ◌⊎◌, inl, inr, ℕ, List, [], ◌∷◌, ◌++◌, length, Bool, true, false, Some, None, Result, Ok, Err, refl, sym, ap, subst, ◌∙◌, arith, append_assoc, At-below, At-back, At-cases, At, Asked, IsLost, SpellsReply, Ended, UnderWay, EndsWith, Answer, Refused, Fault, Entry, Began, Answered, Dialed, Sent, Executed, Foreign, Flushed, Reboot, Delivered, Failed, Clock, Call, Reply, Op}
 use Rattle.world_model.specs.Messages.{SpellsCallBy}
 use Rattle.client_core.specs.Steps.{SendsIf}
 use Rattle.core_facts.proofs.Cases.{heard, SentNow, sent_now}
@@ -43,11 +43,11 @@ pub record IsTold (E : Machine → Call → Type 0) (W : List Entry → ℕ → 
 pub record TaleLaws (machine_of : ℕ → Op → Machine) (setup : Setup) (E : Machine → Call → Type 0) (W : List Entry → ℕ → Op → Call → Type 0) (I : List Entry → Shelf → Type 0)
     (S : List Entry → ℕ → Op → State → Type 0) : Type 0 where
   pub fresh : (h : List Entry) (v : View) → IsSetUp setup h → IsFresh setup v → I h v.shelf
-  pub starts : (h : List Entry) (lane line : ℕ) (op : Op) (wsize : ℕ) (turn : Turn) (old : Shelf) (next : Next) (new : Machine) (after : Shelf)
+  pub starts : (h : List Entry) (lane line : ℕ) (op : Op) (wsize : ℕ) (turn : Turn) (old : Shelf) (next : Step) (new : Machine) (after : Shelf)
       → I (h ++ Began lane line op ∷ []) old → Starts wsize (machine_of lane op) turn old next new after → Did W I S (h ++ Began lane line op ∷ []) (length h) op next new after
-  pub resumes : (h : List Entry) (x : ℕ) (op : Op) (machine : Machine) (wsize : ℕ) (turn : Turn) (old : Shelf) (next : Next) (new : Machine) (after : Shelf)
+  pub resumes : (h : List Entry) (x : ℕ) (op : Op) (machine : Machine) (wsize : ℕ) (turn : Turn) (old : Shelf) (next : Step) (new : Machine) (after : Shelf)
       → I h old → S h x op (Busy machine) → Resumes wsize machine turn old next new after → Did W I S h x op next new after
-  pub takes : (h : List Entry) (x : ℕ) (op : Op) (machine : Machine) (wsize : ℕ) (sent turn : Turn) (came : Result Reply Fault) (old : Shelf) (next : Next) (new : Machine)
+  pub takes : (h : List Entry) (x : ℕ) (op : Op) (machine : Machine) (wsize : ℕ) (sent turn : Turn) (came : Result Reply Fault) (old : Shelf) (next : Step) (new : Machine)
       (after : Shelf) (others : ℕ) → I h old → S h x op (Busy machine) → in_flight machine ≡ others + 1 → IsTold E W h x op machine came
       → Takes wsize machine sent turn came old next new after → Did W I S h x op next new after
   pub still : (h : List Entry) (e : Entry) (shelf : Shelf) → I h shelf → I (h ++ e ∷ []) shelf

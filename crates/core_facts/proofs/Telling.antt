@@ -1,7 +1,7 @@
 -- What the steps of operations keep along a history, of the shelf, of each call that waits and of each operation under way, holds of each answer: of what
 -- comes it is known which call it answers, for which operation that was sent, and where. G is known of each view before.
 use Rattle.core_facts.proofs.Answered.{HadStory, answered-story}
-use Rattle.core_facts.proofs.Prelude.{said_of, Says, IsFresh, is_busy, lost_lane, IsOther, numbers_of, with_state, record_of, Makes, IsRefused, Leads, Stirs, Moves, moves_none, moves_more, counted, BeginsIf, TakesAt, View, turn_at, unmade_turn, Lane, Purpose, State, Busy, Over, Setup, Next, Send, Wait, Done, Shelf, Turn, where_, calls_for, in_flight, IsUnbegun, Counts, IsSetUp, StepsTo, HearsRecord, goes, last_reading, loses, NoneBusy, IsOutstanding, Tried, unsent, runs, Starts, Resumes, Takes, Machine, xid_at, at_made, others_made, others_taken, gone, failed_after, next_xid, made_call, waiting_at, without, Waiting, ◌≡◌, ◌≢◌, ◌<◌, ◌+◌, ◌-◌, ◌⊎◌, inl, inr, ℕ, List, [], ◌∷◌, ◌++◌, length, map, Bool, true, false, nat_eq, Option, Some, None, MatchOption, position, slice_get, slice_set, Result, Err, refl, sym, ap, subst, ◌∙◌, arith, eqb-true, eq-eqb, FirstSent-grow, At-grow, At-below, At-back, At-last, At-cases, length_last, At, IsLost, HasXid, proc_of, Ended, UnderWay, Answer, Refused, Fault, Entry, Began, Answered, Dialed, Executed, Foreign, Flushed, Reboot, Delivered, Failed, Clock, Sent, Call, Reply, Op}
+use Rattle.core_facts.proofs.Prelude.{said_of, Says, IsFresh, is_busy, lost_lane, IsOther, numbers_of, with_state, record_of, Makes, IsRefused, Leads, Stirs, Moves, moves_none, moves_more, counted, BeginsIf, TakesAt, View, turn_at, unmade_turn, Lane, Purpose, State, Busy, Over, Setup, Step, Send, Wait, Done, Shelf, Turn, where_, calls_for, in_flight, IsUnbegun, Counts, IsSetUp, StepsTo, HearsRecord, goes, last_reading, loses, NoneBusy, IsOutstanding, Tried, unsent, runs, Starts, Resumes, Takes, Machine, xid_at, at_made, others_made, others_taken, gone, failed_after, next_xid, made_call, waiting_at, without, Waiting, ◌≡◌, ◌≢◌, ◌<◌, ◌+◌, ◌-◌, ◌⊎◌, inl, inr, ℕ, List, [], ◌∷◌, ◌++◌, length, map, Bool, true, false, nat_eq, Option, Some, None, MatchOption, position, slice_get, slice_set, Result, Err, refl, sym, ap, subst, ◌∙◌, arith, eqb-true, eq-eqb, FirstSent-grow, At-grow, At-below, At-back, At-last, At-cases, length_last, At, IsLost, HasXid, proc_of, Ended, UnderWay, Answer, Refused, Fault, Entry, Began, Answered, Dialed, Executed, Foreign, Flushed, Reboot, Delivered, Failed, Clock, Sent, Call, Reply, Op}
 use Rattle.client_core.specs.Steps.{IsUnmade}
 use Rattle.core_facts.specs.Reaches.{MayHear}
 use Rattle.core_facts.specs.Tries.{IsMade, ended}
@@ -30,7 +30,7 @@ use Rattle.world_model.specs.Waiting.{IsDelivered}
 use Rattle.world_model.specs.declared.answer.Fault.TheVariants as faults
 
 -- a call that is made, of which W holds
-abbrev pub AsksFor : (Call → Type 0) → Next → Type 0
+abbrev pub AsksFor : (Call → Type 0) → Step → Type 0
 AsksFor W (Send call) = W call
 AsksFor W Wait = Unit {0}
 AsksFor W (Done answer) = Unit {0}
@@ -41,7 +41,7 @@ IsQuiet (Busy machine) e = Unit {0}
 IsQuiet (Over answer) e = IsDelivered e → ⊥
 
 -- What a step leaves: I of the shelf, W of the call that it asks for, and S of the operation.
-pub record Did (W : List Entry → ℕ → Op → Call → Type 0) (I : List Entry → Shelf → Type 0) (S : List Entry → ℕ → Op → State → Type 0) (h : List Entry) (x : ℕ) (op : Op) (next : Next)
+pub record Did (W : List Entry → ℕ → Op → Call → Type 0) (I : List Entry → Shelf → Type 0) (S : List Entry → ℕ → Op → State → Type 0) (h : List Entry) (x : ℕ) (op : Op) (next : Step)
     (new : Machine) (after : Shelf) : Type 0 where
   pub shelf : I h after
   pub asks : AsksFor (W h x op) next
@@ -96,11 +96,11 @@ pub data CameOf (Q : Sight) (E : Machine → Call → Type 0) (W : List Entry �
 pub record TellLaws (P : List Entry → ℕ → Shelf → Type 0) (Q : Sight) (machine_of : ℕ → Op → Machine) (setup : Setup) (E : Machine → Call → Type 0)
     (W : List Entry → ℕ → Op → Call → Type 0) (I : List Entry → Shelf → Type 0) (S : List Entry → ℕ → Op → State → Type 0) : Type 0 where
   pub fresh : (h : List Entry) (v : View) → IsSetUp setup h → IsFresh setup v → I h v.shelf
-  pub starts : (h : List Entry) (lane line : ℕ) (op : Op) (wsize : ℕ) (turn : Turn) (old : Shelf) (next : Next) (new : Machine) (after : Shelf) → P h lane old
+  pub starts : (h : List Entry) (lane line : ℕ) (op : Op) (wsize : ℕ) (turn : Turn) (old : Shelf) (next : Step) (new : Machine) (after : Shelf) → P h lane old
       → I (h ++ Began lane line op ∷ []) old → Starts wsize (machine_of lane op) turn old next new after → Did W I S (h ++ Began lane line op ∷ []) (length h) op next new after
-  pub resumes : (h : List Entry) (x : ℕ) (op : Op) (machine : Machine) (wsize : ℕ) (turn : Turn) (old : Shelf) (next : Next) (new : Machine) (after : Shelf)
+  pub resumes : (h : List Entry) (x : ℕ) (op : Op) (machine : Machine) (wsize : ℕ) (turn : Turn) (old : Shelf) (next : Step) (new : Machine) (after : Shelf)
       → I h old → S h x op (Busy machine) → Resumes wsize machine turn old next new after → Did W I S h x op next new after
-  pub takes : (h : List Entry) (x : ℕ) (op : Op) (machine : Machine) (wsize : ℕ) (sent turn : Turn) (came : Result Reply Fault) (old : Shelf) (next : Next) (new : Machine)
+  pub takes : (h : List Entry) (x : ℕ) (op : Op) (machine : Machine) (wsize : ℕ) (sent turn : Turn) (came : Result Reply Fault) (old : Shelf) (next : Step) (new : Machine)
       (after : Shelf) (others : ℕ) → I h old → S h x op (Busy machine) → in_flight machine ≡ others + 1 → CameOf Q E W h x op machine sent turn came old
       → Takes wsize machine sent turn came old next new after → Did W I S h x op next new after
   pub still : (h : List Entry) (e : Entry) (shelf : Shelf) → I h shelf → I (h ++ e ∷ []) shelf
@@ -200,7 +200,7 @@ module _ (machine_of : ℕ → Op → Machine) (unbegun : (lane : ℕ) (op : Op)
     pub all : AllGoodBy h v
 
   -- The machine of the lane at a place made a step, and what that leads to is still to come.
-  pub record Owing (h : List Entry) (v : View) (at number others : ℕ) (machine : Machine) (next : Next) : Type 0 where
+  pub record Owing (h : List Entry) (v : View) (at number others : ℕ) (machine : Machine) (next : Step) : Type 0 where
     pub there : slice_get v.lanes at ≡ Some (record { number = number; state = Busy machine })
     pub rest : (k : ℕ) (lane : Lane) → slice_get v.lanes k ≡ Some lane → k ≢ at → LaneGood h v.calls.calls lane
     pub calls : calls_for number v.calls.calls ≡ others
@@ -247,7 +247,7 @@ module _ (machine_of : ℕ → Op → Machine) (unbegun : (lane : ℕ) (op : Op)
           }))
       by false d = old xid w (sym (others_made xid (next_xid v.calls) v.calls.calls row d) ∙ at) same
 
-  leads-good : (h : List Entry) (v new : View) (at number others : ℕ) (machine : Machine) (next : Next) → LanesKnown h v → Rows setup h v → Owing h v at number others machine next
+  leads-good : (h : List Entry) (v new : View) (at number others : ℕ) (machine : Machine) (next : Step) → LanesKnown h v → Rows setup h v → Owing h v at number others machine next
       → Leads v at number machine next new → AllGoodBy h new
   leads-good h v new at number others machine (Send call) lanes r o (inl m) = subst (AllGoodBy h) (sym m.is) (record {
     shelf = o.shelf;
@@ -282,7 +282,7 @@ module _ (machine_of : ℕ → Op → Machine) (unbegun : (lane : ℕ) (op : Op)
           let d = o.told x op u in
           laws.takes h x op machine v.wsize (turn_at v) (unmade_turn v) (Err f.fault) v.shelf f.next f.after f.left others o.shelf d.then_ o.counts.0 (unmade call o.asked f.fault refl (why-unmade v f.fault f.unmade) d.asks) f.takes
 
-      by : (next : Next) (state : State) → IsRefused f.after next state → KeptOf E others machine next f.after
+      by : (next : Step) (state : State) → IsRefused f.after next state → KeptOf E others machine next f.after
           → ((x : ℕ) (op : Op) → UnderWay h number x (length h) op → Did W I S h x op next f.after f.left) → LanesGood h (with_state v at number state f.left)
       by (Send again) state is k t = absurd is
       by Wait state is k t = good-set h v at number machine state f.left o.there o.rest
@@ -306,7 +306,7 @@ module _ (machine_of : ℕ → Op → Machine) (unbegun : (lane : ℕ) (op : Op)
   })
 
   -- what it expects after the step, as long as it goes on
-  going-own : (h : List Entry) (next : Next) (calls : List (ℕ × Waiting Purpose)) (number others : ℕ) (machine after : Machine) → calls_for number calls ≡ others
+  going-own : (h : List Entry) (next : Step) (calls : List (ℕ × Waiting Purpose)) (number others : ℕ) (machine after : Machine) → calls_for number calls ≡ others
       → StateExpected h calls number (Busy machine) → KeptOf E others machine next after → Going next (StateExpected h calls number (Busy after))
   going-own h (Send call) calls number others machine after count own k = λ xid w waits same.
       let e = own xid w waits same in
@@ -466,7 +466,7 @@ module _ (machine_of : ℕ → Op → Machine) (unbegun : (lane : ℕ) (op : Op)
       none : calls_for lane old.calls.calls ≡ 0
       none = known-old.counted lane ∙ known-none lane old.lanes (λ k l there same. idle-numbers lane (numbers_of old.lanes) t.idle.other k (to-map number_of old.lanes k l there ∙ ap Some same))
 
-      own-calls : (next : Next) (after : Machine) → Going next (StateExpected later old.calls.calls lane (Busy after))
+      own-calls : (next : Step) (after : Machine) → Going next (StateExpected later old.calls.calls lane (Busy after))
       own-calls (Send call) after = λ xid w waits same. absurd (none-idle old lane xid w t.idle.other known-old.counted waits same)
       own-calls Wait after = λ xid w waits same. absurd (none-idle old lane xid w t.idle.other known-old.counted waits same)
       own-calls (Done answer) after = tt

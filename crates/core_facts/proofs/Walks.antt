@@ -1,5 +1,5 @@
 -- A fact that the steps of lanes keep is kept by each call of the core.
-use Rattle.core_facts.proofs.Prelude.{◌≡◌, inl, inr, ℕ, List, [], ◌∷◌, ◌++◌, length, Bool, true, false, Option, Some, None, MatchOption, position, slice_get, sym, subst, said_of, Next, Send, Wait, Done, Shelf, Refused, Call, Machine, Purpose, State, Busy, Over, is_busy, View, IsBusyAt, with_state, Makes, Leads, Stirs, Moves, moves_none, moves_more, counted, StartsLane, BeginsIf, TakesAt, HearsFor}
+use Rattle.core_facts.proofs.Prelude.{◌≡◌, inl, inr, ℕ, List, [], ◌∷◌, ◌++◌, length, Bool, true, false, Option, Some, None, MatchOption, position, slice_get, sym, subst, said_of, Step, Send, Wait, Done, Shelf, Refused, Call, Machine, Purpose, State, Busy, Over, is_busy, View, IsBusyAt, with_state, Makes, Leads, Stirs, Moves, moves_none, moves_more, counted, StartsLane, BeginsIf, TakesAt, HearsFor}
 use Rattle.client_core.specs.Steps.{Begins, HearsOwn}
 use Rattle.world_model.specs.declared.answer.Fault.TheVariants as faults
 use Rattle.core_facts.proofs.Lists.{at-set, at-push}
@@ -11,14 +11,14 @@ pub record Stays (P : View → Type 0) : Type 0 where
       → P old → P (with_state old at number state shelf)
 
 module _ (P : View → Type 0) (s : Stays P) where
-  pub leads-stays : (old new : View) (at number : ℕ) (machine : Machine) (next : Next) → IsBusyAt old at number machine → Leads old at number machine next new → P old → P new
+  pub leads-stays : (old new : View) (at number : ℕ) (machine : Machine) (next : Step) → IsBusyAt old at number machine → Leads old at number machine next new → P old → P new
   leads-stays old new at number machine (Send call) there (inl made) p = s.makes old new number call made p
   leads-stays old new at number machine (Send call) there (inr refused) p = subst P (sym refused.is) (s.sets old at number (Busy machine) refused.state refused.left there p)
   leads-stays old new at number machine Wait there is p = subst P (sym is) p
   leads-stays old new at number machine (Done answer) there is p = subst P (sym is) (s.sets old at number (Busy machine) (Over answer) old.shelf there p)
 
   -- a step of the operation at a place, and what it leads to
-  pub steps-stay : (old new : View) (at number : ℕ) (machine after : Machine) (shelf : Shelf) (next : Next) → IsBusyAt old at number machine
+  pub steps-stay : (old new : View) (at number : ℕ) (machine after : Machine) (shelf : Shelf) (next : Step) → IsBusyAt old at number machine
       → Leads (with_state old at number (Busy after) shelf) at number after next new → P old → P new
   steps-stay old new at number machine after shelf next there leads p =
       leads-stays (with_state old at number (Busy after) shelf) new at number after next

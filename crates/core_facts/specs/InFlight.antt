@@ -2,8 +2,8 @@
 use Rattle.std.specs.Prelude.{◌≡◌, ◌+◌, ◌-◌, ◌==◌, ℕ, Bool, true, false, if◌then◌else◌, List, Option, Some, None, Result}
 use Rattle.world_model.specs.declared.answer.Fault.{Fault}
 use Rattle.world_model.specs.declared.message.Reply.{Reply}
-use Rattle.client_shelf.specs.declared.next.Next.{Next}
-use Rattle.client_shelf.specs.declared.next.Next.TheVariants.{Send, Wait, Done}
+use Rattle.client_shelf.specs.declared.step.Step.{Step}
+use Rattle.client_shelf.specs.declared.step.Step.TheVariants.{Send, Wait, Done}
 use Rattle.client_shelf.specs.declared.shelf.Shelf.{Shelf}
 use Rattle.client_shelf.specs.declared.turn.Turn.{Turn}
 use Rattle.file_ops.specs.declared.close_file.Closing.{Closing}
@@ -194,20 +194,20 @@ IsCounted machine = Unit {0}
 
 -- A step before which so many calls wait, and after it so many: one that asks for a call adds it, and an operation ends only where none
 -- waits. P holds as long as it goes on.
-abbrev pub Leaves : Next → ℕ → ℕ → Type 0 → Type 0
+abbrev pub Leaves : Step → ℕ → ℕ → Type 0 → Type 0
 Leaves (Send call) before after P = (after ≡ before + 1) × P
 Leaves Wait before after P = (after ≡ before) × P
 Leaves (Done answer) before after P = before ≡ 0
 
-abbrev pub Counts : Next → ℕ → Machine → Type 0
+abbrev pub Counts : Step → ℕ → Machine → Type 0
 Counts next before new = Leaves next before (in_flight new) (IsCounted new)
 
 -- Each operation knows how many of its calls wait: none before its first step, and one less where what came of one is taken.
 pub record CountsCalls : Type 0 where
-  pub start : (wsize : ℕ) (machine : Machine) (turn : Turn) (old : Shelf) (next : Next) (new : Machine) (after : Shelf)
+  pub start : (wsize : ℕ) (machine : Machine) (turn : Turn) (old : Shelf) (next : Step) (new : Machine) (after : Shelf)
       → Starts wsize machine turn old next new after → IsUnbegun machine → Counts next 0 new
-  pub resume : (wsize : ℕ) (machine : Machine) (turn : Turn) (old : Shelf) (next : Next) (new : Machine) (after : Shelf)
+  pub resume : (wsize : ℕ) (machine : Machine) (turn : Turn) (old : Shelf) (next : Step) (new : Machine) (after : Shelf)
       → Resumes wsize machine turn old next new after → IsCounted machine → Counts next (in_flight machine) new
-  pub take : (wsize : ℕ) (machine : Machine) (sent turn : Turn) (came : Result Reply Fault) (old : Shelf) (next : Next) (new : Machine) (after : Shelf)
+  pub take : (wsize : ℕ) (machine : Machine) (sent turn : Turn) (came : Result Reply Fault) (old : Shelf) (next : Step) (new : Machine) (after : Shelf)
       (others : ℕ)
       → Takes wsize machine sent turn came old next new after → IsCounted machine → in_flight machine ≡ others + 1 → Counts next others new

@@ -37,8 +37,8 @@ pub use Rattle.client_core.specs.declared.setup.Setup.{Setup}
 pub use Rattle.client_shelf.specs.Busy.{fails_busy, goes_again}
 pub use Rattle.client_shelf.specs.LaneFiles.{added, is_first, is_lane, is_other, left}
 pub use Rattle.client_shelf.specs.declared.lane_files.LaneFile.{LaneFile}
-pub use Rattle.client_shelf.specs.declared.next.Next.{Next}
-pub use Rattle.client_shelf.specs.declared.next.Next.TheVariants.{Done, Send, Wait}
+pub use Rattle.client_shelf.specs.declared.step.Step.{Step}
+pub use Rattle.client_shelf.specs.declared.step.Step.TheVariants.{Done, Send, Wait}
 pub use Rattle.client_shelf.specs.declared.repeats.Repeat.{Repeat}
 pub use Rattle.client_shelf.specs.declared.shelf.Shelf.{Shelf}
 pub use Rattle.client_shelf.specs.declared.turn.Turn.{Turn}
@@ -169,8 +169,8 @@ pub use Rattle.file_ops.specs.declared.gather.Found.{Found}
 pub use Rattle.file_ops.specs.declared.open_file.OpenFile.{OpenFile}
 pub use Rattle.file_ops.specs.declared.opening.Led.{Led}
 pub use Rattle.file_ops.specs.declared.opening.Opening.{Opening}
-pub use Rattle.file_ops.specs.declared.opening.OpeningNext.{OpeningNext}
 pub use Rattle.file_ops.specs.declared.opening.OpeningStep.{OpeningStep}
+pub use Rattle.file_ops.specs.declared.opening.OpeningPhase.{OpeningPhase}
 pub use Rattle.file_ops.specs.declared.put_file.PutFile.{PutFile}
 pub use Rattle.file_ops.specs.declared.put_file.Putting.{Putting}
 pub use Rattle.file_ops.specs.declared.read_file.ReadFile.{ReadFile}
@@ -204,7 +204,7 @@ pub use Rattle.name_ops.specs.declared.remove_file.RemoveFile.{RemoveFile}
 pub use Rattle.name_ops.specs.declared.stat.Stat.{Stat}
 pub use Rattle.name_ops.specs.declared.visit.Visit.{Visit}
 pub use Rattle.name_ops.specs.declared.walk.Walk.{Walk}
-pub use Rattle.name_ops.specs.declared.walk.WalkNext.{WalkNext}
+pub use Rattle.name_ops.specs.declared.walk.WalkStep.{WalkStep}
 pub use Rattle.nfs_dir_calls.specs.declared.call.DirCall.{DirCall}
 pub use Rattle.nfs_dir_calls.specs.declared.keeping.DirKept.{DirKept}
 pub use Rattle.nfs_file_calls.specs.declared.call.FileCall.{FileCall}

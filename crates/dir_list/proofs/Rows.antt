@@ -2,7 +2,7 @@
 use Rattle.std.proofs.Common.{◌≡◌, ℕ, suc, zero, true, false, List, [], ◌∷◌, ◌++◌, Ok, Err, None, refl}
 use Rattle.nfs_types.specs.declared.verf.Verf.{Verf}
 use Rattle.nfs_dir_calls.specs.declared.plus_page.PlusRow.{PlusRow}
-use Rattle.dir_list.specs.declared.progress.Step.TheVariants.{More, End}
+use Rattle.dir_list.specs.declared.progress.ListStep.TheVariants.{More, End}
 use Rattle.dir_list.specs.declared.progress.ListFault.TheVariants.{Many, Stuck}
 use Rattle.dir_list.specs.Listings.{listing_limit, counts, counted, page_step}
 

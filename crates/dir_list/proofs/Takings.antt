@@ -7,8 +7,8 @@ use Rattle.std.proofs.lemmas.List.{map-append}
 use Rattle.std.proofs.lemmas.List.Elements.{filter-append}
 use Rattle.nfs_types.specs.declared.verf.Verf.{Verf}
 use Rattle.nfs_dir_calls.specs.declared.plus_page.PlusRow.{PlusRow}
-use Rattle.dir_list.specs.declared.progress.Step.{Step}
-use Rattle.dir_list.specs.declared.progress.Step.TheVariants.{More, End}
+use Rattle.dir_list.specs.declared.progress.ListStep.{ListStep}
+use Rattle.dir_list.specs.declared.progress.ListStep.TheVariants.{More, End}
 use Rattle.dir_list.specs.declared.progress.ListFault.{ListFault}
 use Rattle.dir_list.specs.declared.progress.ListFault.TheVariants.{Many, Memory}
 use Rattle.dir_list.specs.Listings.{listing_limit, counts, counted, last_cookie, page_step}
@@ -99,20 +99,20 @@ over_step before [] verf eof fits over = absurd (omega (arith, fits, over))
 over_step before (row ∷ rows) verf eof fits over = rw (lt-ltb _ _ over) refl
 
 -- an answer that is the page's
-pub told_ok : (r p : Result Step ListFault) → r ≡ p → IfOk r (λ step. p ≡ Ok step)
+pub told_ok : (r p : Result ListStep ListFault) → r ≡ p → IfOk r (λ step. p ≡ Ok step)
 told_ok (Ok step) p is = sym is
 told_ok (Err fault) p is = tt
 
-pub told_fault : (r p : Result Step ListFault) → r ≡ p → IfErr r (λ fault. (fault ≡ Memory) ⊎ (p ≡ Err fault))
+pub told_fault : (r p : Result ListStep ListFault) → r ≡ p → IfErr r (λ fault. (fault ≡ Memory) ⊎ (p ≡ Err fault))
 told_fault (Ok step) p is = tt
 told_fault (Err fault) p is = inr (sym is)
 
-on_err : (r : Result Step ListFault) (P : Type 0) → P → OnErr r P
+on_err : (r : Result ListStep ListFault) (P : Type 0) → P → OnErr r P
 on_err (Ok step) P p = tt
 on_err (Err fault) P p = p
 
 -- a page that has no entry leaves the names
-pub stuck_keeps : (before : List (List ℕ)) (all : List PlusRow) (names : List (List ℕ)) (last : Option ℕ) (verf : Verf) (eof : Bool) (r : Result Step ListFault) → Took before all names last → r ≡ next_step last verf eof → OnErr r (names ≡ before)
+pub stuck_keeps : (before : List (List ℕ)) (all : List PlusRow) (names : List (List ℕ)) (last : Option ℕ) (verf : Verf) (eof : Bool) (r : Result ListStep ListFault) → Took before all names last → r ≡ next_step last verf eof → OnErr r (names ≡ before)
 unfolding counted
 stuck_keeps before [] names last verf eof r t is = on_err r _ (t.named ∙ append-nil before)
 stuck_keeps before (row ∷ rows) names last verf eof r t is = rw (is, t.cookie) (by_end eof)

@@ -5,8 +5,8 @@ use Rattle.std.specs.Cmp.Lexicographic.{pointwise, slice_cmp}
 use Rattle.std.specs.List.Sorted.{IsStrictlySortedBy}
 use Rattle.nfs_types.specs.declared.verf.Verf.{Verf}
 use Rattle.nfs_dir_calls.specs.declared.plus_page.PlusRow.{PlusRow}
-use Rattle.dir_list.specs.declared.progress.Step.{Step}
-use Rattle.dir_list.specs.declared.progress.Step.TheVariants.{More, End}
+use Rattle.dir_list.specs.declared.progress.ListStep.{ListStep}
+use Rattle.dir_list.specs.declared.progress.ListStep.TheVariants.{More, End}
 use Rattle.dir_list.specs.declared.progress.ListFault.{ListFault}
 use Rattle.dir_list.specs.declared.progress.ListFault.TheVariants.{Many, Stuck}
 
@@ -28,7 +28,7 @@ last_cookie row (next ∷ rows) = last_cookie next rows
 
 -- What a page leads to, where these names count of the pages before it: a name that stands twice counts twice, and too
 -- many are found before the end is.
-unfoldable pub page_step : List (List ℕ) → List PlusRow → Verf → Bool → Result Step ListFault
+unfoldable pub page_step : List (List ℕ) → List PlusRow → Verf → Bool → Result ListStep ListFault
 page_step before [] verf true = Ok End
 page_step before [] verf false = Err Stuck
 page_step before (row ∷ rows) verf eof =

@@ -2,8 +2,8 @@
 use Rattle.std.specs.Prelude.{◌≡◌, ◌≤◌, ◌<◌, ℕ, ◌+◌, List, [], ◌∷◌, ◌++◌, length, Option, Some, None, Bool, true, false, Result, Ok, Err, if◌then◌else◌}
 use Rattle.nfs_dir_calls.specs.declared.plus_page.PlusRow.{PlusRow}
 use Rattle.nfs_types.specs.declared.verf.Verf.{Verf}
-use Rattle.dir_list.specs.declared.progress.Step.{Step}
-use Rattle.dir_list.specs.declared.progress.Step.TheVariants.{More, End}
+use Rattle.dir_list.specs.declared.progress.ListStep.{ListStep}
+use Rattle.dir_list.specs.declared.progress.ListStep.TheVariants.{More, End}
 use Rattle.dir_list.specs.declared.progress.ListFault.{ListFault}
 use Rattle.dir_list.specs.declared.progress.ListFault.TheVariants.{Stuck}
 use Rattle.dir_list.specs.Listings.{listing_limit, counts, counted, last_cookie}
@@ -41,7 +41,7 @@ pub record BeginsWith (front names : List (List ℕ)) : Type 0 where
   pub is : names ≡ front ++ rest
 
 -- what follows a page that isn't too many, by the cookie of its last entry
-abbrev pub next_step : Option ℕ → Verf → Bool → Result Step ListFault
+abbrev pub next_step : Option ℕ → Verf → Bool → Result ListStep ListFault
 next_step last verf true = Ok End
 next_step (Some cookie) verf false = Ok (More cookie verf)
 next_step None verf false = Err Stuck

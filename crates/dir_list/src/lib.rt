@@ -5,4 +5,4 @@ mod listing;
 mod progress;
 
 pub use listing::Listing;
-pub use progress::{ListFault, Step};
+pub use progress::{ListFault, ListStep};

@@ -6,7 +6,7 @@ ghost use Rattle.dir_list.specs.declared.progress.ListFault.TheVariants as fault
 ghost use Rattle.dir_list.specs.Listings.{listing_limit, counts, counted, page_step, Lists};
 ghost use Rattle.dir_list.specs.Taking.{counted_name, Took, IsOver, BeginsWith, next_step};
 
-use crate::progress::{ListFault, Step};
+use crate::progress::{ListFault, ListStep};
 use nfs_dir_calls::PlusPage;
 use nfs_types::{Name, NameList, Verf};
 use std::alloc::Global;
@@ -48,7 +48,7 @@ impl Listing {
     /// Many comes exactly where the names that count of this page and of all before it, repeated ones among them, are
     /// more than 65,536. Stuck comes exactly where the page has no entry, not even `.` or `..`, and isn't the last.
     /// After a fault the listing is as it was.
-    pub fn page(&mut self, page: PlusPage<'_>, verf: Verf, eof: bool) -> Result<Step, ListFault>
+    pub fn page(&mut self, page: PlusPage<'_>, verf: Verf, eof: bool) -> Result<ListStep, ListFault>
         ensures ok { IfOk result (λ step. page_step self.old page.entry verf eof ≡ Ok step) }
         ensures fault { IfErr result (λ fault. (fault ≡ faults.Memory) ⊎ (page_step self.old page.entry verf eof ≡ Err fault)) }
         ensures taken { OnOk result (self.new ≡ self.old ++ counted page.entry) }
@@ -78,14 +78,14 @@ impl Listing {
 }
 
 /// What follows a page whose last entry has this cookie, or that has none.
-fn next_step(last: Option<u64>, verf: Verf, eof: bool) -> Result<Step, ListFault>
+fn next_step(last: Option<u64>, verf: Verf, eof: bool) -> Result<ListStep, ListFault>
     ensures { result ≡ next_step last verf eof }
 {
     if eof {
-        return Ok(Step::End);
+        return Ok(ListStep::End);
     }
     match last {
-        Some(cookie) => Ok(Step::More { cookie, verf }),
+        Some(cookie) => Ok(ListStep::More { cookie, verf }),
         None => Err(ListFault::Stuck),
     }
 }

@@ -4,7 +4,7 @@ use nfs_types::Verf;
 
 /// What a page leads to.
 #[derive(Clone, Copy, Debug, PartialEq, Eq)]
-pub enum Step {
+pub enum ListStep {
     /// The listing goes on: the next READDIRPLUS carries these (RFC 1813, section 3.3.17, cookie and cookieverf).
     More {
         /// That of the page's last entry.

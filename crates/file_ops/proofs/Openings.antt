@@ -3,12 +3,12 @@ use Rattle.std.proofs.Common.{◌≡◌, ℕ, Bool, List, true, false, if◌then
 use Rattle.std.specs.FinMap as finite
 use Rattle.open_files.specs.Slots as slots
 use Rattle.client_shelf.specs.declared.turn.Turn.{Turn}
-use Rattle.client_shelf.specs.declared.next.Next.{Next}
+use Rattle.client_shelf.specs.declared.step.Step.{Step}
 use Rattle.file_ops.specs.declared.opening.Opening.{Opening}
-use Rattle.file_ops.specs.declared.opening.OpeningNext.{OpeningNext}
 use Rattle.file_ops.specs.declared.opening.OpeningStep.{OpeningStep}
-use Rattle.file_ops.specs.declared.opening.OpeningStep.TheVariants.{Look, Make, Find, Ask}
-use Rattle.file_ops.specs.declared.opening.OpeningNext.TheVariants.{Send, Wait, Ended}
+use Rattle.file_ops.specs.declared.opening.OpeningPhase.{OpeningPhase}
+use Rattle.file_ops.specs.declared.opening.OpeningPhase.TheVariants.{Look, Make, Find, Ask}
+use Rattle.file_ops.specs.declared.opening.OpeningStep.TheVariants.{Send, Wait, Ended}
 use Rattle.file_ops.specs.declared.opening.Led.{Led}
 use Rattle.file_ops.specs.declared.opening.Led.TheVariants.{Goes, Opens, Knows, Ends}
 use Rattle.file_ops.specs.declared.open_file.OpenFile.{OpenFile}
@@ -25,7 +25,7 @@ led-keeps o turn (Knows other stamp) file = refl
 led-keeps o turn (Ends fault) file = refl
 
 -- an opening that was put off once more makes the same calls
-pub counted-call : (o : Opening) (step : OpeningStep) → call_of (counted o) step ≡ call_of o step
+pub counted-call : (o : Opening) (step : OpeningPhase) → call_of (counted o) step ≡ call_of o step
 counted-call o Look = refl
 counted-call o Make = refl
 counted-call o Find = refl
@@ -36,7 +36,7 @@ after-keeps true o turn led file = refl
 after-keeps false o turn led file = led-keeps o turn led file
 
 -- what follows a step is that of the machine before it
-pub follows-before : (again : Bool) (m : OpenFile) (o : Opening) (turn : Turn) (led : Led) → o ≡ opening_after again m.opening turn led → (step : OpeningNext) (next : Next) (old new : slots.Opens)
+pub follows-before : (again : Bool) (m : OpenFile) (o : Opening) (turn : Turn) (led : Led) → o ≡ opening_after again m.opening turn led → (step : OpeningStep) (next : Step) (old new : slots.Opens)
     → Follows (record m { opening = o }) step next old new → Follows m step next old new
 follows-before again m o turn led is (Ended (Ok file)) next old new h =
     subst (λ of. PutsOver (finite.get old (place_of m)) (place_of m) of next old new) (ap (λ x. opened_of x file) is ∙ after-keeps again m.opening turn led file) h

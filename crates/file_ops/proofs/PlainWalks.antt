@@ -21,13 +21,13 @@ use Rattle.client_shelf.specs.declared.shelf.Shelf.{Shelf}
 use Rattle.client_shelf.specs.declared.turn.Turn.{Turn}
 use Rattle.client_shelf.specs.LaneFiles.{is_first}
 use Rattle.client_shelf.specs.Spelling.{IsSpellable}
-use Rattle.client_shelf.specs.declared.next.Next.{Next}
-use Rattle.client_shelf.specs.declared.next.Next.TheVariants as nexts
+use Rattle.client_shelf.specs.declared.step.Step.{Step}
+use Rattle.client_shelf.specs.declared.step.Step.TheVariants as nexts
 use Rattle.file_ops.specs.declared.opening.Opening.{Opening}
+use Rattle.file_ops.specs.declared.opening.OpeningPhase.{OpeningPhase}
+use Rattle.file_ops.specs.declared.opening.OpeningPhase.TheVariants.{Look, Make, Find, Ask}
 use Rattle.file_ops.specs.declared.opening.OpeningStep.{OpeningStep}
-use Rattle.file_ops.specs.declared.opening.OpeningStep.TheVariants.{Look, Make, Find, Ask}
-use Rattle.file_ops.specs.declared.opening.OpeningNext.{OpeningNext}
-use Rattle.file_ops.specs.declared.opening.OpeningNext.TheVariants as steps
+use Rattle.file_ops.specs.declared.opening.OpeningStep.TheVariants as steps
 use Rattle.file_ops.specs.declared.opening.Led.{Led}
 use Rattle.file_ops.specs.declared.opening.Led.TheVariants as leads
 use Rattle.file_ops.specs.declared.open_file.OpenFile.{OpenFile}
@@ -52,17 +52,17 @@ use Rattle.file_ops.proofs.Walks.{LeftAs, SamePieces, same-pieces, cut-pieces, a
 
 -- ---- openings ask for calls that can be spelled, where there is room
 
-pub spells-opening : (o : Opening) (step : OpeningStep) → IsSpellable (opening.call_of o step)
+pub spells-opening : (o : Opening) (step : OpeningPhase) → IsSpellable (opening.call_of o step)
 spells-opening o Look = tt
 spells-opening o Make = tt
 spells-opening o Find = tt
 spells-opening o (Ask file) = tt
 
 -- what is known of a call that a step of an opening asks for
-abbrev pub OpeningAsks : Turn → OpeningNext → Type 0
+abbrev pub OpeningAsks : Turn → OpeningStep → Type 0
 OpeningAsks turn next = (call : Call) → next ≡ steps.Send call → (turn.room ≡ true) × IsSpellable call
 
-pub go-asks : (o : Opening) (turn : Turn) (next : OpeningNext) → next ≡ opening.go_next o turn → OpeningAsks turn next
+pub go-asks : (o : Opening) (turn : Turn) (next : OpeningStep) → next ≡ opening.go_next o turn → OpeningAsks turn next
 go-asks o turn next is call asks = by o.asked turn.room refl refl
   where
     by : (a b : Bool) → o.asked ≡ a → turn.room ≡ b → (turn.room ≡ true) × IsSpellable call
@@ -73,7 +73,7 @@ go-asks o turn next is call asks = by o.asked turn.room refl refl
     by true b ha hb = let waits : next ≡ steps.Wait = (rw ha at is) in let no-way : steps.Wait ≡ steps.Send call = sym waits ∙ asks in absurd cc
     by false false ha hb = let waits : next ≡ steps.Wait = (rw (ha, hb) at is) in let no-way : steps.Wait ≡ steps.Send call = sym waits ∙ asks in absurd cc
 
-led-asks : (o : Opening) (sent turn : Turn) (led : Led) (next : OpeningNext) (old new : Pages) → opening.LedTo o sent turn led next old new
+led-asks : (o : Opening) (sent turn : Turn) (led : Led) (next : OpeningStep) (old new : Pages) → opening.LedTo o sent turn led next old new
     → OpeningAsks turn next
 led-asks o sent turn (leads.Goes step) next old new l call asks = go-asks (opening.at_step o step) turn next l.0 call asks
 led-asks o sent turn (leads.Opens file attr) (steps.Ended result) old new l call asks = absurd cc
@@ -84,7 +84,7 @@ led-asks o sent turn (leads.Knows file stamp) (steps.Send other) old new l call 
 led-asks o sent turn (leads.Knows file stamp) steps.Wait old new l call asks = absurd l
 led-asks o sent turn (leads.Ends fault) next old new l call asks = let no-way : steps.Ended (Err fault) ≡ steps.Send call = sym l.0 ∙ asks in absurd cc
 
-pub took-asks : (busy again : Bool) (repeats : List Repeat) (o : Opening) (sent turn : Turn) (led : Led) (next : OpeningNext) (old new : Pages)
+pub took-asks : (busy again : Bool) (repeats : List Repeat) (o : Opening) (sent turn : Turn) (led : Led) (next : OpeningStep) (old new : Pages)
     → goes_again busy sent turn repeats ≡ again → opening.LedIf again o sent turn led next old new → OpeningAsks turn next
 took-asks busy true repeats o sent turn led next old new h l call asks =
     let same : opening.call_of o o.step ≡ call = (let k : steps.Send (opening.call_of o o.step) ≡ steps.Send call = sym l.0 ∙ asks in cc) in
@@ -92,7 +92,7 @@ took-asks busy true repeats o sent turn led next old new h l call asks =
 took-asks busy false repeats o sent turn led next old new h l call asks = led-asks o sent turn led next old new l call asks
 
 -- as a step of a machine
-pub as-left : {S : Type 0} → (P : Pending → Type 0) (H : S → Pending → Type 0) (Q : Call → Type 0) (turn : Turn) (step : OpeningNext) (next : Next)
+pub as-left : {S : Type 0} → (P : Pending → Type 0) (H : S → Pending → Type 0) (Q : Call → Type 0) (turn : Turn) (step : OpeningStep) (next : Step)
     (state : S) (old new : Pending)
     → next ≡ opens.goes_as step → new ≡ old → OpeningAsks turn step → ((call : Call) → turn.room ≡ true → IsSpellable call → Q call) → P old → H state old
     → LeftAs P H Q next state new
@@ -103,26 +103,26 @@ as-left P H Q turn (steps.Ended (Ok file)) next state old new is same asks plain
 as-left P H Q turn (steps.Ended (Err fault)) next state old new is same asks plain p h = done-left P H Q _ next state old new is same p
 
 -- what is known of a call that a step of these machines asks for
-abbrev pub PlainAsks : Turn → Next → Type 0
+abbrev pub PlainAsks : Turn → Step → Type 0
 PlainAsks turn next = (call : Call) → next ≡ nexts.Send call → (turn.room ≡ true) × IsSpellable call
 
-waits-plain : (turn : Turn) (next : Next) → next ≡ nexts.Wait → PlainAsks turn next
+waits-plain : (turn : Turn) (next : Step) → next ≡ nexts.Wait → PlainAsks turn next
 waits-plain turn next is call asks = let no-way : nexts.Wait ≡ nexts.Send call = sym is ∙ asks in absurd cc
 
-done-plain : (turn : Turn) (answer : Answer) (next : Next) → next ≡ nexts.Done answer → PlainAsks turn next
+done-plain : (turn : Turn) (answer : Answer) (next : Step) → next ≡ nexts.Done answer → PlainAsks turn next
 done-plain turn answer next is call asks = let no-way : nexts.Done answer ≡ nexts.Send call = sym is ∙ asks in absurd cc
 
-sends-plain : (turn : Turn) (sent : Call) (next : Next) → next ≡ nexts.Send sent → turn.room ≡ true → IsSpellable sent → PlainAsks turn next
+sends-plain : (turn : Turn) (sent : Call) (next : Step) → next ≡ nexts.Send sent → turn.room ≡ true → IsSpellable sent → PlainAsks turn next
 sends-plain turn sent next is room spells call asks =
     let same : sent ≡ call = (let k : nexts.Send sent ≡ nexts.Send call = sym is ∙ asks in cc) in (room, subst IsSpellable same spells)
 
-if-plain : (b : Bool) (turn : Turn) (sent : Call) (answer : Answer) (next : Next) → next ≡ (if b then nexts.Send sent else nexts.Done answer)
+if-plain : (b : Bool) (turn : Turn) (sent : Call) (answer : Answer) (next : Step) → next ≡ (if b then nexts.Send sent else nexts.Done answer)
     → (b ≡ true → turn.room ≡ true) → IsSpellable sent → PlainAsks turn next
 if-plain true turn sent answer next is room spells = sends-plain turn sent next is (room refl) spells
 if-plain false turn sent answer next is room spells = done-plain turn answer next is
 
 -- of a step that leaves the pieces of each file, or takes them
-pub plain-left : {S : Type 0} → (P : Pending → Type 0) (H : S → Pending → Type 0) (Q : Call → Type 0) (turn : Turn) (next : Next) (state : S) (back : Pending)
+pub plain-left : {S : Type 0} → (P : Pending → Type 0) (H : S → Pending → Type 0) (Q : Call → Type 0) (turn : Turn) (next : Step) (state : S) (back : Pending)
     → PlainAsks turn next → ((call : Call) → turn.room ≡ true → IsSpellable call → Q call) → P back → H state back → LeftAs P H Q next state back
 plain-left P H Q turn (nexts.Send call) state back asks plain p h = let a = asks call refl in (h, plain call a.0 a.1)
 plain-left P H Q turn nexts.Wait state back asks plain p h = p
@@ -130,13 +130,13 @@ plain-left P H Q turn (nexts.Done answer) state back asks plain p h = p
 
 -- ---- opens
 
-opening-plain : (turn : Turn) (step : OpeningNext) (next : Next) → next ≡ opens.goes_as step → OpeningAsks turn step → PlainAsks turn next
+opening-plain : (turn : Turn) (step : OpeningStep) (next : Step) → next ≡ opens.goes_as step → OpeningAsks turn step → PlainAsks turn next
 opening-plain turn (steps.Send call) next is asks = let a = asks call refl in sends-plain turn call next is a.0 a.1
 opening-plain turn steps.Wait next is asks = waits-plain turn next is
 opening-plain turn (steps.Ended (Ok file)) next is asks = done-plain turn _ next is
 opening-plain turn (steps.Ended (Err fault)) next is asks = done-plain turn _ next is
 
-pub open-starts : (m : OpenFile) (turn : Turn) (slots : Opens) (next : Next) → next ≡ opens.start_next m turn slots → PlainAsks turn next
+pub open-starts : (m : OpenFile) (turn : Turn) (slots : Opens) (next : Step) → next ≡ opens.start_next m turn slots → PlainAsks turn next
 open-starts m turn slots next is = by (opens.is_taken m slots) is
   where
     by : (b : Bool) → next ≡ (if b then opens.refused faults.Slot else opens.goes_as (opening.go_next (opens.begun m turn).opening turn)) → PlainAsks turn next
@@ -144,10 +144,10 @@ open-starts m turn slots next is = by (opens.is_taken m slots) is
     by false is = opening-plain turn (opening.go_next (opens.begun m turn).opening turn) next is
         (go-asks (opens.begun m turn).opening turn (opening.go_next (opens.begun m turn).opening turn) refl)
 
-pub open-resumes : (m : OpenFile) (turn : Turn) (next : Next) → next ≡ opens.goes_as (opening.go_next m.opening turn) → PlainAsks turn next
+pub open-resumes : (m : OpenFile) (turn : Turn) (next : Step) → next ≡ opens.goes_as (opening.go_next m.opening turn) → PlainAsks turn next
 open-resumes m turn next is = opening-plain turn (opening.go_next m.opening turn) next is (go-asks m.opening turn (opening.go_next m.opening turn) refl)
 
-pub open-takes : (m : OpenFile) (sent turn : Turn) (came : Result Reply Fault) (attrs : Attrs) (repeats : List Repeat) (next : Next) (pages later : Pages)
+pub open-takes : (m : OpenFile) (sent turn : Turn) (came : Result Reply Fault) (attrs : Attrs) (repeats : List Repeat) (next : Step) (pages later : Pages)
     (old new : Opens)
     → opens.OpenTakes m sent turn came attrs repeats next pages later old new → PlainAsks turn next
 open-takes m sent turn came attrs repeats next pages later old new t = by t.step t.follows asks
@@ -161,7 +161,7 @@ open-takes m sent turn came attrs repeats next pages later old new t = by t.step
     put None place of (inl p) = done-plain turn _ next p.0
     put None place of (inr p) = done-plain turn _ next p.0
 
-    by : (step : OpeningNext) → opens.Follows m step next old new → OpeningAsks turn step → PlainAsks turn next
+    by : (step : OpeningStep) → opens.Follows m step next old new → OpeningAsks turn step → PlainAsks turn next
     by (steps.Ended (Ok file)) f asks = put (finite.get old (opens.place_of m)) (opens.place_of m) (opens.opened_of m.opening file) f
     by (steps.Ended (Err fault)) f asks = done-plain turn _ next f.0
     by (steps.Send call) f asks = opening-plain turn (steps.Send call) next f.0 asks
@@ -180,7 +180,7 @@ spells-asked s = by (reading.asks_attrs s.reading.phase)
     by true = tt
     by false = tt
 
-read-goes : (turn : Turn) (back : Pending) (s : reading.State) (next : Next) → reading.Goes turn.room back s next → PlainAsks turn next
+read-goes : (turn : Turn) (back : Pending) (s : reading.State) (next : Step) → reading.Goes turn.room back s next → PlainAsks turn next
 read-goes turn back s next g = by (reading.asks turn.room s) refl g
   where
     stays : (phase : Phase) → reading.Stays phase s.reading back next → PlainAsks turn next
@@ -195,7 +195,7 @@ read-goes turn back s next g = by (reading.asks turn.room s) refl g
     by true h is = sends-plain turn (reading.asked_call s) next is (and-left turn.room (reading.wants s.reading.phase) h) (spells-asked s)
     by false h is = stays s.reading.phase is
 
-pub read-starts : (opened : Option Opened) (turn : Turn) (m : ReadFile) (pages : Pages) (back : Pending) (next : Next) (new : ReadFile) (later : Pages)
+pub read-starts : (opened : Option Opened) (turn : Turn) (m : ReadFile) (pages : Pages) (back : Pending) (next : Step) (new : ReadFile) (later : Pages)
     → reads.Starts opened turn m pages back next new later → PlainAsks turn next
 read-starts opened turn m pages back next new later s = by s.reading s.goes
   where
@@ -203,12 +203,12 @@ read-starts opened turn m pages back next new later s = by s.reading s.goes
     by (Err fault) g = done-plain turn _ next g.step
     by (Ok r) g = read-goes turn back (reading.settled r pages) next g.step
 
-pub read-resumes : (at : Option Reading) (turn : Turn) (m : ReadFile) (pages : Pages) (back : Pending) (next : Next) (new : ReadFile) (later : Pages)
+pub read-resumes : (at : Option Reading) (turn : Turn) (m : ReadFile) (pages : Pages) (back : Pending) (next : Step) (new : ReadFile) (later : Pages)
     → reads.ResumesIn at turn.room m pages back next new later → PlainAsks turn next
 read-resumes None turn m pages back next new later s = waits-plain turn next s.step
 read-resumes (Some r) turn m pages back next new later s = read-goes turn back (reading.settled r pages) next s.step
 
-read-attrs : (result : Result Attr Fault) (again : Bool) (sent turn : Turn) (r : Reading) (pages : Pages) (back : Pending) (next : Next) (new : reading.State)
+read-attrs : (result : Result Attr Fault) (again : Bool) (sent turn : Turn) (r : Reading) (pages : Pages) (back : Pending) (next : Step) (new : reading.State)
     → (again ≡ true → turn.room ≡ true) → reading.TakesAttrs again result sent turn r pages back next new → PlainAsks turn next
 read-attrs (Ok attr) again sent turn r pages back next new room t = by t.result t.goes
   where
@@ -217,14 +217,14 @@ read-attrs (Ok attr) again sent turn r pages back next new room t = by t.result 
     by (Err lack) a = done-plain turn _ next a.0
 read-attrs (Err fault) again sent turn r pages back next new room t = if-plain again turn (reading.attrs_call r.file) (answers.Refused fault) next t.0 room tt
 
-read-said : (said : Said) (again : Bool) (sent turn : Turn) (r : Reading) (pages : Pages) (back : Pending) (next : Next) → (again ≡ true → turn.room ≡ true)
+read-said : (said : Said) (again : Bool) (sent turn : Turn) (r : Reading) (pages : Pages) (back : Pending) (next : Step) → (again ≡ true → turn.room ≡ true)
     → reading.Tells again sent turn said r pages back next → PlainAsks turn next
 read-said (part attr eof bytes) again sent turn r pages back next room t =
     read-goes turn back (reading.after_part (reading.count_of r.phase) sent.moment attr eof bytes r pages) next t
 read-said (refusal attr fault) again sent turn r pages back next room t = if-plain again turn (reading.part_call r) (answers.Refused fault) next t room tt
 
 pub read-takes : (at : Option Reading) (sent turn : Turn) (came : Result Reply Fault) (repeats : List Repeat) (m : ReadFile) (pages : Pages) (back : Pending)
-    (next : Next) (new : ReadFile) (later : Pages)
+    (next : Step) (new : ReadFile) (later : Pages)
     → reads.TakesIn at sent turn came repeats m pages back next new later → PlainAsks turn next
 read-takes None sent turn came repeats m pages back next new later t = waits-plain turn next t.step
 read-takes (Some r) sent turn came repeats m pages back next new later t = by (reading.waits_attrs r.phase) t.step
@@ -241,7 +241,7 @@ read-takes (Some r) sent turn came repeats m pages back next new later t = by (r
 
 -- ---- truncates
 
-truncate-queued : (m : TruncateFile) (file : List ℕ) (turn : Turn) (old : Shelf) (next : Next) → next ≡ truncates.queued_next m file turn old
+truncate-queued : (m : TruncateFile) (file : List ℕ) (turn : Turn) (old : Shelf) (next : Step) → next ≡ truncates.queued_next m file turn old
     → PlainAsks turn next
 truncate-queued m file turn old next is = by (truncates.may_ask m.lane file turn old) refl is
   where
@@ -251,20 +251,20 @@ truncate-queued m file turn old next is = by (truncates.may_ask m.lane file turn
         (and-left turn.room (is_first m.lane old.order) (and-left (turn.room && is_first m.lane old.order) (is_quiet file old.back) h)) tt
     by false h is = waits-plain turn next is
 
-pub truncate-starts : (m : TruncateFile) (turn : Turn) (old : Shelf) (next : Next) → next ≡ truncates.started_next m turn old → PlainAsks turn next
+pub truncate-starts : (m : TruncateFile) (turn : Turn) (old : Shelf) (next : Step) → next ≡ truncates.started_next m turn old → PlainAsks turn next
 truncate-starts m turn old next is = by (truncates.found_file m old) is
   where
     by : (found : Result (List ℕ) Fault) → next ≡ truncates.begun_next found m turn old → PlainAsks turn next
     by (Ok file) is = truncate-queued m file turn (joined m.lane file old) next is
     by (Err fault) is = done-plain turn _ next is
 
-pub truncate-resumes : (at : Truncating) (m : TruncateFile) (turn : Turn) (old : Shelf) (next : Next) → next ≡ truncates.resumed_next at m turn old
+pub truncate-resumes : (at : Truncating) (m : TruncateFile) (turn : Turn) (old : Shelf) (next : Step) → next ≡ truncates.resumed_next at m turn old
     → PlainAsks turn next
 truncate-resumes truncating.Idle m turn old next is = waits-plain turn next is
 truncate-resumes (truncating.Queued file upto) m turn old next is = truncate-queued m file turn old next is
 truncate-resumes (truncating.Asked file upto) m turn old next is = waits-plain turn next is
 
-pub truncate-takes : (at : Truncating) (m : TruncateFile) (came : Result Reply Fault) (sent turn : Turn) (repeats : List Repeat) (next : Next)
+pub truncate-takes : (at : Truncating) (m : TruncateFile) (came : Result Reply Fault) (sent turn : Turn) (repeats : List Repeat) (next : Step)
     → next ≡ truncates.took_next at m came sent turn repeats → PlainAsks turn next
 truncate-takes truncating.Idle m came sent turn repeats next is = waits-plain turn next is
 truncate-takes (truncating.Queued file upto) m came sent turn repeats next is = waits-plain turn next is

@@ -8,13 +8,13 @@ use Rattle.write_back.specs.Files.{Pending}
 use Rattle.client_shelf.specs.declared.shelf.Shelf.{Shelf}
 use Rattle.client_shelf.specs.declared.turn.Turn.{Turn}
 use Rattle.client_shelf.specs.LaneFiles.{is_first}
-use Rattle.client_shelf.specs.declared.next.Next.{Next}
-use Rattle.client_shelf.specs.declared.next.Next.TheVariants as nexts
+use Rattle.client_shelf.specs.declared.step.Step.{Step}
+use Rattle.client_shelf.specs.declared.step.Step.TheVariants as nexts
 use Rattle.file_ops.specs.declared.saving.Saving.{Saving}
-use Rattle.file_ops.specs.declared.saving.SavingNext.{SavingNext}
-use Rattle.file_ops.specs.declared.saving.SavingNext.TheVariants.{Send, Wait, Ended}
-use Rattle.file_ops.specs.declared.opening.OpeningNext.{OpeningNext}
-use Rattle.file_ops.specs.declared.opening.OpeningNext.TheVariants as steps
+use Rattle.file_ops.specs.declared.saving.SavingStep.{SavingStep}
+use Rattle.file_ops.specs.declared.saving.SavingStep.TheVariants.{Send, Wait, Ended}
+use Rattle.file_ops.specs.declared.opening.OpeningStep.{OpeningStep}
+use Rattle.file_ops.specs.declared.opening.OpeningStep.TheVariants as steps
 use Rattle.file_ops.specs.declared.write_file.Writing.{Writing}
 use Rattle.file_ops.specs.declared.put_file.PutFile.{PutFile}
 use Rattle.file_ops.specs.declared.put_file.Putting.{Putting}
@@ -40,10 +40,10 @@ abbrev pub PutHas : (Pending → Type 0) → (Saving → Pending → Type 0) →
 PutHas P M machine back = PutHasIn P M machine.state machine.write.state back
 
 module _ (wsize : ℕ) (turn : Turn) (P : Pending → Type 0) (M : Saving → Pending → Type 0) (Q : Call → Type 0) (w : Carries wsize turn P M Q) where
-  put-waits : (next : Next) (new : PutFile) (old after : Shelf) → next ≡ nexts.Wait → after ≡ old → P old.back → LeftAs P (PutHas P M) Q next new after.back
+  put-waits : (next : Step) (new : PutFile) (old after : Shelf) → next ≡ nexts.Wait → after ≡ old → P old.back → LeftAs P (PutHas P M) Q next new after.back
   put-waits next new old after waits same p = waits-left P (PutHas P M) Q next new old.back after.back waits (ap (λ (s : Shelf). s.back) same) p
 
-  put-ends : (lane : ℕ) (file : List ℕ) (refusal : Option Fault) (old : Shelf) (next : Next) (state : Putting) (new : PutFile) (after : Shelf)
+  put-ends : (lane : ℕ) (file : List ℕ) (refusal : Option Fault) (old : Shelf) (next : Step) (state : Putting) (new : PutFile) (after : Shelf)
       → puts.Ends lane file refusal old next state after → P old.back → LeftAs P (PutHas P M) Q next new after.back
   put-ends lane file refusal old next state new after e p = done-left P (PutHas P M) Q (closed_answer refusal) next new after.back after.back e.next_is refl
       (gives (puts.keeps_refused lane file old.puts old.order) e.back)
@@ -52,7 +52,7 @@ module _ (wsize : ℕ) (turn : Turn) (P : Pending → Type 0) (M : Saving → Pe
       gives true g = w.pieces old.back after.back (same-pieces old.back after.back g) p
       gives false g = w.pieces old.back after.back (given-by refusal file old.opens old.back after.back g) p
 
-  put-follows : (gives : SavingNext) (lane : ℕ) (saving : Saving) (old : Shelf) (next : Next) (new : PutFile) (after : Shelf)
+  put-follows : (gives : SavingStep) (lane : ℕ) (saving : Saving) (old : Shelf) (next : Step) (new : PutFile) (after : Shelf)
       → puts.Follows gives lane saving old next new.state after → Left P M Q gives saving old.back → LeftAs P (PutHas P M) Q next new after.back
   put-follows (Send call) lane saving old next new after f l =
       asks-left P (PutHas P M) Q call next new old.back after.back f.0 (ap (λ (s : Shelf). s.back) f.2)
@@ -60,13 +60,13 @@ module _ (wsize : ℕ) (turn : Turn) (P : Pending → Type 0) (M : Saving → Pe
   put-follows Wait lane saving old next new after f l = put-waits next new old after f.0 f.2 l
   put-follows (Ended result) lane saving old next new after f l = put-ends lane saving.file (refusal_of result) old next new.state new after f l
 
-  put-queues : (b : Bool) (lane : ℕ) (saving : Saving) (old : Shelf) (next : Next) (new : PutFile) (after : Shelf)
+  put-queues : (b : Bool) (lane : ℕ) (saving : Saving) (old : Shelf) (next : Step) (new : PutFile) (after : Shelf)
       → puts.QueuesIf b wsize lane turn saving old next new.state after → P old.back → LeftAs P (PutHas P M) Q next new after.back
   put-queues false lane saving old next new after q p = put-waits next new old after q.next_is q.shelf_is p
   put-queues true lane saving old next new after g p = put-follows g.gives lane g.saved g.gone next new after g.follows
       (w.goes false saving old.back g.gives g.saved g.gone.back g.goes p)
 
-  put-wrote : (told : Next) (written : Writing) (lane : ℕ) (file : List ℕ) (old : Shelf) (next : Next) (new : PutFile) (after : Shelf)
+  put-wrote : (told : Step) (written : Writing) (lane : ℕ) (file : List ℕ) (old : Shelf) (next : Step) (new : PutFile) (after : Shelf)
       → puts.AfterWrite told wsize lane file turn old next new.state after
       → new.write.state ≡ written → LeftAs P (WriteHas P M) Q told written old.back → LeftAs P (PutHas P M) Q next new after.back
   put-wrote (nexts.Send call) written lane file old next new after a is l =
@@ -77,13 +77,13 @@ module _ (wsize : ℕ) (turn : Turn) (P : Pending → Type 0) (M : Saving → Pe
       (saves.begun file old.seq) (joined lane file old) next new after a l
   put-wrote (nexts.Done (answers.Refused fault)) written lane file old next new after a is l = put-ends lane file (Some fault) old next new.state new after a l
 
-  put-goes : (machine : PutFile) (file : List ℕ) (told : Next) (written : Writing) (mid : Shelf) (next : Next) (new : PutFile) (after : Shelf)
+  put-goes : (machine : PutFile) (file : List ℕ) (told : Step) (written : Writing) (mid : Shelf) (next : Step) (new : PutFile) (after : Shelf)
       → puts.WritesOn wsize machine file turn told written mid next new after → LeftAs P (WriteHas P M) Q told written mid.back
       → LeftAs P (PutHas P M) Q next new after.back
   put-goes machine file told written mid next new after g l = put-wrote told written machine.write.lane file mid next new after g.follows
       (ap (λ (m : PutFile). m.write.state) g.machine_is) l
 
-  put-opened : (step : OpeningNext) (machine : PutFile) (old : Shelf) (next : Next) (new : PutFile) (after : Shelf)
+  put-opened : (step : OpeningStep) (machine : PutFile) (old : Shelf) (next : Step) (new : PutFile) (after : Shelf)
       → puts.AfterOpening step wsize machine turn old next new after
       → OpeningAsks turn step → machine.state ≡ putting.Opens → P old.back → LeftAs P (PutHas P M) Q next new after.back
   put-opened (steps.Send call) machine old next new after a asks at p =
@@ -99,7 +99,7 @@ module _ (wsize : ℕ) (turn : Turn) (P : Pending → Type 0) (M : Saving → Pe
   put-opened (steps.Ended (Err fault)) machine old next new after a asks at p = done-left P (PutHas P M) Q _ next new old.back after.back a.0
       (ap (λ (s : Shelf). s.back) a.2) p
 
-  pub put-resumes : (at : Putting) (machine : PutFile) (old : Shelf) (next : Next) (new : PutFile) (after : Shelf) → machine.state ≡ at
+  pub put-resumes : (at : Putting) (machine : PutFile) (old : Shelf) (next : Step) (new : PutFile) (after : Shelf) → machine.state ≡ at
       → puts.Resumes at wsize machine turn old next new after → P old.back → LeftAs P (PutHas P M) Q next new after.back
   put-resumes putting.Idle machine old next new after at s p = put-waits next new old after s.next_is s.shelf_is p
   put-resumes putting.Opens machine old next new after at s p =
@@ -113,7 +113,7 @@ module _ (wsize : ℕ) (turn : Turn) (P : Pending → Type 0) (M : Saving → Pe
       new after s.0 p
 
   pub put-takes : (sent : Turn) (came : Result Reply Fault) (N : Saving → Pending → Type 0) → CarriesReply wsize sent turn came P N M Q
-      → (at : Putting) (machine : PutFile) (old : Shelf) (next : Next) (new : PutFile) (after : Shelf) → machine.state ≡ at
+      → (at : Putting) (machine : PutFile) (old : Shelf) (next : Step) (new : PutFile) (after : Shelf) → machine.state ≡ at
       → puts.Takes at wsize machine sent turn came old next new after
       → PutHasIn P N at machine.write.state old.back → LeftAs P (PutHas P M) Q next new after.back
   put-takes sent came N v putting.Idle machine old next new after at t h = put-waits next new old after t.next_is t.shelf_is h

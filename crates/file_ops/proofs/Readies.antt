@@ -28,7 +28,7 @@ use Rattle.file_ops.specs.declared.judging.WriteTold.TheVariants.{Fails}
 use Rattle.file_ops.specs.declared.saving.Saving.{Saving}
 use Rattle.file_ops.specs.declared.saving.Phase.{Phase}
 use Rattle.file_ops.specs.declared.saving.Phase.TheVariants.{Sending, Committing, Resending, CommittingAgain}
-use Rattle.file_ops.specs.declared.saving.SavingNext.{SavingNext}
+use Rattle.file_ops.specs.declared.saving.SavingStep.{SavingStep}
 use Rattle.file_ops.specs.Saves.{Goes, GoesOver, SendsIf, Sends, may_send, TakesWrite, refused_by, Decides, TakesCommit, less_waiting, RepeatsWrite, TakesTold, TakesToldIf, TakesFirst, TakesIn, Takes, may_again, told_busy, told_of, commit_again}
 use Rattle.file_ops.proofs.Fewer.{IsIn, none-in, both-in, later-in, numbers_written, numbers_flying, changed-in, split-in, IsFewer, AreFewer, on-decided}
 use Rattle.file_ops.proofs.SaveEnds.{lands-fewer}
@@ -187,14 +187,14 @@ kept-ready xid seq old new kept ready = record {
 
 -- ---- steps of a save
 
-sends-kept : (xid wsize : ℕ) (by_reply : Bool) (run : Segments) (s : Saving) (back : Pending) (next : SavingNext) (new : Saving) (after : Pending)
+sends-kept : (xid wsize : ℕ) (by_reply : Bool) (run : Segments) (s : Saving) (back : Pending) (next : SavingStep) (new : Saving) (after : Pending)
     → chosen s.upto wsize (of_file s.file back) ≡ run → Sends xid by_reply run s back next new after → AreKept xid back after
 sends-kept xid wsize by_reply [] s back next new after is (inl g) = same-kept xid back after g.1
 sends-kept xid wsize by_reply (e ∷ es) s back next new after is (inl g) =
     on-kept xid back after s.file (with_sent (piece_of xid e (e ∷ es)) (of_file s.file back)) g.1.0 (sent-kept xid s.upto wsize (of_file s.file back) e es is)
 sends-kept xid wsize by_reply run s back next new after is (inr g) = same-kept xid back after g.1
 
-pub goes-kept : (wsize xid : ℕ) (room by_reply : Bool) (s : Saving) (back : Pending) (next : SavingNext) (new : Saving) (after : Pending) → Goes wsize xid room by_reply s back next new after → AreKept xid back after
+pub goes-kept : (wsize xid : ℕ) (room by_reply : Bool) (s : Saving) (back : Pending) (next : SavingStep) (new : Saving) (after : Pending) → Goes wsize xid room by_reply s back next new after → AreKept xid back after
 goes-kept wsize xid room by_reply s back next new after goes = over s.refusal goes
   where
     may : (b : Bool) → SendsIf b xid by_reply (chosen s.upto wsize (of_file s.file back)) s back next new after → AreKept xid back after
@@ -205,25 +205,25 @@ goes-kept wsize xid room by_reply s back next new after goes = over s.refusal go
     over (Some fault) g = same-kept xid back after g.1
     over None g = may (may_send room s) g
 
-write-kept : (wsize asked xid : ℕ) (room : Bool) (told : WriteTold) (s : Saving) (back : Pending) (next : SavingNext) (new : Saving) (after : Pending) → TakesWrite wsize asked xid room told s back next new after → AreKept xid back after
+write-kept : (wsize asked xid : ℕ) (room : Bool) (told : WriteTold) (s : Saving) (back : Pending) (next : SavingStep) (new : Saving) (after : Pending) → TakesWrite wsize asked xid room told s back next new after → AreKept xid back after
 write-kept wsize asked xid room told s back next new after t =
     then-kept xid back t.between after (all-fewer-kept xid back t.between (lands-fewer asked s.file told back t.between t.refusal t.lands)) (goes-kept wsize xid room t.counts (refused_by t.refusal s) t.between next new after t.goes)
 
-decides-kept : (verdict : Verdict) (wsize xid : ℕ) (room : Bool) (s : Saving) (back : Pending) (next : SavingNext) (new : Saving) (after : Pending) → Decides verdict wsize xid room s back next new after → AreKept xid back after
+decides-kept : (verdict : Verdict) (wsize xid : ℕ) (room : Bool) (s : Saving) (back : Pending) (next : SavingStep) (new : Saving) (after : Pending) → Decides verdict wsize xid room s back next new after → AreKept xid back after
 decides-kept AllStable wsize xid room s back next new after d = same-kept xid back after d.1
 decides-kept (SendAgain count) wsize xid room s back next new after d = goes-kept wsize xid room false (record s { phase = Resending }) back next new after d
 
-commit-kept : (told : Result Verf Fault) (wsize xid : ℕ) (room : Bool) (s : Saving) (back : Pending) (next : SavingNext) (new : Saving) (after : Pending) → TakesCommit wsize xid room told s back next new after → AreKept xid back after
+commit-kept : (told : Result Verf Fault) (wsize xid : ℕ) (room : Bool) (s : Saving) (back : Pending) (next : SavingStep) (new : Saving) (after : Pending) → TakesCommit wsize xid room told s back next new after → AreKept xid back after
 commit-kept (Err fault) wsize xid room s back next new after t = same-kept xid back after t.1
 commit-kept (Ok verf) wsize xid room s back next new after t =
     then-kept xid back t.between after (all-fewer-kept xid back t.between (on-decided s.upto verf back t.between s.file t.decides)) (decides-kept (verdict_of (lost verf s.upto (of_file s.file back).segments)) wsize xid room s t.between next new after t.goes)
 
-repeats-kept : (again : Bool) (wsize : ℕ) (sent turn : Turn) (told : WriteTold) (s : Saving) (back : Pending) (next : SavingNext) (new : Saving) (after : Pending)
+repeats-kept : (again : Bool) (wsize : ℕ) (sent turn : Turn) (told : WriteTold) (s : Saving) (back : Pending) (next : SavingStep) (new : Saving) (after : Pending)
     → RepeatsWrite again wsize sent turn told s back next new after → AreKept turn.xid back after
 repeats-kept true wsize sent turn told s back next new after r = on-kept turn.xid back after s.file (with_xid sent.xid turn.xid (of_file s.file back)) r.1 (xid-kept sent.xid turn.xid (of_file s.file back))
 repeats-kept false wsize sent turn told s back next new after r = write-kept wsize sent.xid turn.xid turn.room told (less_waiting s) back next new after r
 
-told-kept : (wsize : ℕ) (sent turn : Turn) (told : WriteTold) (repeats : List Repeat) (s : Saving) (back : Pending) (next : SavingNext) (new : Saving) (after : Pending) (later : List Repeat)
+told-kept : (wsize : ℕ) (sent turn : Turn) (told : WriteTold) (repeats : List Repeat) (s : Saving) (back : Pending) (next : SavingStep) (new : Saving) (after : Pending) (later : List Repeat)
     → TakesTold wsize sent turn told repeats s back next new after later → AreKept turn.xid back after
 told-kept wsize sent turn told repeats s back next new after later t = by (may_again (told_busy told) s) t
   where
@@ -232,12 +232,12 @@ told-kept wsize sent turn told repeats s back next new after later t = by (may_a
     by true (inr g) = write-kept wsize sent.xid turn.xid turn.room (Fails faults.Memory) (less_waiting s) back next new after g.0
     by false g = write-kept wsize sent.xid turn.xid turn.room told (less_waiting s) back next new after g.0
 
-first-kept : (again : Bool) (told : Result Verf Fault) (wsize : ℕ) (turn : Turn) (s : Saving) (back : Pending) (next : SavingNext) (new : Saving) (after : Pending)
+first-kept : (again : Bool) (told : Result Verf Fault) (wsize : ℕ) (turn : Turn) (s : Saving) (back : Pending) (next : SavingStep) (new : Saving) (after : Pending)
     → TakesFirst again wsize turn told s back next new after → AreKept turn.xid back after
 first-kept true told wsize turn s back next new after t = same-kept turn.xid back after t.1
 first-kept false told wsize turn s back next new after t = commit-kept told wsize turn.xid turn.room (less_waiting s) back next new after t
 
-pub takes-kept : (wsize : ℕ) (sent turn : Turn) (came : Result Reply Fault) (repeats : List Repeat) (s : Saving) (back : Pending) (next : SavingNext) (new : Saving) (after : Pending) (later : List Repeat)
+pub takes-kept : (wsize : ℕ) (sent turn : Turn) (came : Result Reply Fault) (repeats : List Repeat) (s : Saving) (back : Pending) (next : SavingStep) (new : Saving) (after : Pending) (later : List Repeat)
     → Takes wsize sent turn came repeats s back next new after later → AreKept turn.xid back after
 takes-kept wsize sent turn came repeats s back next new after later takes = by s.phase takes
   where

@@ -9,18 +9,18 @@ use Rattle.write_back.specs.Files.{Pending}
 use Rattle.client_shelf.specs.declared.repeats.Repeat.{Repeat}
 use Rattle.client_shelf.specs.declared.shelf.Shelf.{Shelf}
 use Rattle.client_shelf.specs.declared.turn.Turn.{Turn}
-use Rattle.client_shelf.specs.declared.next.Next.{Next}
+use Rattle.client_shelf.specs.declared.step.Step.{Step}
 use Rattle.file_ops.specs.declared.judging.WriteTold.TheVariants.{Fails}
 use Rattle.file_ops.specs.declared.saving.Saving.{Saving}
 use Rattle.file_ops.specs.declared.saving.Phase.{Phase}
 use Rattle.file_ops.specs.declared.saving.Phase.TheVariants.{Sending, Committing, Resending, CommittingAgain}
-use Rattle.file_ops.specs.declared.saving.SavingNext.{SavingNext}
-use Rattle.file_ops.specs.declared.saving.SavingNext.TheVariants.{Send, Wait, Ended}
+use Rattle.file_ops.specs.declared.saving.SavingStep.{SavingStep}
+use Rattle.file_ops.specs.declared.saving.SavingStep.TheVariants.{Send, Wait, Ended}
 use Rattle.file_ops.specs.declared.opening.Opening.{Opening}
+use Rattle.file_ops.specs.declared.opening.OpeningPhase.{OpeningPhase}
+use Rattle.file_ops.specs.declared.opening.OpeningPhase.TheVariants.{Look, Make, Find, Ask}
 use Rattle.file_ops.specs.declared.opening.OpeningStep.{OpeningStep}
-use Rattle.file_ops.specs.declared.opening.OpeningStep.TheVariants.{Look, Make, Find, Ask}
-use Rattle.file_ops.specs.declared.opening.OpeningNext.{OpeningNext}
-use Rattle.file_ops.specs.declared.opening.OpeningNext.TheVariants as steps
+use Rattle.file_ops.specs.declared.opening.OpeningStep.TheVariants as steps
 use Rattle.file_ops.specs.declared.opening.Led.{Led}
 use Rattle.file_ops.specs.declared.opening.Led.TheVariants as leads
 use Rattle.file_ops.specs.declared.write_file.WriteFile.{WriteFile}
@@ -41,30 +41,30 @@ seq s = s.seq
 
 -- ---- saves
 
-ended-ill : (fault : Fault) (next : SavingNext) → next ≡ Ended (Err fault) → next ≡ Ended (Ok tt) → ⊥
+ended-ill : (fault : Fault) (next : SavingStep) → next ≡ Ended (Err fault) → next ≡ Ended (Ok tt) → ⊥
 ended-ill fault next is well = let no-way : Ended (Err fault) ≡ Ended (Ok tt) = sym is ∙ well in absurd cc
 
-asks-on : (s : Saving) (next : SavingNext) → next ≡ Send (saves.commit_of s.file) → next ≡ Ended (Ok tt) → ⊥
+asks-on : (s : Saving) (next : SavingStep) → next ≡ Send (saves.commit_of s.file) → next ≡ Ended (Ok tt) → ⊥
 asks-on s next is well = let no-way : Send (saves.commit_of s.file) ≡ Ended (Ok tt) = sym is ∙ well in absurd cc
 
-write-ill : (wsize asked xid : ℕ) (room : Bool) (fault : Fault) (s : Saving) (back : Pending) (next : SavingNext) (new : Saving) (after : Pending)
+write-ill : (wsize asked xid : ℕ) (room : Bool) (fault : Fault) (s : Saving) (back : Pending) (next : SavingStep) (new : Saving) (after : Pending)
     → saves.TakesWrite wsize asked xid room (Fails fault) s back next new after → next ≡ Ended (Ok tt) → ⊥
 write-ill wsize asked xid room fault s back next new after t =
     let goes : saves.Goes wsize xid room t.counts (saves.with_refusal fault s) t.between next new after = subst
     (λ (r : Option Fault). saves.Goes wsize xid room t.counts (saves.refused_by r s) t.between next new after) t.lands.0 t.goes in
     refused-not s.waiting (saves.first_of s.refusal fault) next goes.0.gives_next
 
-first-ill : (again : Bool) (fault : Fault) (wsize : ℕ) (turn : Turn) (s : Saving) (back : Pending) (next : SavingNext) (new : Saving) (after : Pending)
+first-ill : (again : Bool) (fault : Fault) (wsize : ℕ) (turn : Turn) (s : Saving) (back : Pending) (next : SavingStep) (new : Saving) (after : Pending)
     → saves.TakesFirst again wsize turn (Err fault) s back next new after → next ≡ Ended (Ok tt) → ⊥
 first-ill true fault wsize turn s back next new after t = asks-on s next t.0.gives_next
 first-ill false fault wsize turn s back next new after t = ended-ill fault next t.0.gives_next
 
-last-ill : (again : Bool) (fault : Fault) (s : Saving) (next : SavingNext) → next ≡ saves.last_next again (Err fault) s → next ≡ Ended (Ok tt) → ⊥
+last-ill : (again : Bool) (fault : Fault) (s : Saving) (next : SavingStep) → next ≡ saves.last_next again (Err fault) s → next ≡ Ended (Ok tt) → ⊥
 last-ill true fault s next is = asks-on s next is
 last-ill false fault s next is = ended-ill fault next is
 
 -- a save that takes a refusal doesn't end well
-pub takes-ill : (wsize : ℕ) (sent turn : Turn) (fault : Fault) (repeats : List Repeat) (s : Saving) (back : Pending) (next : SavingNext) (new : Saving)
+pub takes-ill : (wsize : ℕ) (sent turn : Turn) (fault : Fault) (repeats : List Repeat) (s : Saving) (back : Pending) (next : SavingStep) (new : Saving)
     (after : Pending) (later : List Repeat)
     → saves.Takes wsize sent turn (Err fault) repeats s back next new after later → next ≡ Ended (Ok tt) → ⊥
 takes-ill wsize sent turn fault repeats s back next new after later takes = by s.phase takes
@@ -77,7 +77,7 @@ takes-ill wsize sent turn fault repeats s back next new after later takes = by s
 
 -- ---- writes and fills
 
-write-on : (told : SavingNext) (wsize : ℕ) (machine : WriteFile) (file : List ℕ) (saved : Saving) (turn : Turn) (shelf : Shelf) (next : Next) (new : Writing)
+write-on : (told : SavingStep) (wsize : ℕ) (machine : WriteFile) (file : List ℕ) (saved : Saving) (turn : Turn) (shelf : Shelf) (next : Step) (new : Writing)
     (after : Shelf)
     → (told ≡ Ended (Ok tt) → ⊥) → writes.Follows told wsize machine file saved turn shelf next new after → after.seq ≡ shelf.seq
 write-on (Ended (Ok done)) wsize machine file saved turn shelf next new after ill f = absurd (ill refl)
@@ -85,7 +85,7 @@ write-on (Ended (Err fault)) wsize machine file saved turn shelf next new after 
 write-on (Send call) wsize machine file saved turn shelf next new after ill f = ap seq f.shelf_is
 write-on Wait wsize machine file saved turn shelf next new after ill f = ap seq f.shelf_is
 
-pub write-refused : (at : Writing) (wsize : ℕ) (machine : WriteFile) (sent turn : Turn) (fault : Fault) (old : Shelf) (next : Next) (new : Writing)
+pub write-refused : (at : Writing) (wsize : ℕ) (machine : WriteFile) (sent turn : Turn) (fault : Fault) (old : Shelf) (next : Step) (new : Writing)
     (after : Shelf)
     → writes.TakesIn at wsize machine sent turn (Err fault) old next new after → after.seq ≡ old.seq
 write-refused writing.Idle wsize machine sent turn fault old next new after t = ap seq t.shelf_is
@@ -95,7 +95,7 @@ write-refused (writing.Room file saving) wsize machine sent turn fault old next 
 
 -- ---- puts
 
-pub led-ill : (mode : Mode) (step : OpeningStep) (fault : Fault) → opening.led_to mode step (Err fault) ≡ leads.Ends fault
+pub led-ill : (mode : Mode) (step : OpeningPhase) (fault : Fault) → opening.led_to mode step (Err fault) ≡ leads.Ends fault
 led-ill mode Look fault = look mode
   where
     look : (mode : Mode) → opening.led_to mode Look (Err fault) ≡ leads.Ends fault
@@ -113,7 +113,7 @@ pub known-ill : (nocto : Bool) (led : Led) (now : ℕ) (attrs : Attrs) (pages : 
 known-ill true led now attrs pages fault is = ap (λ (l : Led). opening.known_led l now attrs pages) is
 known-ill false led now attrs pages fault is = is
 
-opening-ill : (again : Bool) (o : Opening) (sent turn : Turn) (fault : Fault) (attrs : Attrs) (kept : Pages) (step : OpeningNext) (old new : Pages)
+opening-ill : (again : Bool) (o : Opening) (sent turn : Turn) (fault : Fault) (attrs : Attrs) (kept : Pages) (step : OpeningStep) (old new : Pages)
     → opening.LedIf again o sent turn (opening.led_on o turn.now (Err fault) attrs kept) step old new → (file : List ℕ) → step ≡ steps.Ended (Ok file) → ⊥
 opening-ill true o sent turn fault attrs kept step old new l file well = let no-way : steps.Send (opening.call_of o o.step) ≡ steps.Ended (Ok file) = sym l.0 ∙ well in absurd cc
 opening-ill false o sent turn fault attrs kept step old new l file well =
@@ -121,14 +121,14 @@ opening-ill false o sent turn fault attrs kept step old new l file well =
     let to : opening.LedTo o sent turn (leads.Ends fault) step old new = subst (λ (led : Led). opening.LedTo o sent turn led step old new) ends l in
     let no-way : steps.Ended (Err fault) ≡ steps.Ended (Ok file) = sym to.0 ∙ well in absurd cc
 
-put-opened : (step : OpeningNext) (wsize : ℕ) (machine : PutFile) (turn : Turn) (old : Shelf) (next : Next) (new : PutFile) (after : Shelf)
+put-opened : (step : OpeningStep) (wsize : ℕ) (machine : PutFile) (turn : Turn) (old : Shelf) (next : Step) (new : PutFile) (after : Shelf)
     → ((file : List ℕ) → step ≡ steps.Ended (Ok file) → ⊥) → puts.AfterOpening step wsize machine turn old next new after → after.seq ≡ old.seq
 put-opened (steps.Send call) wsize machine turn old next new after ill a = ap seq a.2
 put-opened steps.Wait wsize machine turn old next new after ill a = ap seq a.shelf_is
 put-opened (steps.Ended (Ok file)) wsize machine turn old next new after ill a = absurd (ill file refl)
 put-opened (steps.Ended (Err fault)) wsize machine turn old next new after ill a = ap seq a.2
 
-pub put-refused : (at : Putting) (wsize : ℕ) (machine : PutFile) (sent turn : Turn) (fault : Fault) (old : Shelf) (next : Next) (new : PutFile) (after : Shelf)
+pub put-refused : (at : Putting) (wsize : ℕ) (machine : PutFile) (sent turn : Turn) (fault : Fault) (old : Shelf) (next : Step) (new : PutFile) (after : Shelf)
     → puts.Takes at wsize machine sent turn (Err fault) old next new after → after.seq ≡ old.seq
 put-refused putting.Idle wsize machine sent turn fault old next new after t = ap seq t.shelf_is
 put-refused putting.Opens wsize machine sent turn fault old next new after t =

@@ -20,8 +20,8 @@ use Rattle.file_ops.specs.declared.judging.WriteTold.TheVariants.{Fails}
 use Rattle.file_ops.specs.declared.saving.Phase.{Phase}
 use Rattle.file_ops.specs.declared.saving.Phase.TheVariants.{Sending, Committing, Resending, CommittingAgain}
 use Rattle.file_ops.specs.declared.saving.Saving.{Saving}
-use Rattle.file_ops.specs.declared.saving.SavingNext.{SavingNext}
-use Rattle.file_ops.specs.declared.saving.SavingNext.TheVariants.{Send, Wait, Ended}
+use Rattle.file_ops.specs.declared.saving.SavingStep.{SavingStep}
+use Rattle.file_ops.specs.declared.saving.SavingStep.TheVariants.{Send, Wait, Ended}
 use Rattle.file_ops.specs.Judging.{commit_told}
 use Rattle.file_ops.specs.Saves as saves
 
@@ -35,17 +35,17 @@ abbrev pub of_saving : Saving → ℕ
 of_saving s = saving_by (saves.is_sending s.phase) s.waiting
 
 -- What holds of each kind of step holds of each step.
-pub by-step : (R : SavingNext → Type 0) → ((call : Call) → R (Send call)) → R Wait → ((result : Result (Unit {0}) Fault) → R (Ended result)) → (gives : SavingNext) → R gives
+pub by-step : (R : SavingStep → Type 0) → ((call : Call) → R (Send call)) → R Wait → ((result : Result (Unit {0}) Fault) → R (Ended result)) → (gives : SavingStep) → R gives
 by-step R sends waits ends (Send call) = sends call
 by-step R sends waits ends Wait = waits
 by-step R sends waits ends (Ended result) = ends result
 
 -- the step that ends with a result
-abbrev pub ends_as : Result (Unit {0}) Fault → SavingNext
+abbrev pub ends_as : Result (Unit {0}) Fault → SavingStep
 ends_as result = Ended result
 
 -- What a step of a save, before which so many of its calls wait, leaves waiting; it ends only where none does.
-abbrev pub SaveCounts : SavingNext → ℕ → ℕ → Type 0
+abbrev pub SaveCounts : SavingStep → ℕ → ℕ → Type 0
 SaveCounts (Send call) before after = after ≡ before + 1
 SaveCounts Wait before after = after ≡ before
 SaveCounts (Ended result) before after = (before ≡ 0) × (after ≡ 0)
@@ -82,10 +82,10 @@ only-left false n others is one = absurd (omega (arith, one))
 
 -- ---- what a step leads to
 
-leads-save : (to : SavingNext) (saved : Saving) (next : SavingNext) (new : Saving) (before : ℕ) → saves.Leads to saved next new
+leads-save : (to : SavingStep) (saved : Saving) (next : SavingStep) (new : Saving) (before : ℕ) → saves.Leads to saved next new
     → SaveCounts to before (of_saving saved) → SaveCounts next before (of_saving new)
 leads-save to saved next new before l c =
-    subst (λ (n : SavingNext). SaveCounts n before (of_saving new)) (sym l.gives_next) (subst (λ (s : Saving). SaveCounts to before (of_saving s)) (sym l.keeps) c)
+    subst (λ (n : SavingStep). SaveCounts n before (of_saving new)) (sym l.gives_next) (subst (λ (s : Saving). SaveCounts to before (of_saving s)) (sym l.keeps) c)
 
 refused-save : (s : Saving) (fault : Fault) (b : Bool) → (s.waiting == 0) ≡ b → SaveCounts (if b then Ended (Err fault) else Wait) (of_saving s) (of_saving s)
 refused-save s fault true is = let none = none-waits (saves.is_sending s.phase) s.waiting (eqb-true s.waiting 0 is) in (none, none)
@@ -108,7 +108,7 @@ sent-save by_reply s false false is =
 -- ---- a step without a reply
 
 module _ (wsize xid : ℕ) (room by_reply : Bool) where
-  sends-save : (run : Segments) (s : Saving) (back : Pending) (next : SavingNext) (new : Saving) (after : Pending) → saves.is_sending s.phase ≡ true
+  sends-save : (run : Segments) (s : Saving) (back : Pending) (next : SavingStep) (new : Saving) (after : Pending) → saves.is_sending s.phase ≡ true
       → saves.Sends xid by_reply run s back next new after → SaveCounts next (of_saving s) (of_saving new)
   sends-save run s back next new after sending (inr l) =
       leads-save (saves.refused_next s.waiting Memory) s next new (of_saving s) l.0 (refused-save s Memory (s.waiting == 0) refl)
@@ -120,21 +120,21 @@ module _ (wsize xid : ℕ) (room by_reply : Bool) where
       let later = while-sending (saves.is_sending s.phase) (s.waiting + 1) sending in
       leads-save (Send (saves.write_of s.file (piece_of xid e (e ∷ es)))) (record s { waiting = s.waiting + 1 }) next new (of_saving s) r.0 (omega (arith, before, later))
 
-  sends-if-save : (b : Bool) (run : Segments) (s : Saving) (back : Pending) (next : SavingNext) (new : Saving) (after : Pending) → saves.may_send room s ≡ b
+  sends-if-save : (b : Bool) (run : Segments) (s : Saving) (back : Pending) (next : SavingStep) (new : Saving) (after : Pending) → saves.may_send room s ≡ b
       → saves.SendsIf b xid by_reply run s back next new after → SaveCounts next (of_saving s) (of_saving new)
   sends-if-save false run s back next new after may l = leads-save Wait s next new (of_saving s) l.0 refl
   sends-if-save true run s back next new after may l =
       let both = and-left (room && saves.is_sending s.phase) (nat_lt s.waiting 32) may in
       sends-save run s back next new after (and-right room (saves.is_sending s.phase) both) l
 
-  goes-over-save : (refusal : Option Fault) (s : Saving) (back : Pending) (next : SavingNext) (new : Saving) (after : Pending)
+  goes-over-save : (refusal : Option Fault) (s : Saving) (back : Pending) (next : SavingStep) (new : Saving) (after : Pending)
       → saves.GoesOver refusal wsize xid room by_reply s back next new after → SaveCounts next (of_saving s) (of_saving new)
   goes-over-save (Some fault) s back next new after g =
       leads-save (saves.refused_next s.waiting fault) s next new (of_saving s) g.0 (refused-save s fault (s.waiting == 0) refl)
   goes-over-save None s back next new after g =
       sends-if-save (saves.may_send room s) (chosen s.upto wsize (of_file s.file back)) s back next new after refl g
 
-  pub save-goes : (s : Saving) (back : Pending) (next : SavingNext) (new : Saving) (after : Pending)
+  pub save-goes : (s : Saving) (back : Pending) (next : SavingStep) (new : Saving) (after : Pending)
       → saves.Goes wsize xid room by_reply s back next new after → SaveCounts next (of_saving s) (of_saving new)
   save-goes s back next new after g = goes-over-save s.refusal s back next new after g
 
@@ -151,13 +151,13 @@ less-sending s others sending is =
     omega (arith, before, later, is)
 
 -- so many others wait
-takes-write-save : (wsize asked xid : ℕ) (room : Bool) (told : WriteTold) (s : Saving) (back : Pending) (next : SavingNext) (new : Saving) (after : Pending)
+takes-write-save : (wsize asked xid : ℕ) (room : Bool) (told : WriteTold) (s : Saving) (back : Pending) (next : SavingStep) (new : Saving) (after : Pending)
     (others : ℕ) → of_saving s ≡ others → saves.TakesWrite wsize asked xid room told s back next new after → SaveCounts next others (of_saving new)
 takes-write-save wsize asked xid room told s back next new after others is t =
     subst (λ (n : ℕ). SaveCounts next n (of_saving new)) (refused-same t.refusal s ∙ is)
     (save-goes wsize xid room t.counts (saves.refused_by t.refusal s) t.between next new after t.goes)
 
-repeats-save : (again : Bool) (wsize : ℕ) (sent turn : Turn) (told : WriteTold) (s : Saving) (back : Pending) (next : SavingNext) (new : Saving) (after : Pending)
+repeats-save : (again : Bool) (wsize : ℕ) (sent turn : Turn) (told : WriteTold) (s : Saving) (back : Pending) (next : SavingStep) (new : Saving) (after : Pending)
     (others : ℕ) → saves.is_sending s.phase ≡ true → of_saving s ≡ others + 1 → saves.RepeatsWrite again wsize sent turn told s back next new after
     → SaveCounts next others (of_saving new)
 repeats-save true wsize sent turn told s back next new after others sending is r =
@@ -165,7 +165,7 @@ repeats-save true wsize sent turn told s back next new after others sending is r
 repeats-save false wsize sent turn told s back next new after others sending is r =
     takes-write-save wsize sent.xid turn.xid turn.room told (saves.less_waiting s) back next new after others (less-sending s others sending is) r
 
-told-save : (busy : Bool) (wsize : ℕ) (sent turn : Turn) (told : WriteTold) (repeats : List Repeat) (s : Saving) (back : Pending) (next : SavingNext)
+told-save : (busy : Bool) (wsize : ℕ) (sent turn : Turn) (told : WriteTold) (repeats : List Repeat) (s : Saving) (back : Pending) (next : SavingStep)
     (new : Saving) (after : Pending) (later : List Repeat) (others : ℕ) → saves.is_sending s.phase ≡ true → of_saving s ≡ others + 1
     → saves.TakesToldIf busy wsize sent turn told repeats s back next new after later → SaveCounts next others (of_saving new)
 told-save true wsize sent turn told repeats s back next new after later others sending is (inl t) =
@@ -179,20 +179,20 @@ told-save false wsize sent turn told repeats s back next new after later others 
 less-committing : (s : Saving) (others : ℕ) → saves.is_sending s.phase ≡ false → of_saving s ≡ others + 1 → (others ≡ 0) × (s.waiting - 1 ≡ 0)
 less-committing s others sending is = only-left (s.waiting == 1) s.waiting others refl (sym (while-not (saves.is_sending s.phase) s.waiting sending) ∙ is)
 
-decides-save : (verdict : Verdict) (wsize xid : ℕ) (room : Bool) (s : Saving) (back : Pending) (next : SavingNext) (new : Saving) (after : Pending) (others : ℕ)
+decides-save : (verdict : Verdict) (wsize xid : ℕ) (room : Bool) (s : Saving) (back : Pending) (next : SavingStep) (new : Saving) (after : Pending) (others : ℕ)
     → others ≡ 0 → s.waiting ≡ 0 → saves.Decides verdict wsize xid room s back next new after → SaveCounts next others (of_saving new)
 decides-save AllStable wsize xid room s back next new after others none waits d =
     leads-save (Ended (Ok tt)) s next new others d.0 (none, none-waits (saves.is_sending s.phase) s.waiting waits)
 decides-save (SendAgain count) wsize xid room s back next new after others none waits d =
     subst (λ (n : ℕ). SaveCounts next n (of_saving new)) (waits ∙ sym none) (save-goes wsize xid room false (record s { phase = Resending }) back next new after d)
 
-commit-save : (told : Result Verf Fault) (wsize xid : ℕ) (room : Bool) (s : Saving) (back : Pending) (next : SavingNext) (new : Saving) (after : Pending) (others : ℕ)
+commit-save : (told : Result Verf Fault) (wsize xid : ℕ) (room : Bool) (s : Saving) (back : Pending) (next : SavingStep) (new : Saving) (after : Pending) (others : ℕ)
     → others ≡ 0 → s.waiting ≡ 0 → saves.TakesCommit wsize xid room told s back next new after → SaveCounts next others (of_saving new)
 commit-save (Ok verf) wsize xid room s back next new after others none waits t = decides-save _ wsize xid room s t.between next new after others none waits t.goes
 commit-save (Err fault) wsize xid room s back next new after others none waits t =
     leads-save (Ended (Err fault)) s next new others t.0 (none, none-waits (saves.is_sending s.phase) s.waiting waits)
 
-first-save : (again : Bool) (told : Result Verf Fault) (wsize : ℕ) (turn : Turn) (s : Saving) (back : Pending) (next : SavingNext) (new : Saving) (after : Pending)
+first-save : (again : Bool) (told : Result Verf Fault) (wsize : ℕ) (turn : Turn) (s : Saving) (back : Pending) (next : SavingStep) (new : Saving) (after : Pending)
     (others : ℕ) → saves.is_sending s.phase ≡ false → of_saving s ≡ others + 1 → saves.TakesFirst again wsize turn told s back next new after
     → SaveCounts next others (of_saving new)
 first-save true told wsize turn s back next new after others sending is t = leads-save (Send (saves.commit_of s.file)) (saves.put_off_more s) next new others t.0 is
@@ -209,7 +209,7 @@ last-save false (Err fault) s others sending is =
     let one = less-committing s others sending is in (one.0, none-waits (saves.is_sending s.phase) (s.waiting - 1) one.1)
 
 module _ (wsize : ℕ) (sent turn : Turn) (came : Result Reply Fault) where
-  takes-in-save : (phase : Phase) (repeats : List Repeat) (s : Saving) (back : Pending) (next : SavingNext) (new : Saving) (after : Pending) (later : List Repeat)
+  takes-in-save : (phase : Phase) (repeats : List Repeat) (s : Saving) (back : Pending) (next : SavingStep) (new : Saving) (after : Pending) (later : List Repeat)
       (others : ℕ) → s.phase ≡ phase → of_saving s ≡ others + 1 → saves.TakesIn phase wsize sent turn came repeats s back next new after later
       → SaveCounts next others (of_saving new)
   takes-in-save Sending repeats s back next new after later others in_phase is t =
@@ -224,6 +224,6 @@ module _ (wsize : ℕ) (sent turn : Turn) (came : Result Reply Fault) where
       leads-save (saves.last_next again (commit_told came) s) (saves.last_saving again s) next new others t.0
       (last-save again (commit_told came) s others (ap saves.is_sending in_phase) is)
 
-  pub save-takes : (repeats : List Repeat) (s : Saving) (back : Pending) (next : SavingNext) (new : Saving) (after : Pending) (later : List Repeat) (others : ℕ)
+  pub save-takes : (repeats : List Repeat) (s : Saving) (back : Pending) (next : SavingStep) (new : Saving) (after : Pending) (later : List Repeat) (others : ℕ)
       → of_saving s ≡ others + 1 → saves.Takes wsize sent turn came repeats s back next new after later → SaveCounts next others (of_saving new)
   save-takes repeats s back next new after later others is t = takes-in-save s.phase repeats s back next new after later others refl is t

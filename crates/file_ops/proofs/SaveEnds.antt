@@ -21,26 +21,26 @@ use Rattle.file_ops.specs.declared.judging.WriteTold.TheVariants.{Done, Refused,
 use Rattle.file_ops.specs.declared.saving.Saving.{Saving}
 use Rattle.file_ops.specs.declared.saving.Phase.{Phase}
 use Rattle.file_ops.specs.declared.saving.Phase.TheVariants.{Sending, Committing, Resending, CommittingAgain}
-use Rattle.file_ops.specs.declared.saving.SavingNext.{SavingNext}
-use Rattle.file_ops.specs.declared.saving.SavingNext.TheVariants.{Send, Wait, Ended}
+use Rattle.file_ops.specs.declared.saving.SavingStep.{SavingStep}
+use Rattle.file_ops.specs.declared.saving.SavingStep.TheVariants.{Send, Wait, Ended}
 use Rattle.file_ops.specs.Judging.{commit_told}
 use Rattle.file_ops.specs.Saves.{GoesOver, SendsIf, Sends, Goes, may_send, refused_next, write_of, Lands, TakesWrite, Decides, TakesCommit, TakesIn, Takes, TakesTold, TakesToldIf, TakesFirst, RepeatsWrite, may_again, told_busy, commit_again, answered, less_waiting, told_of, refused_by}
 use Rattle.file_ops.proofs.Fewer.{AreFewer, same-all, on-landed, on-part, on-decided}
 
 -- out of memory and waiting are no good end
-pub refused-not : (waiting : ℕ) (fault : Fault) (next : SavingNext) → next ≡ refused_next waiting fault → next ≡ Ended (Ok tt) → ⊥
+pub refused-not : (waiting : ℕ) (fault : Fault) (next : SavingStep) → next ≡ refused_next waiting fault → next ≡ Ended (Ok tt) → ⊥
 refused-not waiting fault next is ended = by (waiting == 0) refl
   where
     by : (b : Bool) → (waiting == 0) ≡ b → ⊥
     by true h = let is_it : next ≡ Ended (Err fault) = (rw h at is) in let no-way : Ended (Err fault) ≡ Ended (Ok tt) = sym is_it ∙ ended in absurd cc
     by false h = let is_it : next ≡ Wait = (rw h at is) in let no-way : Wait ≡ Ended (Ok tt) = sym is_it ∙ ended in absurd cc
 
-sends-ended : (xid : ℕ) (by_reply : Bool) (run : Segments) (s : Saving) (back : Pending) (next : SavingNext) (new : Saving) (after : Pending) → Sends xid by_reply run s back next new after → next ≡ Ended (Ok tt) → after ≡ back
+sends-ended : (xid : ℕ) (by_reply : Bool) (run : Segments) (s : Saving) (back : Pending) (next : SavingStep) (new : Saving) (after : Pending) → Sends xid by_reply run s back next new after → next ≡ Ended (Ok tt) → after ≡ back
 sends-ended xid by_reply [] s back next new after (inl g) ended = g.1
 sends-ended xid by_reply (e ∷ es) s back next new after (inl g) ended = let no-way : Send (write_of s.file (piece_of xid e (e ∷ es))) ≡ Ended (Ok tt) = sym g.0.gives_next ∙ ended in absurd cc
 sends-ended xid by_reply run s back next new after (inr g) ended = g.1
 
-pub goes-ended : (wsize xid : ℕ) (room by_reply : Bool) (s : Saving) (back : Pending) (next : SavingNext) (new : Saving) (after : Pending) → Goes wsize xid room by_reply s back next new after → next ≡ Ended (Ok tt) → after ≡ back
+pub goes-ended : (wsize xid : ℕ) (room by_reply : Bool) (s : Saving) (back : Pending) (next : SavingStep) (new : Saving) (after : Pending) → Goes wsize xid room by_reply s back next new after → next ≡ Ended (Ok tt) → after ≡ back
 goes-ended wsize xid room by_reply s back next new after goes ended = over s.refusal goes
   where
     may : (b : Bool) → SendsIf b xid by_reply (chosen s.upto wsize (of_file s.file back)) s back next new after → after ≡ back
@@ -60,26 +60,26 @@ lands-fewer asked file (Fails fault) old new refusal l = on-landed by_change.Ret
 then-same : (old mid new : Pending) → AreFewer old mid → new ≡ mid → AreFewer old new
 then-same old mid new less is = subst (λ p. AreFewer old p) (sym is) less
 
-write-fewer : (wsize asked xid : ℕ) (room : Bool) (told : WriteTold) (s : Saving) (back : Pending) (next : SavingNext) (new : Saving) (after : Pending) → TakesWrite wsize asked xid room told s back next new after → next ≡ Ended (Ok tt) → AreFewer back after
+write-fewer : (wsize asked xid : ℕ) (room : Bool) (told : WriteTold) (s : Saving) (back : Pending) (next : SavingStep) (new : Saving) (after : Pending) → TakesWrite wsize asked xid room told s back next new after → next ≡ Ended (Ok tt) → AreFewer back after
 write-fewer wsize asked xid room told s back next new after t ended =
     then-same back t.between after (lands-fewer asked s.file told back t.between t.refusal t.lands) (goes-ended wsize xid room t.counts (refused_by t.refusal s) t.between next new after t.goes ended)
 
-decides-same : (verdict : Verdict) (wsize xid : ℕ) (room : Bool) (s : Saving) (back : Pending) (next : SavingNext) (new : Saving) (after : Pending) → Decides verdict wsize xid room s back next new after → next ≡ Ended (Ok tt) → after ≡ back
+decides-same : (verdict : Verdict) (wsize xid : ℕ) (room : Bool) (s : Saving) (back : Pending) (next : SavingStep) (new : Saving) (after : Pending) → Decides verdict wsize xid room s back next new after → next ≡ Ended (Ok tt) → after ≡ back
 decides-same AllStable wsize xid room s back next new after d ended = d.1
 decides-same (SendAgain count) wsize xid room s back next new after d ended = goes-ended wsize xid room false (record s { phase = Resending }) back next new after d ended
 
-commit-fewer : (told : Result Verf Fault) (wsize xid : ℕ) (room : Bool) (s : Saving) (back : Pending) (next : SavingNext) (new : Saving) (after : Pending) → TakesCommit wsize xid room told s back next new after → next ≡ Ended (Ok tt) → AreFewer back after
+commit-fewer : (told : Result Verf Fault) (wsize xid : ℕ) (room : Bool) (s : Saving) (back : Pending) (next : SavingStep) (new : Saving) (after : Pending) → TakesCommit wsize xid room told s back next new after → next ≡ Ended (Ok tt) → AreFewer back after
 commit-fewer (Err fault) wsize xid room s back next new after t ended = same-all back after t.1
 commit-fewer (Ok verf) wsize xid room s back next new after t ended =
     then-same back t.between after (on-decided s.upto verf back t.between s.file t.decides) (decides-same (verdict_of (lost verf s.upto (of_file s.file back).segments)) wsize xid room s t.between next new after t.goes ended)
 
 -- a WRITE's reply that leads to the same call again ends nothing
-repeats-fewer : (again : Bool) (wsize : ℕ) (sent turn : Turn) (told : WriteTold) (s : Saving) (back : Pending) (next : SavingNext) (new : Saving) (after : Pending)
+repeats-fewer : (again : Bool) (wsize : ℕ) (sent turn : Turn) (told : WriteTold) (s : Saving) (back : Pending) (next : SavingStep) (new : Saving) (after : Pending)
     → RepeatsWrite again wsize sent turn told s back next new after → next ≡ Ended (Ok tt) → AreFewer back after
 repeats-fewer true wsize sent turn told s back next new after r ended = let no-way : Send (write_of s.file (answered sent.xid s.file back)) ≡ Ended (Ok tt) = sym r.0.gives_next ∙ ended in absurd cc
 repeats-fewer false wsize sent turn told s back next new after r ended = write-fewer wsize sent.xid turn.xid turn.room told (less_waiting s) back next new after r ended
 
-told-fewer : (wsize : ℕ) (sent turn : Turn) (told : WriteTold) (repeats : List Repeat) (s : Saving) (back : Pending) (next : SavingNext) (new : Saving) (after : Pending) (later : List Repeat)
+told-fewer : (wsize : ℕ) (sent turn : Turn) (told : WriteTold) (repeats : List Repeat) (s : Saving) (back : Pending) (next : SavingStep) (new : Saving) (after : Pending) (later : List Repeat)
     → TakesTold wsize sent turn told repeats s back next new after later → next ≡ Ended (Ok tt) → AreFewer back after
 told-fewer wsize sent turn told repeats s back next new after later t ended = by (may_again (told_busy told) s) t
   where
@@ -88,12 +88,12 @@ told-fewer wsize sent turn told repeats s back next new after later t ended = by
     by true (inr g) = write-fewer wsize sent.xid turn.xid turn.room (Fails faults.Memory) (less_waiting s) back next new after g.0 ended
     by false g = write-fewer wsize sent.xid turn.xid turn.room told (less_waiting s) back next new after g.0 ended
 
-first-fewer : (again : Bool) (told : Result Verf Fault) (wsize : ℕ) (turn : Turn) (s : Saving) (back : Pending) (next : SavingNext) (new : Saving) (after : Pending)
+first-fewer : (again : Bool) (told : Result Verf Fault) (wsize : ℕ) (turn : Turn) (s : Saving) (back : Pending) (next : SavingStep) (new : Saving) (after : Pending)
     → TakesFirst again wsize turn told s back next new after → next ≡ Ended (Ok tt) → AreFewer back after
 first-fewer true told wsize turn s back next new after t ended = same-all back after t.1
 first-fewer false told wsize turn s back next new after t ended = commit-fewer told wsize turn.xid turn.room (less_waiting s) back next new after t ended
 
-pub takes-fewer : (wsize : ℕ) (sent turn : Turn) (came : Result Reply Fault) (repeats : List Repeat) (s : Saving) (back : Pending) (next : SavingNext) (new : Saving) (after : Pending) (later : List Repeat)
+pub takes-fewer : (wsize : ℕ) (sent turn : Turn) (came : Result Reply Fault) (repeats : List Repeat) (s : Saving) (back : Pending) (next : SavingStep) (new : Saving) (after : Pending) (later : List Repeat)
     → Takes wsize sent turn came repeats s back next new after later → next ≡ Ended (Ok tt) → AreFewer back after
 takes-fewer wsize sent turn came repeats s back next new after later takes ended = by s.phase takes
   where

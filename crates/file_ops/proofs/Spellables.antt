@@ -30,8 +30,8 @@ use Rattle.file_ops.specs.declared.judging.WriteTold.TheVariants.{Done, Refused,
 use Rattle.file_ops.specs.declared.saving.Saving.{Saving}
 use Rattle.file_ops.specs.declared.saving.Phase.{Phase}
 use Rattle.file_ops.specs.declared.saving.Phase.TheVariants.{Sending, Committing, Resending, CommittingAgain}
-use Rattle.file_ops.specs.declared.saving.SavingNext.{SavingNext}
-use Rattle.file_ops.specs.declared.saving.SavingNext.TheVariants.{Send, Wait, Ended}
+use Rattle.file_ops.specs.declared.saving.SavingStep.{SavingStep}
+use Rattle.file_ops.specs.declared.saving.SavingStep.TheVariants.{Send, Wait, Ended}
 use Rattle.file_ops.specs.Judging.{commit_told}
 use Rattle.file_ops.specs.Saves as saves
 use Rattle.file_ops.proofs.Walks.{Left, Carries, CarriesReply, SamePieces}
@@ -138,22 +138,22 @@ pieces-spellable old new same all file = by (same file)
 
 -- ---- steps of a save
 
-abbrev pub Spells : SavingNext → Pending → Type 0
+abbrev pub Spells : SavingStep → Pending → Type 0
 Spells next after = AreSpellable after × ((call : Call) → next ≡ Send call → IsSpellable call)
 
 write-spells : (file : List ℕ) (piece : Sent) → FitsWrite piece → IsSpellable (saves.write_of file piece)
 write-spells file piece fits = fits
 
-one-call : (sent : Call) (next : SavingNext) → next ≡ Send sent → IsSpellable sent → (call : Call) → next ≡ Send call → IsSpellable call
+one-call : (sent : Call) (next : SavingStep) → next ≡ Send sent → IsSpellable sent → (call : Call) → next ≡ Send call → IsSpellable call
 one-call sent next is spells call asks = let same : sent ≡ call = (let k : Send sent ≡ Send call = sym is ∙ asks in cc) in subst IsSpellable same spells
 
-waits-spells : (next : SavingNext) → next ≡ Wait → (call : Call) → next ≡ Send call → IsSpellable call
+waits-spells : (next : SavingStep) → next ≡ Wait → (call : Call) → next ≡ Send call → IsSpellable call
 waits-spells next is call asks = let no-way : Wait ≡ Send call = sym is ∙ asks in absurd cc
 
-ended-spells : (result : Result (Unit {0}) Fault) (next : SavingNext) → next ≡ Ended result → (call : Call) → next ≡ Send call → IsSpellable call
+ended-spells : (result : Result (Unit {0}) Fault) (next : SavingStep) → next ≡ Ended result → (call : Call) → next ≡ Send call → IsSpellable call
 ended-spells result next is call asks = let no-way : Ended result ≡ Send call = sym is ∙ asks in absurd cc
 
-refused-spells : (waiting : ℕ) (fault : Fault) (next : SavingNext) → next ≡ saves.refused_next waiting fault → (call : Call) → next ≡ Send call
+refused-spells : (waiting : ℕ) (fault : Fault) (next : SavingStep) → next ≡ saves.refused_next waiting fault → (call : Call) → next ≡ Send call
     → IsSpellable call
 refused-spells waiting fault next is = by (waiting == 0) is
   where
@@ -161,7 +161,7 @@ refused-spells waiting fault next is = by (waiting == 0) is
     by true is = ended-spells (Err fault) next is
     by false is = waits-spells next is
 
-sent-spells : (by_reply : Bool) (s : Saving) (next : SavingNext) → next ≡ saves.next_sent by_reply s → (call : Call) → next ≡ Send call → IsSpellable call
+sent-spells : (by_reply : Bool) (s : Saving) (next : SavingStep) → next ≡ saves.next_sent by_reply s → (call : Call) → next ≡ Send call → IsSpellable call
 sent-spells by_reply s next is = by (nat_lt 0 s.waiting) (saves.is_again s.phase && by_reply) is
   where
     by : (a b : Bool) → next ≡ (if a then Wait else if b then Ended (Ok tt) else Send (saves.commit_of s.file)) → (call : Call) → next ≡ Send call
@@ -170,7 +170,7 @@ sent-spells by_reply s next is = by (nat_lt 0 s.waiting) (saves.is_again s.phase
     by false true is = ended-spells (Ok tt) next is
     by false false is = one-call (saves.commit_of s.file) next is tt
 
-sends-spells : (xid wsize : ℕ) (by_reply : Bool) (run : Segments) (s : Saving) (back : Pending) (next : SavingNext) (new : Saving) (after : Pending)
+sends-spells : (xid wsize : ℕ) (by_reply : Bool) (run : Segments) (s : Saving) (back : Pending) (next : SavingStep) (new : Saving) (after : Pending)
     → wsize ≤ 65536 → chosen s.upto wsize (of_file s.file back) ≡ run → saves.Sends xid by_reply run s back next new after → AreSpellable back
     → Spells next after
 sends-spells xid wsize by_reply [] s back next new after small is (inl g) all = (same-spellable back after g.1 all, sent-spells by_reply s next g.0.gives_next)
@@ -183,7 +183,7 @@ sends-spells xid wsize by_reply (e ∷ es) s back next new after small is (inl g
 sends-spells xid wsize by_reply run s back next new after small is (inr g) all =
     (same-spellable back after g.1 all, refused-spells s.waiting faults.Memory next g.0.gives_next)
 
-goes-spells : (wsize xid : ℕ) (room by_reply : Bool) (s : Saving) (back : Pending) (next : SavingNext) (new : Saving) (after : Pending)
+goes-spells : (wsize xid : ℕ) (room by_reply : Bool) (s : Saving) (back : Pending) (next : SavingStep) (new : Saving) (after : Pending)
     → wsize ≤ 65536 → saves.Goes wsize xid room by_reply s back next new after → AreSpellable back → Spells next after
 goes-spells wsize xid room by_reply s back next new after small goes all = over s.refusal goes
   where
@@ -215,26 +215,26 @@ lands-spells asked file told old new refusal lands all = by told refusal lands
     by (Refused status) refusal l = one (by_change.Refuse status) l.1
     by (Fails fault) refusal l = one by_change.Return l.1
 
-write-takes-spells : (wsize asked xid : ℕ) (room : Bool) (told : WriteTold) (s : Saving) (back : Pending) (next : SavingNext) (new : Saving) (after : Pending)
+write-takes-spells : (wsize asked xid : ℕ) (room : Bool) (told : WriteTold) (s : Saving) (back : Pending) (next : SavingStep) (new : Saving) (after : Pending)
     → wsize ≤ 65536 → saves.TakesWrite wsize asked xid room told s back next new after → AreSpellable back → Spells next after
 write-takes-spells wsize asked xid room told s back next new after small t all =
     goes-spells wsize xid room t.counts (saves.refused_by t.refusal s) t.between next new after small t.goes
     (lands-spells asked s.file told back t.between t.refusal t.lands all)
 
-decides-spells : (verdict : Verdict) (wsize xid : ℕ) (room : Bool) (s : Saving) (back : Pending) (next : SavingNext) (new : Saving) (after : Pending)
+decides-spells : (verdict : Verdict) (wsize xid : ℕ) (room : Bool) (s : Saving) (back : Pending) (next : SavingStep) (new : Saving) (after : Pending)
     → wsize ≤ 65536 → saves.Decides verdict wsize xid room s back next new after → AreSpellable back → Spells next after
 decides-spells AllStable wsize xid room s back next new after small d all = (same-spellable back after d.1 all, ended-spells (Ok tt) next d.0.gives_next)
 decides-spells (SendAgain count) wsize xid room s back next new after small d all =
     goes-spells wsize xid room false (record s { phase = Resending }) back next new after small d all
 
-commit-spells : (told : Result Verf Fault) (wsize xid : ℕ) (room : Bool) (s : Saving) (back : Pending) (next : SavingNext) (new : Saving) (after : Pending)
+commit-spells : (told : Result Verf Fault) (wsize xid : ℕ) (room : Bool) (s : Saving) (back : Pending) (next : SavingStep) (new : Saving) (after : Pending)
     → wsize ≤ 65536 → saves.TakesCommit wsize xid room told s back next new after → AreSpellable back → Spells next after
 commit-spells (Err fault) wsize xid room s back next new after small t all = (same-spellable back after t.1 all, ended-spells (Err fault) next t.0.gives_next)
 commit-spells (Ok verf) wsize xid room s back next new after small t all =
     decides-spells (verdict_of (lost verf s.upto (of_file s.file back).segments)) wsize xid room s t.between next new after small t.goes
     (on-spellable back t.between s.file (decided s.upto verf (of_file s.file back)) t.decides (λ fit. fit) all)
 
-repeats-spells : (again : Bool) (wsize : ℕ) (sent turn : Turn) (told : WriteTold) (s : Saving) (back : Pending) (next : SavingNext) (new : Saving)
+repeats-spells : (again : Bool) (wsize : ℕ) (sent turn : Turn) (told : WriteTold) (s : Saving) (back : Pending) (next : SavingStep) (new : Saving)
     (after : Pending)
     → wsize ≤ 65536 → saves.RepeatsWrite again wsize sent turn told s back next new after → AreSpellable back → Spells next after
 repeats-spells true wsize sent turn told s back next new after small r all = (
@@ -246,7 +246,7 @@ repeats-spells true wsize sent turn told s back next new after small r all = (
 repeats-spells false wsize sent turn told s back next new after small r all =
     write-takes-spells wsize sent.xid turn.xid turn.room told (saves.less_waiting s) back next new after small r all
 
-told-spells : (wsize : ℕ) (sent turn : Turn) (told : WriteTold) (repeats : List Repeat) (s : Saving) (back : Pending) (next : SavingNext) (new : Saving)
+told-spells : (wsize : ℕ) (sent turn : Turn) (told : WriteTold) (repeats : List Repeat) (s : Saving) (back : Pending) (next : SavingStep) (new : Saving)
     (after : Pending) (later : List Repeat)
     → wsize ≤ 65536 → saves.TakesTold wsize sent turn told repeats s back next new after later → AreSpellable back → Spells next after
 told-spells wsize sent turn told repeats s back next new after later small t all = by (saves.may_again (saves.told_busy told) s) t
@@ -256,7 +256,7 @@ told-spells wsize sent turn told repeats s back next new after later small t all
     by true (inr g) = write-takes-spells wsize sent.xid turn.xid turn.room (Fails faults.Memory) (saves.less_waiting s) back next new after small g.0 all
     by false g = write-takes-spells wsize sent.xid turn.xid turn.room told (saves.less_waiting s) back next new after small g.0 all
 
-first-spells : (again : Bool) (told : Result Verf Fault) (wsize : ℕ) (turn : Turn) (s : Saving) (back : Pending) (next : SavingNext) (new : Saving)
+first-spells : (again : Bool) (told : Result Verf Fault) (wsize : ℕ) (turn : Turn) (s : Saving) (back : Pending) (next : SavingStep) (new : Saving)
     (after : Pending)
     → wsize ≤ 65536 → saves.TakesFirst again wsize turn told s back next new after → AreSpellable back → Spells next after
 first-spells true told wsize turn s back next new after small t all =
@@ -264,13 +264,13 @@ first-spells true told wsize turn s back next new after small t all =
 first-spells false told wsize turn s back next new after small t all =
     commit-spells told wsize turn.xid turn.room (saves.less_waiting s) back next new after small t all
 
-last-spells : (again : Bool) (told : Result Verf Fault) (s : Saving) (next : SavingNext) → next ≡ saves.last_next again told s → (call : Call)
+last-spells : (again : Bool) (told : Result Verf Fault) (s : Saving) (next : SavingStep) → next ≡ saves.last_next again told s → (call : Call)
     → next ≡ Send call → IsSpellable call
 last-spells true told s next is = one-call (saves.commit_of s.file) next is tt
 last-spells false (Ok verf) s next is = ended-spells (Ok tt) next is
 last-spells false (Err fault) s next is = ended-spells (Err fault) next is
 
-takes-spells : (wsize : ℕ) (sent turn : Turn) (came : Result Reply Fault) (repeats : List Repeat) (s : Saving) (back : Pending) (next : SavingNext)
+takes-spells : (wsize : ℕ) (sent turn : Turn) (came : Result Reply Fault) (repeats : List Repeat) (s : Saving) (back : Pending) (next : SavingStep)
     (new : Saving) (after : Pending) (later : List Repeat)
     → wsize ≤ 65536 → saves.Takes wsize sent turn came repeats s back next new after later → AreSpellable back → Spells next after
 takes-spells wsize sent turn came repeats s back next new after later small takes all = by s.phase takes
@@ -290,7 +290,7 @@ takes-spells wsize sent turn came repeats s back next new after later small take
 abbrev pub SpellableSave : Saving → Pending → Type 0
 SpellableSave saving back = AreSpellable back
 
-left-spells : (next : SavingNext) (new : Saving) (after : Pending) → Spells next after → Left AreSpellable SpellableSave IsSpellable next new after
+left-spells : (next : SavingStep) (new : Saving) (after : Pending) → Spells next after → Left AreSpellable SpellableSave IsSpellable next new after
 left-spells (Send call) new after s = (s.0, s.1 call refl)
 left-spells Wait new after s = s.0
 left-spells (Ended result) new after s = s.0

@@ -13,10 +13,10 @@ use Rattle.write_back.specs.Segments.{Segments, end_of, head_of, before, after, 
 use Rattle.write_back.specs.Pieces.{FilePending, nothing, piece_under}
 use Rattle.write_back.specs.Files.{Pending, of_file, OnFile, with_bytes, numbers_of}
 use Rattle.write_back.proofs.WritesByFile.{same-or}
-use Rattle.client_shelf.specs.declared.next.Next.{Next}
+use Rattle.client_shelf.specs.declared.step.Step.{Step}
 use Rattle.file_ops.specs.declared.saving.Saving.{Saving}
-use Rattle.file_ops.specs.declared.saving.SavingNext.{SavingNext}
-use Rattle.file_ops.specs.declared.saving.SavingNext.TheVariants.{Send, Wait, Ended}
+use Rattle.file_ops.specs.declared.saving.SavingStep.{SavingStep}
+use Rattle.file_ops.specs.declared.saving.SavingStep.TheVariants.{Send, Wait, Ended}
 use Rattle.file_ops.specs.declared.sync_file.SyncFile.{SyncFile}
 use Rattle.file_ops.specs.declared.sync_file.Syncing.{Syncing}
 use Rattle.file_ops.specs.declared.sync_file.Syncing.TheVariants as syncing
@@ -154,13 +154,13 @@ gives-by-ready xid seq (Some fault) file opens old new g r = gives-ready xid seq
 pub kept-on : (xid seq : ℕ) (old : Pending) (new : Shelf) → new.seq ≡ seq → AreKept xid old new.back → IsReady xid seq old → IsReady (xid + 1) new.seq new.back
 kept-on xid seq old new is kept r = shelf-ready (xid + 1) seq new is (kept-ready xid seq old new.back kept r)
 
-sync-queues : (b : Bool) (wsize lane : ℕ) (turn : Turn) (saving : Saving) (old : Shelf) (next : Next) (state : Syncing) (new : Shelf)
+sync-queues : (b : Bool) (wsize lane : ℕ) (turn : Turn) (saving : Saving) (old : Shelf) (next : Step) (state : Syncing) (new : Shelf)
     → syncs.QueuesIf b wsize lane turn saving old next state new → IsReady turn.xid old.seq old.back → IsReady (turn.xid + 1) new.seq new.back
 sync-queues true wsize lane turn saving old next state new q r =
     kept-on turn.xid old.seq old.back new (ap (λ s. s.seq) q.others) (goes-kept wsize turn.xid turn.room false saving old.back q.gives q.saved new.back q.goes) r
 sync-queues false wsize lane turn saving old next state new q r = same-ready turn.xid old new q.shelf_is r
 
-pub sync-starts-ready : (wsize : ℕ) (machine : SyncFile) (turn : Turn) (old : Shelf) (next : Next) (state : Syncing) (new : Shelf)
+pub sync-starts-ready : (wsize : ℕ) (machine : SyncFile) (turn : Turn) (old : Shelf) (next : Step) (state : Syncing) (new : Shelf)
     → syncs.Starts wsize machine turn old next state new → IsReady turn.xid old.seq old.back → IsReady (turn.xid + 1) new.seq new.back
 sync-starts-ready wsize machine turn old next state new s r = at (file_at machine.lane machine.slot old.opens) s
   where
@@ -168,12 +168,12 @@ sync-starts-ready wsize machine turn old next state new s r = at (file_at machin
     at None s = same-ready turn.xid old new s.shelf_is r
     at (Some file) s = sync-queues (is_first machine.lane (joined machine.lane file old).order) wsize machine.lane turn (begun file old.seq) (joined machine.lane file old) next state new s r
 
-pub sync-resumes-ready : (at : Syncing) (wsize : ℕ) (machine : SyncFile) (turn : Turn) (old : Shelf) (next : Next) (state : Syncing) (new : Shelf)
+pub sync-resumes-ready : (at : Syncing) (wsize : ℕ) (machine : SyncFile) (turn : Turn) (old : Shelf) (next : Step) (state : Syncing) (new : Shelf)
     → syncs.Resumes at wsize machine turn old next state new → IsReady turn.xid old.seq old.back → IsReady (turn.xid + 1) new.seq new.back
 sync-resumes-ready syncing.Idle wsize machine turn old next state new s r = same-ready turn.xid old new s.shelf_is r
 sync-resumes-ready (syncing.Saves saving) wsize machine turn old next state new s r = sync-queues (is_first machine.lane old.order) wsize machine.lane turn saving old next state new s r
 
-pub sync-takes-ready : (at : Syncing) (wsize : ℕ) (machine : SyncFile) (sent turn : Turn) (came : Result Reply Fault) (old : Shelf) (next : Next) (state : Syncing) (new : Shelf)
+pub sync-takes-ready : (at : Syncing) (wsize : ℕ) (machine : SyncFile) (sent turn : Turn) (came : Result Reply Fault) (old : Shelf) (next : Step) (state : Syncing) (new : Shelf)
     → syncs.Takes at wsize machine sent turn came old next state new → IsReady turn.xid old.seq old.back → IsReady (turn.xid + 1) new.seq new.back
 sync-takes-ready syncing.Idle wsize machine sent turn came old next state new t r = same-ready turn.xid old new t.shelf_is r
 sync-takes-ready (syncing.Saves saving) wsize machine sent turn came old next state new t r =
@@ -181,11 +181,11 @@ sync-takes-ready (syncing.Saves saving) wsize machine sent turn came old next st
 
 -- ---- closes
 
-close-ends : (xid lane : ℕ) (file : List ℕ) (refusal : Option Fault) (old : Shelf) (next : Next) (state : Closing) (new : Shelf)
+close-ends : (xid lane : ℕ) (file : List ℕ) (refusal : Option Fault) (old : Shelf) (next : Step) (state : Closing) (new : Shelf)
     → closes.Ends lane file refusal old next state new → IsReady xid old.seq old.back → IsReady xid new.seq new.back
 close-ends xid lane file refusal old next state new e r = shelf-ready xid old.seq new (ap (λ s. s.seq) e.others) (gives-by-ready xid old.seq refusal file old.opens old.back new.back e.back r)
 
-close-frees : (xid lane slot : ℕ) (room : Bool) (file : List ℕ) (refusal : Option Fault) (old : Shelf) (next : Next) (state : Closing) (new : Shelf)
+close-frees : (xid lane slot : ℕ) (room : Bool) (file : List ℕ) (refusal : Option Fault) (old : Shelf) (next : Step) (state : Closing) (new : Shelf)
     → closes.Frees lane slot room file refusal old next state new → IsReady xid old.seq old.back → IsReady xid new.seq new.back
 close-frees xid lane slot room file refusal old next state new f r = at f.place f.ends
   where
@@ -196,19 +196,19 @@ close-frees xid lane slot room file refusal old next state new f r = at f.place 
     at None e = close-ends xid lane file refusal f.freed next state new e freed
     at (Some place) e = subst (λ s. IsReady xid s.seq s.back) (sym e.shelf_is) freed
 
-close-follows : (xid : ℕ) (gives : SavingNext) (lane slot : ℕ) (room begun : Bool) (saving : Saving) (old : Shelf) (next : Next) (state : Closing) (new : Shelf)
+close-follows : (xid : ℕ) (gives : SavingStep) (lane slot : ℕ) (room begun : Bool) (saving : Saving) (old : Shelf) (next : Step) (state : Closing) (new : Shelf)
     → closes.Follows gives lane slot room begun saving old next state new → IsReady xid old.seq old.back → IsReady xid new.seq new.back
 close-follows xid (Send call) lane slot room begun saving old next state new f r = subst (λ s. IsReady xid s.seq s.back) (sym f.2) r
 close-follows xid Wait lane slot room begun saving old next state new f r = subst (λ s. IsReady xid s.seq s.back) (sym f.2) r
 close-follows xid (Ended result) lane slot room begun saving old next state new f r = close-frees xid lane slot room saving.file (refusal_of result) old next state new f r
 
-close-on : (wsize lane slot : ℕ) (turn : Turn) (begun : Bool) (saving : Saving) (old : Shelf) (next : Next) (state : Closing) (new : Shelf)
+close-on : (wsize lane slot : ℕ) (turn : Turn) (begun : Bool) (saving : Saving) (old : Shelf) (next : Step) (state : Closing) (new : Shelf)
     → closes.GoesOn wsize lane slot turn begun saving old next state new → IsReady turn.xid old.seq old.back → IsReady (turn.xid + 1) new.seq new.back
 close-on wsize lane slot turn begun saving old next state new g r =
     close-follows (turn.xid + 1) g.gives lane slot turn.room begun g.saved g.gone next state new g.follows
     (kept-on turn.xid old.seq old.back g.gone (ap (λ s. s.seq) g.others) (goes-kept wsize turn.xid turn.room false saving old.back g.gives g.saved g.gone.back g.goes) r)
 
-close-queues : (b : Bool) (wsize lane slot : ℕ) (turn : Turn) (saving : Saving) (old : Shelf) (next : Next) (state : Closing) (new : Shelf)
+close-queues : (b : Bool) (wsize lane slot : ℕ) (turn : Turn) (saving : Saving) (old : Shelf) (next : Step) (state : Closing) (new : Shelf)
     → closes.QueuesIf b wsize lane slot turn saving old next state new → IsReady turn.xid old.seq old.back → IsReady (turn.xid + 1) new.seq new.back
 close-queues false wsize lane slot turn saving old next state new q r = same-ready turn.xid old new q.shelf_is r
 close-queues true wsize lane slot turn saving old next state new q r = at (last_end (of_file saving.file old.back).segments) q
@@ -217,7 +217,7 @@ close-queues true wsize lane slot turn saving old next state new q r = at (last_
     at None b = close-frees (turn.xid + 1) lane slot turn.room saving.file None old next state new b (next-ready turn.xid old.seq old.back r)
     at (Some end) b = close-on wsize lane slot turn false saving old next state new b r
 
-pub close-starts-ready : (wsize : ℕ) (machine : CloseFile) (turn : Turn) (old : Shelf) (next : Next) (state : Closing) (new : Shelf)
+pub close-starts-ready : (wsize : ℕ) (machine : CloseFile) (turn : Turn) (old : Shelf) (next : Step) (state : Closing) (new : Shelf)
     → closes.Starts wsize machine turn old next state new → IsReady turn.xid old.seq old.back → IsReady (turn.xid + 1) new.seq new.back
 close-starts-ready wsize machine turn old next state new s r = at (file_at machine.lane machine.slot old.opens) s
   where
@@ -225,7 +225,7 @@ close-starts-ready wsize machine turn old next state new s r = at (file_at machi
     at None s = same-ready turn.xid old new s.shelf_is r
     at (Some file) s = close-queues (is_first machine.lane (joined machine.lane file old).order) wsize machine.lane machine.slot turn (begun file old.seq) (joined machine.lane file old) next state new s r
 
-pub close-resumes-ready : (at : Closing) (wsize : ℕ) (machine : CloseFile) (turn : Turn) (old : Shelf) (next : Next) (state : Closing) (new : Shelf)
+pub close-resumes-ready : (at : Closing) (wsize : ℕ) (machine : CloseFile) (turn : Turn) (old : Shelf) (next : Step) (state : Closing) (new : Shelf)
     → closes.Resumes at wsize machine turn old next state new → IsReady turn.xid old.seq old.back → IsReady (turn.xid + 1) new.seq new.back
 close-resumes-ready closing.Idle wsize machine turn old next state new s r = same-ready turn.xid old new s.shelf_is r
 close-resumes-ready (closing.Queued saving) wsize machine turn old next state new s r = close-queues (is_first machine.lane old.order) wsize machine.lane machine.slot turn saving old next state new s r
@@ -237,7 +237,7 @@ close-resumes-ready (closing.Saves saving) wsize machine turn old next state new
 close-resumes-ready (closing.ToRemove removal) wsize machine turn old next state new s r = same-ready turn.xid old new s.shelf_is r
 close-resumes-ready (closing.Removing removal) wsize machine turn old next state new s r = same-ready turn.xid old new s.shelf_is r
 
-pub close-takes-ready : (at : Closing) (wsize : ℕ) (machine : CloseFile) (sent turn : Turn) (came : Result Reply Fault) (old : Shelf) (next : Next) (state : Closing) (new : Shelf)
+pub close-takes-ready : (at : Closing) (wsize : ℕ) (machine : CloseFile) (sent turn : Turn) (came : Result Reply Fault) (old : Shelf) (next : Step) (state : Closing) (new : Shelf)
     → closes.Takes at wsize machine sent turn came old next state new → IsReady turn.xid old.seq old.back → IsReady (turn.xid + 1) new.seq new.back
 close-takes-ready closing.Idle wsize machine sent turn came old next state new t r = same-ready turn.xid old new t.shelf_is r
 close-takes-ready (closing.Queued saving) wsize machine sent turn came old next state new t r = same-ready turn.xid old new t.shelf_is r
@@ -256,7 +256,7 @@ close-takes-ready (closing.Removing removal) wsize machine sent turn came old ne
 
 -- ---- writes
 
-write-saves : (b : Bool) (wsize lane : ℕ) (file : List ℕ) (saving : Saving) (turn : Turn) (shelf : Shelf) (next : Next) (new : Writing) (after : Shelf)
+write-saves : (b : Bool) (wsize lane : ℕ) (file : List ℕ) (saving : Saving) (turn : Turn) (shelf : Shelf) (next : Step) (new : Writing) (after : Shelf)
     → writes.SavesIf b wsize lane file saving turn shelf next new after → IsReady turn.xid shelf.seq shelf.back → IsReady (turn.xid + 1) after.seq after.back
 write-saves false wsize lane file saving turn shelf next new after s r = same-ready turn.xid shelf after s.shelf_is r
 write-saves true wsize lane file saving turn shelf next new after s r = subst (λ x. IsReady (turn.xid + 1) x.seq x.back) (sym s.leads.shelf_is) (told s.told)
@@ -264,13 +264,13 @@ write-saves true wsize lane file saving turn shelf next new after s r = subst (�
     kept : IsReady (turn.xid + 1) shelf.seq s.back
     kept = kept-ready turn.xid shelf.seq shelf.back s.back (goes-kept wsize turn.xid turn.room false saving shelf.back s.told s.saved s.back s.goes) r
 
-    told : (t : SavingNext) → IsReady (turn.xid + 1) (writes.room_shelf t lane (record shelf { back = s.back })).seq (writes.room_shelf t lane (record shelf { back = s.back })).back
+    told : (t : SavingStep) → IsReady (turn.xid + 1) (writes.room_shelf t lane (record shelf { back = s.back })).seq (writes.room_shelf t lane (record shelf { back = s.back })).back
     told (Send call) = kept
     told Wait = kept
     told (Ended (Ok done)) = kept
     told (Ended (Err fault)) = kept
 
-write-writes : (b : Bool) (wsize lane : ℕ) (file : List ℕ) (offset : ℕ) (bytes : List ℕ) (turn : Turn) (shelf : Shelf) (next : Next) (new : Writing) (after : Shelf)
+write-writes : (b : Bool) (wsize lane : ℕ) (file : List ℕ) (offset : ℕ) (bytes : List ℕ) (turn : Turn) (shelf : Shelf) (next : Step) (new : Writing) (after : Shelf)
     → writes.WritesIf b wsize lane file offset bytes turn shelf next new after → IsReady turn.xid shelf.seq shelf.back → IsReady (turn.xid + 1) after.seq after.back
 write-writes true wsize lane file offset bytes turn shelf next new after (inl s) r =
     write-saves (is_first lane (joined lane s.of shelf).order) wsize lane file (begun s.of shelf.seq) turn (joined lane s.of shelf) next new after s.saves r
@@ -280,11 +280,11 @@ write-writes false wsize lane file offset bytes turn shelf next new after (inl a
     (add-ready (turn.xid + 1) shelf.seq offset bytes file shelf.back after.back a.adds (next-ready turn.xid shelf.seq shelf.back r))
 write-writes false wsize lane file offset bytes turn shelf next new after (inr s) r = same-ready turn.xid shelf after s.shelf_is r
 
-pub writes-ready : (wsize lane : ℕ) (file : List ℕ) (offset : ℕ) (bytes : List ℕ) (turn : Turn) (shelf : Shelf) (next : Next) (new : Writing) (after : Shelf)
+pub writes-ready : (wsize lane : ℕ) (file : List ℕ) (offset : ℕ) (bytes : List ℕ) (turn : Turn) (shelf : Shelf) (next : Step) (new : Writing) (after : Shelf)
     → writes.Writes wsize lane file offset bytes turn shelf next new after → IsReady turn.xid shelf.seq shelf.back → IsReady (turn.xid + 1) after.seq after.back
 writes-ready wsize lane file offset bytes turn shelf next new after w r = write-writes (is_full bytes shelf.back) wsize lane file offset bytes turn shelf next new after w r
 
-pub write-starts-ready : (wsize : ℕ) (machine : WriteFile) (turn : Turn) (old : Shelf) (next : Next) (new : WriteFile) (after : Shelf)
+pub write-starts-ready : (wsize : ℕ) (machine : WriteFile) (turn : Turn) (old : Shelf) (next : Step) (new : WriteFile) (after : Shelf)
     → writes.Starts wsize machine turn old next new after → IsReady turn.xid old.seq old.back → IsReady (turn.xid + 1) after.seq after.back
 write-starts-ready wsize machine turn old next new after s r = at (file_to_write machine.lane machine.slot old.opens) s
   where
@@ -293,7 +293,7 @@ write-starts-ready wsize machine turn old next new after s r = at (file_to_write
     at (Ok file) (inl w) = writes-ready wsize machine.lane file machine.offset (writes.text_bytes machine.text) turn old next new.state after w.writes r
     at (Ok file) (inr u) = same-ready turn.xid old after u.refuses.shelf_is r
 
-pub write-resumes-ready : (at : Writing) (wsize lane : ℕ) (turn : Turn) (old : Shelf) (next : Next) (new : Writing) (after : Shelf)
+pub write-resumes-ready : (at : Writing) (wsize lane : ℕ) (turn : Turn) (old : Shelf) (next : Step) (new : Writing) (after : Shelf)
     → writes.ResumesIn at wsize lane turn old next new after → IsReady turn.xid old.seq old.back → IsReady (turn.xid + 1) after.seq after.back
 write-resumes-ready writing.Idle wsize lane turn old next new after s r = same-ready turn.xid old after s.shelf_is r
 write-resumes-ready (writing.Room file saving) wsize lane turn old next new after s r = write-saves (is_first lane old.order) wsize lane file saving turn old next new after s r
@@ -302,7 +302,7 @@ pub fewer-ready : (xid seq : ℕ) (old new : Pending) → AreFewer old new → I
 fewer-ready xid seq old new less r = record { first = r.first; numbers = λ file other c. r.numbers file other ((less.of file).numbers other c); xids = λ other above file. (less.of file).xids other (r.xids other above file) }
 
 -- Where the save has ended well it made no call, so that one may be made for more room.
-write-follows : (told : SavingNext) (wsize : ℕ) (machine : WriteFile) (file : List ℕ) (saved : Saving) (turn : Turn) (shelf : Shelf) (next : Next) (new : Writing) (after : Shelf)
+write-follows : (told : SavingStep) (wsize : ℕ) (machine : WriteFile) (file : List ℕ) (saved : Saving) (turn : Turn) (shelf : Shelf) (next : Step) (new : Writing) (after : Shelf)
     → writes.Follows told wsize machine file saved turn shelf next new after → (told ≡ Ended (Ok tt) → IsReady turn.xid shelf.seq shelf.back) → IsReady (turn.xid + 1) shelf.seq shelf.back → IsReady (turn.xid + 1) after.seq after.back
 write-follows (Ended (Ok done)) wsize machine file saved turn shelf next new after f well r =
     writes-ready wsize machine.lane file machine.offset (writes.made_bytes machine.text) turn (record shelf { order = left machine.lane shelf.order }) next new after f (well refl)
@@ -310,7 +310,7 @@ write-follows (Ended (Err fault)) wsize machine file saved turn shelf next new a
 write-follows (Send call) wsize machine file saved turn shelf next new after f well r = subst (λ x. IsReady (turn.xid + 1) x.seq x.back) (sym f.shelf_is) r
 write-follows Wait wsize machine file saved turn shelf next new after f well r = subst (λ x. IsReady (turn.xid + 1) x.seq x.back) (sym f.shelf_is) r
 
-pub write-takes-ready : (at : Writing) (wsize : ℕ) (machine : WriteFile) (sent turn : Turn) (came : Result Reply Fault) (old : Shelf) (next : Next) (new : Writing) (after : Shelf)
+pub write-takes-ready : (at : Writing) (wsize : ℕ) (machine : WriteFile) (sent turn : Turn) (came : Result Reply Fault) (old : Shelf) (next : Step) (new : Writing) (after : Shelf)
     → writes.TakesIn at wsize machine sent turn came old next new after → IsReady turn.xid old.seq old.back → IsReady (turn.xid + 1) after.seq after.back
 write-takes-ready writing.Idle wsize machine sent turn came old next new after t r = same-ready turn.xid old after t.shelf_is r
 write-takes-ready (writing.Room file saving) wsize machine sent turn came old next new after t r =

@@ -28,8 +28,8 @@ use Rattle.file_ops.specs.declared.judging.WriteTold.TheVariants.{Fails}
 use Rattle.file_ops.specs.declared.saving.Saving.{Saving}
 use Rattle.file_ops.specs.declared.saving.Phase.{Phase}
 use Rattle.file_ops.specs.declared.saving.Phase.TheVariants.{Sending, Committing, Resending, CommittingAgain}
-use Rattle.file_ops.specs.declared.saving.SavingNext.{SavingNext}
-use Rattle.file_ops.specs.declared.saving.SavingNext.TheVariants.{Send, Wait, Ended}
+use Rattle.file_ops.specs.declared.saving.SavingStep.{SavingStep}
+use Rattle.file_ops.specs.declared.saving.SavingStep.TheVariants.{Send, Wait, Ended}
 use Rattle.file_ops.specs.Judging.{commit_told}
 use Rattle.file_ops.specs.SlotFiles.{IsUnused}
 use Rattle.file_ops.specs.Saves as saves
@@ -140,18 +140,18 @@ abbrev pub AnyCall : Call → Type 0
 AnyCall call = Unit {0}
 
 -- what a step leaves under its xid, where nothing was in flight under it
-abbrev pub LeftMine : ℕ → SavingNext → Saving → Pending → Type 0
+abbrev pub LeftMine : ℕ → SavingStep → Saving → Pending → Type 0
 LeftMine xid next new after = Left (λ back. IsUnused xid back) (Mine xid) AnyCall next new after
 
-quiet-mine : (xid : ℕ) (next : SavingNext) (new : Saving) (after : Pending) → ((call : Call) → next ≡ Send call → ⊥) → IsUnused xid after
+quiet-mine : (xid : ℕ) (next : SavingStep) (new : Saving) (after : Pending) → ((call : Call) → next ≡ Send call → ⊥) → IsUnused xid after
     → LeftMine xid next new after
 quiet-mine xid next new after none free = left-quiet (λ back. IsUnused xid back) (Mine xid) AnyCall next new after none free
 
-sends-call : (xid : ℕ) (call : Call) (to : Saving) (next : SavingNext) (new : Saving) (after : Pending) → next ≡ Send call → new ≡ to → Mine xid to after
+sends-call : (xid : ℕ) (call : Call) (to : Saving) (next : SavingStep) (new : Saving) (after : Pending) → next ≡ Send call → new ≡ to → Mine xid to after
     → LeftMine xid next new after
 sends-call xid call to next new after n k mine = rw n (subst (λ (s : Saving). Mine xid s after) (sym k) mine, tt)
 
-sends-mine : (xid : ℕ) (by_reply : Bool) (run : Segments) (s : Saving) (back : Pending) (next : SavingNext) (new : Saving) (after : Pending)
+sends-mine : (xid : ℕ) (by_reply : Bool) (run : Segments) (s : Saving) (back : Pending) (next : SavingStep) (new : Saving) (after : Pending)
     → saves.is_sending s.phase ≡ true → saves.Sends xid by_reply run s back next new after → IsUnused xid back → LeftMine xid next new after
 sends-mine xid by_reply [] s back next new after sends (inl g) free = by (nat_lt 0 s.waiting) (saves.is_again s.phase && by_reply) g.0.gives_next g.0.keeps
   where
@@ -171,7 +171,7 @@ sends-mine xid by_reply (e ∷ es) s back next new after sends (inl g) free =
 sends-mine xid by_reply run s back next new after sends (inr g) free =
     quiet-mine xid next new after (refused-quiet s.waiting faults.Memory next g.0.gives_next) (same-unused xid back after g.1 free)
 
-goes-mine : (wsize xid : ℕ) (room by_reply : Bool) (s : Saving) (back : Pending) (next : SavingNext) (new : Saving) (after : Pending)
+goes-mine : (wsize xid : ℕ) (room by_reply : Bool) (s : Saving) (back : Pending) (next : SavingStep) (new : Saving) (after : Pending)
     → saves.Goes wsize xid room by_reply s back next new after → IsUnused xid back → LeftMine xid next new after
 goes-mine wsize xid room by_reply s back next new after goes free = over s.refusal goes
   where
@@ -185,20 +185,20 @@ goes-mine wsize xid room by_reply s back next new after goes free = over s.refus
     over (Some fault) g = quiet-mine xid next new after (refused-quiet s.waiting fault next g.0.gives_next) (same-unused xid back after g.1 free)
     over None g = may (saves.may_send room s) refl g
 
-write-mine : (wsize asked xid : ℕ) (room : Bool) (told : WriteTold) (s : Saving) (back : Pending) (next : SavingNext) (new : Saving) (after : Pending)
+write-mine : (wsize asked xid : ℕ) (room : Bool) (told : WriteTold) (s : Saving) (back : Pending) (next : SavingStep) (new : Saving) (after : Pending)
     → saves.TakesWrite wsize asked xid room told s back next new after → IsUnused xid back → LeftMine xid next new after
 write-mine wsize asked xid room told s back next new after t free =
     goes-mine wsize xid room t.counts (saves.refused_by t.refusal s) t.between next new after t.goes
     (fewer-unused xid back t.between (lands-fewer asked s.file told back t.between t.refusal t.lands) free)
 
-decides-mine : (verdict : Verdict) (wsize xid : ℕ) (room : Bool) (s : Saving) (back : Pending) (next : SavingNext) (new : Saving) (after : Pending)
+decides-mine : (verdict : Verdict) (wsize xid : ℕ) (room : Bool) (s : Saving) (back : Pending) (next : SavingStep) (new : Saving) (after : Pending)
     → saves.Decides verdict wsize xid room s back next new after → IsUnused xid back → LeftMine xid next new after
 decides-mine AllStable wsize xid room s back next new after d free =
     quiet-mine xid next new after (ended-quiet (Ok tt) next d.0.gives_next) (same-unused xid back after d.1 free)
 decides-mine (SendAgain count) wsize xid room s back next new after d free =
     goes-mine wsize xid room false (record s { phase = Resending }) back next new after d free
 
-committed-mine : (told : Result Verf Fault) (wsize xid : ℕ) (room : Bool) (s : Saving) (back : Pending) (next : SavingNext) (new : Saving) (after : Pending)
+committed-mine : (told : Result Verf Fault) (wsize xid : ℕ) (room : Bool) (s : Saving) (back : Pending) (next : SavingStep) (new : Saving) (after : Pending)
     → saves.TakesCommit wsize xid room told s back next new after → IsUnused xid back → LeftMine xid next new after
 committed-mine (Err fault) wsize xid room s back next new after t free =
     quiet-mine xid next new after (ended-quiet (Err fault) next t.0.gives_next) (same-unused xid back after t.1 free)
@@ -206,7 +206,7 @@ committed-mine (Ok verf) wsize xid room s back next new after t free =
     decides-mine (verdict_of (lost verf s.upto (of_file s.file back).segments)) wsize xid room s t.between next new after t.goes
     (fewer-unused xid back t.between (on-decided s.upto verf back t.between s.file t.decides) free)
 
-repeats-mine : (again : Bool) (wsize : ℕ) (sent turn : Turn) (told : WriteTold) (s : Saving) (back : Pending) (next : SavingNext) (new : Saving)
+repeats-mine : (again : Bool) (wsize : ℕ) (sent turn : Turn) (told : WriteTold) (s : Saving) (back : Pending) (next : SavingStep) (new : Saving)
     (after : Pending)
     → saves.is_sending s.phase ≡ true → saves.RepeatsWrite again wsize sent turn told s back next new after → IsUnused turn.xid back
     → LeftMine turn.xid next new after
@@ -217,7 +217,7 @@ repeats-mine true wsize sent turn told s back next new after sends r free =
 repeats-mine false wsize sent turn told s back next new after sends r free =
     write-mine wsize sent.xid turn.xid turn.room told (saves.less_waiting s) back next new after r free
 
-told-mine : (wsize : ℕ) (sent turn : Turn) (told : WriteTold) (repeats : List Repeat) (s : Saving) (back : Pending) (next : SavingNext) (new : Saving)
+told-mine : (wsize : ℕ) (sent turn : Turn) (told : WriteTold) (repeats : List Repeat) (s : Saving) (back : Pending) (next : SavingStep) (new : Saving)
     (after : Pending) (later : List Repeat)
     → saves.is_sending s.phase ≡ true → saves.TakesTold wsize sent turn told repeats s back next new after later → IsUnused turn.xid back
     → LeftMine turn.xid next new after
@@ -228,7 +228,7 @@ told-mine wsize sent turn told repeats s back next new after later sends t free 
     by true (inr g) = write-mine wsize sent.xid turn.xid turn.room (Fails faults.Memory) (saves.less_waiting s) back next new after g.0 free
     by false g = write-mine wsize sent.xid turn.xid turn.room told (saves.less_waiting s) back next new after g.0 free
 
-first-mine : (again : Bool) (told : Result Verf Fault) (wsize : ℕ) (turn : Turn) (s : Saving) (back : Pending) (next : SavingNext) (new : Saving)
+first-mine : (again : Bool) (told : Result Verf Fault) (wsize : ℕ) (turn : Turn) (s : Saving) (back : Pending) (next : SavingStep) (new : Saving)
     (after : Pending)
     → s.phase ≡ Committing → saves.TakesFirst again wsize turn told s back next new after → IsUnused turn.xid back → LeftMine turn.xid next new after
 first-mine true told wsize turn s back next new after at t free =
@@ -237,14 +237,14 @@ first-mine true told wsize turn s back next new after at t free =
 first-mine false told wsize turn s back next new after at t free =
     committed-mine told wsize turn.xid turn.room (saves.less_waiting s) back next new after t free
 
-last-mine : (again : Bool) (told : Result Verf Fault) (xid : ℕ) (s : Saving) (next : SavingNext) (new : Saving) (after : Pending)
+last-mine : (again : Bool) (told : Result Verf Fault) (xid : ℕ) (s : Saving) (next : SavingStep) (new : Saving) (after : Pending)
     → s.phase ≡ CommittingAgain → next ≡ saves.last_next again told s → new ≡ saves.last_saving again s → IsUnused xid after → LeftMine xid next new after
 last-mine true told xid s next new after at n k free =
     sends-call xid (saves.commit_of s.file) (saves.put_off_more s) next new after n k (subst (λ (p : Phase). MineIn p xid s.file after) (sym at) free)
 last-mine false (Ok verf) xid s next new after at n k free = quiet-mine xid next new after (ended-quiet (Ok tt) next n) free
 last-mine false (Err fault) xid s next new after at n k free = quiet-mine xid next new after (ended-quiet (Err fault) next n) free
 
-takes-mine : (wsize : ℕ) (sent turn : Turn) (came : Result Reply Fault) (repeats : List Repeat) (s : Saving) (back : Pending) (next : SavingNext)
+takes-mine : (wsize : ℕ) (sent turn : Turn) (came : Result Reply Fault) (repeats : List Repeat) (s : Saving) (back : Pending) (next : SavingStep)
     (new : Saving) (after : Pending) (later : List Repeat)
     → saves.Takes wsize sent turn came repeats s back next new after later → IsUnused turn.xid back → LeftMine turn.xid next new after
 takes-mine wsize sent turn came repeats s back next new after later takes free = by s.phase refl takes
@@ -259,7 +259,7 @@ takes-mine wsize sent turn came repeats s back next new after later takes free =
 
 -- ---- and takes a refusal in its place, with no room for another call
 
-refused-unused : (wsize : ℕ) (sent turn : Turn) (fault : Fault) (repeats : List Repeat) (s : Saving) (back : Pending) (next : SavingNext) (new : Saving)
+refused-unused : (wsize : ℕ) (sent turn : Turn) (fault : Fault) (repeats : List Repeat) (s : Saving) (back : Pending) (next : SavingStep) (new : Saving)
     (after : Pending) (later : List Repeat)
     → turn.room ≡ false → saves.Takes wsize sent turn (Err fault) repeats s back next new after later → Mine sent.xid s back → IsUnused sent.xid after
 refused-unused wsize sent turn fault repeats s back next new after later none takes mine = by s.phase refl takes

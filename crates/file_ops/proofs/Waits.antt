@@ -12,11 +12,11 @@ use Rattle.page_cache.specs.Pages.{Pages}
 use Rattle.client_shelf.specs.declared.shelf.Shelf.{Shelf}
 use Rattle.client_shelf.specs.declared.turn.Turn.{Turn}
 use Rattle.client_shelf.specs.LaneFiles.{is_first}
-use Rattle.client_shelf.specs.declared.next.Next.{Next}
-use Rattle.client_shelf.specs.declared.next.Next.TheVariants as nexts
+use Rattle.client_shelf.specs.declared.step.Step.{Step}
+use Rattle.client_shelf.specs.declared.step.Step.TheVariants as nexts
 use Rattle.file_ops.specs.declared.saving.Saving.{Saving}
-use Rattle.file_ops.specs.declared.saving.SavingNext.{SavingNext}
-use Rattle.file_ops.specs.declared.saving.SavingNext.TheVariants.{Send, Wait, Ended}
+use Rattle.file_ops.specs.declared.saving.SavingStep.{SavingStep}
+use Rattle.file_ops.specs.declared.saving.SavingStep.TheVariants.{Send, Wait, Ended}
 use Rattle.file_ops.specs.declared.close_file.CloseFile.{CloseFile}
 use Rattle.file_ops.specs.declared.close_file.Closing.{Closing}
 use Rattle.file_ops.specs.declared.close_file.Closing.TheVariants as closing
@@ -50,15 +50,15 @@ use Rattle.file_ops.proofs.Puts.{resumes-not}
 
 -- ---- closes
 
-done-not : {A : Type 0} → (answer : Answer) (next : Next) → next ≡ nexts.Done answer → next ≡ nexts.Wait → A
+done-not : {A : Type 0} → (answer : Answer) (next : Step) → next ≡ nexts.Done answer → next ≡ nexts.Wait → A
 done-not answer next is waits = let no-way : nexts.Done answer ≡ nexts.Wait = sym is ∙ waits in absurd cc
 
-ends-at : (place : Option (List ℕ × List ℕ)) (lane : ℕ) (file : List ℕ) (refusal : Option Fault) (old : Shelf) (next : Next) (state : Closing) (new : Shelf)
+ends-at : (place : Option (List ℕ × List ℕ)) (lane : ℕ) (file : List ℕ) (refusal : Option Fault) (old : Shelf) (next : Step) (state : Closing) (new : Shelf)
     → closes.EndsAt place lane true file refusal old next state new → next ≡ nexts.Wait → ⊥
 ends-at None lane file refusal old next state new e waits = done-not (closed_answer refusal) next e.next_is waits
 ends-at (Some place) lane file refusal old next state new e waits = let no-way : nexts.Send (remove_of (record { file = file; dir = place.0; name = place.1; refusal = refusal })) ≡ nexts.Wait = sym e.next_is ∙ waits in absurd cc
 
-close-on : (gives : SavingNext) (wsize lane slot : ℕ) (turn : Turn) (begun : Bool) (saving saved : Saving) (old gone : Shelf) (next : Next) (state : Closing) (new : Shelf)
+close-on : (gives : SavingStep) (wsize lane slot : ℕ) (turn : Turn) (begun : Bool) (saving saved : Saving) (old gone : Shelf) (next : Step) (state : Closing) (new : Shelf)
     → turn.room ≡ true → Goes wsize turn.xid turn.room false saving old.back gives saved gone.back → gone ≡ record old { back = gone.back }
     → closes.Follows gives lane slot turn.room begun saved gone next state new → next ≡ nexts.Wait → StaysSo (closes.waits_as begun saving) state old new
 close-on (Send call) wsize lane slot turn begun saving saved old gone next state new room goes others f ends = let no-way : nexts.Send call ≡ nexts.Wait = sym f.0 ∙ ends in absurd cc
@@ -68,14 +68,14 @@ close-on Wait wsize lane slot turn begun saving saved old gone next state new ro
     let still = goes-still wsize turn.xid turn.room saving old.back Wait saved gone.back goes refl in
     (f.1 ∙ ap (λ s. closes.waits_as begun s) still.0, f.2 ∙ others ∙ ap (λ b. record old { back = b }) still.1)
 
-close-begins : (end : Option ℕ) (wsize lane slot : ℕ) (turn : Turn) (saving : Saving) (old : Shelf) (next : Next) (state : Closing) (new : Shelf)
+close-begins : (end : Option ℕ) (wsize lane slot : ℕ) (turn : Turn) (saving : Saving) (old : Shelf) (next : Step) (state : Closing) (new : Shelf)
     → turn.room ≡ true → closes.Begins end wsize lane slot turn saving old next state new → next ≡ nexts.Wait → StaysSo (closing.Queued saving) state old new
 close-begins None wsize lane slot turn saving old next state new room b waits =
     absurd (ends-at b.place lane saving.file None b.freed next state new (subst (λ r. closes.EndsAt b.place lane r saving.file None b.freed next state new) room b.ends) waits)
 close-begins (Some end) wsize lane slot turn saving old next state new room b waits =
     close-on b.gives wsize lane slot turn false saving b.saved old b.gone next state new room b.goes b.others b.follows waits
 
-pub close-still : (at : Closing) (wsize : ℕ) (machine : CloseFile) (turn : Turn) (old : Shelf) (next : Next) (state : Closing) (new : Shelf)
+pub close-still : (at : Closing) (wsize : ℕ) (machine : CloseFile) (turn : Turn) (old : Shelf) (next : Step) (state : Closing) (new : Shelf)
     → turn.room ≡ true → closes.Resumes at wsize machine turn old next state new → next ≡ nexts.Wait → StaysSo at state old new
 close-still closing.Idle wsize machine turn old next state new room r waits = (r.state_is, r.shelf_is)
 close-still (closing.Queued saving) wsize machine turn old next state new room r waits = by (is_first machine.lane old.order) r
@@ -95,7 +95,7 @@ close-still (closing.Removing removal) wsize machine turn old next state new roo
 
 -- ---- puts
 
-put-on : (gives : SavingNext) (wsize lane : ℕ) (turn : Turn) (saving saved : Saving) (old gone : Shelf) (next : Next) (state : Putting) (new : Shelf)
+put-on : (gives : SavingStep) (wsize lane : ℕ) (turn : Turn) (saving saved : Saving) (old gone : Shelf) (next : Step) (state : Putting) (new : Shelf)
     → Goes wsize turn.xid turn.room false saving old.back gives saved gone.back → gone ≡ record old { back = gone.back }
     → puts.Follows gives lane saved gone next state new → next ≡ nexts.Wait → StaysSo (putting.Saves saving) state old new
 put-on (Send call) wsize lane turn saving saved old gone next state new goes others f waits = let no-way : nexts.Send call ≡ nexts.Wait = sym f.0 ∙ waits in absurd cc
@@ -104,7 +104,7 @@ put-on Wait wsize lane turn saving saved old gone next state new goes others f w
     let still = goes-still wsize turn.xid turn.room saving old.back Wait saved gone.back goes refl in
     (f.1 ∙ ap (λ s. putting.Saves s) still.0, f.2 ∙ others ∙ ap (λ b. record old { back = b }) still.1)
 
-put-queues : (wsize lane : ℕ) (turn : Turn) (saving : Saving) (old : Shelf) (next : Next) (state : Putting) (new : Shelf)
+put-queues : (wsize lane : ℕ) (turn : Turn) (saving : Saving) (old : Shelf) (next : Step) (state : Putting) (new : Shelf)
     → puts.Queues wsize lane turn saving old next state new → next ≡ nexts.Wait → StaysSo (putting.Saves saving) state old new
 put-queues wsize lane turn saving old next state new q waits = by (is_first lane old.order) q
   where
@@ -112,7 +112,7 @@ put-queues wsize lane turn saving old next state new q waits = by (is_first lane
     by true g = put-on g.gives wsize lane turn saving g.saved old g.gone next state new g.goes g.others g.follows waits
     by false w = (w.state_is, w.shelf_is)
 
-put-room : (told : Next) (wsize : ℕ) (machine : PutFile) (file : List ℕ) (turn : Turn) (written : Writing) (old mid : Shelf) (next : Next) (new : PutFile) (after : Shelf)
+put-room : (told : Step) (wsize : ℕ) (machine : PutFile) (file : List ℕ) (turn : Turn) (written : Writing) (old mid : Shelf) (next : Step) (new : PutFile) (after : Shelf)
     → machine.state ≡ putting.Adds file → ResumesIn machine.write.state wsize machine.write.lane turn old told written mid
     → puts.WritesOn wsize machine file turn told written mid next new after → next ≡ nexts.Wait → StaysSo machine new old after
 put-room (nexts.Send call) wsize machine file turn written old mid next new after at r g waits = let no-way : nexts.Send call ≡ nexts.Wait = sym g.follows.0 ∙ waits in absurd cc
@@ -123,7 +123,7 @@ put-room nexts.Wait wsize machine file turn written old mid next new after at r 
     let still = write-still machine.write.state wsize machine.write.lane turn old nexts.Wait written mid r refl in
     (g.machine_is ∙ ap (λ w. record machine { write = record machine.write { state = w }; state = new.state }) still.0 ∙ ap (λ s. record machine { state = s }) (g.follows.1 ∙ sym at), g.follows.2 ∙ still.1)
 
-pub put-still : (at : Putting) (wsize : ℕ) (machine : PutFile) (turn : Turn) (old : Shelf) (next : Next) (new : PutFile) (after : Shelf)
+pub put-still : (at : Putting) (wsize : ℕ) (machine : PutFile) (turn : Turn) (old : Shelf) (next : Step) (new : PutFile) (after : Shelf)
     → machine.state ≡ at → puts.Resumes at wsize machine turn old next new after → next ≡ nexts.Wait → StaysSo machine new old after
 put-still putting.Idle wsize machine turn old next new after is r waits = (r.machine_is, r.shelf_is)
 put-still putting.Opens wsize machine turn old next new after is r waits = by (opening.waits machine.opening turn) refl
@@ -138,7 +138,7 @@ put-still (putting.Saves saving) wsize machine turn old next new after is r wait
 
 -- ---- opens
 
-pub open-still : (machine : OpenFile) (turn : Turn) (next : Next) (new : OpenFile) → next ≡ goes_as (opening.go_next machine.opening turn) → new ≡ gone machine turn → next ≡ nexts.Wait → new ≡ machine
+pub open-still : (machine : OpenFile) (turn : Turn) (next : Step) (new : OpenFile) → next ≡ goes_as (opening.go_next machine.opening turn) → new ≡ gone machine turn → next ≡ nexts.Wait → new ≡ machine
 open-still machine turn next new is keeps waits = by (opening.waits machine.opening turn) refl
   where
     by : (b : Bool) → opening.waits machine.opening turn ≡ b → new ≡ machine
@@ -147,7 +147,7 @@ open-still machine turn next new is keeps waits = by (opening.waits machine.open
 
 -- ---- truncates
 
-pub truncate-still : (at : Truncating) (machine : TruncateFile) (turn : Turn) (old : Shelf) (next : Next) → next ≡ truncates.resumed_next at machine turn old → next ≡ nexts.Wait → truncates.resumed_state at machine turn old ≡ at
+pub truncate-still : (at : Truncating) (machine : TruncateFile) (turn : Turn) (old : Shelf) (next : Step) → next ≡ truncates.resumed_next at machine turn old → next ≡ nexts.Wait → truncates.resumed_state at machine turn old ≡ at
 truncate-still truncating.Idle machine turn old next is waits = refl
 truncate-still (truncating.Asked file upto) machine turn old next is waits = refl
 truncate-still (truncating.Queued file upto) machine turn old next is waits = by (truncates.may_ask machine.lane file turn old) refl
@@ -158,16 +158,16 @@ truncate-still (truncating.Queued file upto) machine turn old next is waits = by
 
 -- ---- reads
 
-read-from : (phase : Phase) (s : reads.State) (back : Pending) (next : Next) → s.reading.phase ≡ phase → reads.wants phase ≡ true → reads.Goes true back s next → next ≡ nexts.Wait → ⊥
+read-from : (phase : Phase) (s : reads.State) (back : Pending) (next : Step) → s.reading.phase ≡ phase → reads.wants phase ≡ true → reads.Goes true back s next → next ≡ nexts.Wait → ⊥
 read-from phase s back next is wants goes waits =
     let asks : reads.wants s.reading.phase ≡ true = ap (λ p. reads.wants p) is ∙ wants in
     let sends : next ≡ nexts.Send (reads.asked_call s) = (rw asks at goes) in
     let no-way : nexts.Send (reads.asked_call s) ≡ nexts.Wait = sym sends ∙ waits in absurd cc
 
-ended-waits : (s : reads.State) (back : Pending) (next : Next) → s.reading.phase ≡ phases.Ended → reads.Goes true back s next → next ≡ nexts.Wait → ⊥
+ended-waits : (s : reads.State) (back : Pending) (next : Step) → s.reading.phase ≡ phases.Ended → reads.Goes true back s next → next ≡ nexts.Wait → ⊥
 ended-waits s back next ended goes waits = let shows : next ≡ reads.shown_next (reads.answer_of s.reading back) = (rw ended at goes) in done-not (answers.Done (values.Bytes (reads.answer_of s.reading back))) next shows waits
 
-found-waits : (f : Found) (s : reads.State) (back : Pending) (next : Next) → s.reading.phase ≡ reads.phase_of f → reads.Goes true back s next → next ≡ nexts.Wait → ⊥
+found-waits : (f : Found) (s : reads.State) (back : Pending) (next : Step) → s.reading.phase ≡ reads.phase_of f → reads.Goes true back s next → next ≡ nexts.Wait → ⊥
 found-waits found.Wanted s back next is goes waits = read-from phases.Pages s back next is refl goes waits
 found-waits found.Page s back next is goes waits = ended-waits s back next is goes waits
 found-waits found.Ended s back next is goes waits = ended-waits s back next is goes waits
@@ -185,7 +185,7 @@ asked-still phase m reading pages new later is wants same at machine kept =
         ap (λ b. if true && b then reads.asked (record { reading = reading; pages = pages }) else record { reading = reads.answered reading.phase reading; pages = pages }) (ap (λ p. reads.wants p) is ∙ wants)
         ∙ ap (λ r. record { reading = r; pages = pages }) (ap (λ p. reads.answered p reading) is ∙ same)
 
-pub read-still : (at : Option Reading) (m : ReadFile) (pages : Pages) (back : Pending) (next : Next) (new : ReadFile) (later : Pages)
+pub read-still : (at : Option Reading) (m : ReadFile) (pages : Pages) (back : Pending) (next : Step) (new : ReadFile) (later : Pages)
     → m.reading ≡ at → files.ResumesIn at true m pages back next new later → next ≡ nexts.Wait → (new ≡ m) × (later ≡ pages)
 read-still None m pages back next new later at r waits = (r.machine, r.kept)
 read-still (Some reading) m pages back next new later at r waits = by reading.phase refl r

@@ -16,11 +16,11 @@ use Rattle.client_shelf.specs.declared.turn.Turn.{Turn}
 use Rattle.client_shelf.specs.LaneFiles.{left, is_first}
 use Rattle.client_shelf.specs.Repeats.{times_of, ended}
 use Rattle.client_shelf.specs.Spelling.{IsSpellable}
-use Rattle.client_shelf.specs.declared.next.Next.{Next}
-use Rattle.client_shelf.specs.declared.next.Next.TheVariants as nexts
+use Rattle.client_shelf.specs.declared.step.Step.{Step}
+use Rattle.client_shelf.specs.declared.step.Step.TheVariants as nexts
 use Rattle.file_ops.specs.declared.saving.Saving.{Saving}
-use Rattle.file_ops.specs.declared.saving.SavingNext.{SavingNext}
-use Rattle.file_ops.specs.declared.saving.SavingNext.TheVariants.{Send, Wait, Ended}
+use Rattle.file_ops.specs.declared.saving.SavingStep.{SavingStep}
+use Rattle.file_ops.specs.declared.saving.SavingStep.TheVariants.{Send, Wait, Ended}
 use Rattle.file_ops.specs.declared.sync_file.SyncFile.{SyncFile}
 use Rattle.file_ops.specs.declared.sync_file.Syncing.{Syncing}
 use Rattle.file_ops.specs.declared.sync_file.Syncing.TheVariants as syncing
@@ -45,13 +45,13 @@ use Rattle.file_ops.specs.WriteFile as writes
 -- ---- what is carried through a step
 
 -- Of what is pending: P before a step and after it, N or M where a save has asked for a call before or in the step. Of its call: Q.
-abbrev pub Left : (Pending → Type 0) → (Saving → Pending → Type 0) → (Call → Type 0) → SavingNext → Saving → Pending → Type 0
+abbrev pub Left : (Pending → Type 0) → (Saving → Pending → Type 0) → (Call → Type 0) → SavingStep → Saving → Pending → Type 0
 Left P M Q (Send call) saving back = M saving back × Q call
 Left P M Q Wait saving back = P back
 Left P M Q (Ended result) saving back = P back
 
 -- the same of a machine's step, where H says it of the machine's state
-abbrev pub LeftAs : {S : Type 0} → (Pending → Type 0) → (S → Pending → Type 0) → (Call → Type 0) → Next → S → Pending → Type 0
+abbrev pub LeftAs : {S : Type 0} → (Pending → Type 0) → (S → Pending → Type 0) → (Call → Type 0) → Step → S → Pending → Type 0
 LeftAs P H Q (nexts.Send call) state back = H state back × Q call
 LeftAs P H Q nexts.Wait state back = P back
 LeftAs P H Q (nexts.Done answer) state back = P back
@@ -62,7 +62,7 @@ SamePieces old new = (file : List ℕ) → ((of_file file new).pieces ≡ (of_fi
 
 -- what a step of a save without a reply makes of it, and what else a machine may do
 pub record Carries (wsize : ℕ) (turn : Turn) (P : Pending → Type 0) (M : Saving → Pending → Type 0) (Q : Call → Type 0) : Type 0 where
-  pub goes : (by_reply : Bool) (s : Saving) (back : Pending) (next : SavingNext) (new : Saving) (after : Pending)
+  pub goes : (by_reply : Bool) (s : Saving) (back : Pending) (next : SavingStep) (new : Saving) (after : Pending)
       → saves.Goes wsize turn.xid turn.room by_reply s back next new after → P back → Left P M Q next new after
   pub pieces : (old new : Pending) → SamePieces old new → P old → P new
   pub plain : (call : Call) → turn.room ≡ true → IsSpellable call → Q call
@@ -70,7 +70,7 @@ pub record Carries (wsize : ℕ) (turn : Turn) (P : Pending → Type 0) (M : Sav
 -- and one with what came of its call
 pub record CarriesReply (wsize : ℕ) (sent turn : Turn) (came : Result Reply Fault) (P : Pending → Type 0) (N M : Saving → Pending → Type 0)
     (Q : Call → Type 0) : Type 0 where
-  pub takes : (repeats : List Repeat) (s : Saving) (back : Pending) (next : SavingNext) (new : Saving) (after : Pending) (later : List Repeat)
+  pub takes : (repeats : List Repeat) (s : Saving) (back : Pending) (next : SavingStep) (new : Saving) (after : Pending) (later : List Repeat)
       → saves.Takes wsize sent turn came repeats s back next new after later → N s back → Left P M Q next new after
 
 -- ---- pieces that stay, or are given up
@@ -127,15 +127,15 @@ again-room busy sent turn repeats h = by turn.room refl
 -- ---- machines of which each waits where it did
 
 -- a step after which the shelf and what is pending are as before
-pub waits-left : {S : Type 0} → (P : Pending → Type 0) (H : S → Pending → Type 0) (Q : Call → Type 0) (next : Next) (state : S) (old new : Pending)
+pub waits-left : {S : Type 0} → (P : Pending → Type 0) (H : S → Pending → Type 0) (Q : Call → Type 0) (next : Step) (state : S) (old new : Pending)
     → next ≡ nexts.Wait → new ≡ old → P old → LeftAs P H Q next state new
 waits-left P H Q next state old new waits same p = rw waits (subst P (sym same) p)
 
-pub done-left : {S : Type 0} → (P : Pending → Type 0) (H : S → Pending → Type 0) (Q : Call → Type 0) (answer : Answer) (next : Next) (state : S)
+pub done-left : {S : Type 0} → (P : Pending → Type 0) (H : S → Pending → Type 0) (Q : Call → Type 0) (answer : Answer) (next : Step) (state : S)
     (old new : Pending) → next ≡ nexts.Done answer → new ≡ old → P old → LeftAs P H Q next state new
 done-left P H Q answer next state old new done same p = rw done (subst P (sym same) p)
 
-pub asks-left : {S : Type 0} → (P : Pending → Type 0) (H : S → Pending → Type 0) (Q : Call → Type 0) (call : Call) (next : Next) (state : S)
+pub asks-left : {S : Type 0} → (P : Pending → Type 0) (H : S → Pending → Type 0) (Q : Call → Type 0) (call : Call) (next : Step) (state : S)
     (old new : Pending) → next ≡ nexts.Send call → new ≡ old → H state old → Q call → LeftAs P H Q next state new
 asks-left P H Q call next state old new asks same h q = rw asks (subst (H state) (sym same) h, q)
 
@@ -146,20 +146,20 @@ SyncHas P M syncing.Idle back = P back
 SyncHas P M (syncing.Saves saving) back = M saving back
 
 module _ (wsize : ℕ) (turn : Turn) (P : Pending → Type 0) (M : Saving → Pending → Type 0) (Q : Call → Type 0) (w : Carries wsize turn P M Q) where
-  sync-as : (gives : SavingNext) (saving : Saving) (next : Next) (state : Syncing) (back : Pending) → next ≡ syncs.sync_next gives
+  sync-as : (gives : SavingStep) (saving : Saving) (next : Step) (state : Syncing) (back : Pending) → next ≡ syncs.sync_next gives
       → state ≡ syncs.sync_state gives saving → Left P M Q gives saving back → LeftAs P (SyncHas P M) Q next state back
   sync-as (Send call) saving next state back n s l = rw (n, s) l
   sync-as Wait saving next state back n s l = rw n l
   sync-as (Ended result) saving next state back n s l = rw n l
 
-  sync-queues : (b : Bool) (lane : ℕ) (saving : Saving) (old : Shelf) (next : Next) (state : Syncing) (new : Shelf)
+  sync-queues : (b : Bool) (lane : ℕ) (saving : Saving) (old : Shelf) (next : Step) (state : Syncing) (new : Shelf)
       → syncs.QueuesIf b wsize lane turn saving old next state new → P old.back → LeftAs P (SyncHas P M) Q next state new.back
   sync-queues true lane saving old next state new q p = sync-as q.gives q.saved next state new.back q.follows.next_is q.follows.state_is
       (w.goes false saving old.back q.gives q.saved new.back q.goes p)
   sync-queues false lane saving old next state new q p = waits-left P (SyncHas P M) Q next state old.back new.back q.next_is
       (ap (λ (s : Shelf). s.back) q.shelf_is) p
 
-  pub sync-starts : (machine : SyncFile) (old : Shelf) (next : Next) (state : Syncing) (new : Shelf) → syncs.Starts wsize machine turn old next state new
+  pub sync-starts : (machine : SyncFile) (old : Shelf) (next : Step) (state : Syncing) (new : Shelf) → syncs.Starts wsize machine turn old next state new
       → P old.back → LeftAs P (SyncHas P M) Q next state new.back
   sync-starts machine old next state new s p = at (file_at machine.lane machine.slot old.opens) s
     where
@@ -168,14 +168,14 @@ module _ (wsize : ℕ) (turn : Turn) (P : Pending → Type 0) (M : Saving → Pe
       at (Some file) s = sync-queues (is_first machine.lane (joined machine.lane file old).order) machine.lane (saves.begun file old.seq)
           (joined machine.lane file old) next state new s p
 
-  pub sync-resumes : (at : Syncing) (machine : SyncFile) (old : Shelf) (next : Next) (state : Syncing) (new : Shelf)
+  pub sync-resumes : (at : Syncing) (machine : SyncFile) (old : Shelf) (next : Step) (state : Syncing) (new : Shelf)
       → syncs.Resumes at wsize machine turn old next state new → P old.back → LeftAs P (SyncHas P M) Q next state new.back
   sync-resumes syncing.Idle machine old next state new s p = waits-left P (SyncHas P M) Q next state old.back new.back s.next_is
       (ap (λ (s : Shelf). s.back) s.shelf_is) p
   sync-resumes (syncing.Saves saving) machine old next state new s p = sync-queues (is_first machine.lane old.order) machine.lane saving old next state new s p
 
   pub sync-takes : (sent : Turn) (came : Result Reply Fault) (N : Saving → Pending → Type 0) → CarriesReply wsize sent turn came P N M Q
-      → (at : Syncing) (machine : SyncFile) (old : Shelf) (next : Next) (state : Syncing) (new : Shelf)
+      → (at : Syncing) (machine : SyncFile) (old : Shelf) (next : Step) (state : Syncing) (new : Shelf)
       → syncs.Takes at wsize machine sent turn came old next state new → SyncHas P N at old.back → LeftAs P (SyncHas P M) Q next state new.back
   sync-takes sent came N v syncing.Idle machine old next state new t h = waits-left P (SyncHas P M) Q next state old.back new.back t.next_is
       (ap (λ (s : Shelf). s.back) t.shelf_is) h
@@ -193,23 +193,23 @@ CloseHas P M (closing.ToRemove removal) back = P back
 CloseHas P M (closing.Removing removal) back = P back
 
 module _ (wsize : ℕ) (turn : Turn) (P : Pending → Type 0) (M : Saving → Pending → Type 0) (Q : Call → Type 0) (w : Carries wsize turn P M Q) where
-  close-waits : (next : Next) (state : Closing) (old new : Shelf) → next ≡ nexts.Wait → new ≡ old → P old.back → LeftAs P (CloseHas P M) Q next state new.back
+  close-waits : (next : Step) (state : Closing) (old new : Shelf) → next ≡ nexts.Wait → new ≡ old → P old.back → LeftAs P (CloseHas P M) Q next state new.back
   close-waits next state old new waits same p = waits-left P (CloseHas P M) Q next state old.back new.back waits (ap (λ (s : Shelf). s.back) same) p
 
-  close-ends : (lane : ℕ) (file : List ℕ) (refusal : Option Fault) (old : Shelf) (next : Next) (state : Closing) (new : Shelf)
+  close-ends : (lane : ℕ) (file : List ℕ) (refusal : Option Fault) (old : Shelf) (next : Step) (state : Closing) (new : Shelf)
       → closes.Ends lane file refusal old next state new → P old.back → LeftAs P (CloseHas P M) Q next state new.back
   close-ends lane file refusal old next state new e p =
       done-left P (CloseHas P M) Q (closed_answer refusal) next state new.back new.back e.next_is refl
       (w.pieces old.back new.back (given-by refusal file old.opens old.back new.back e.back) p)
 
-  close-asks : (b : Bool) (removal : Removal) (old : Shelf) (next : Next) (state : Closing) (new : Shelf) → turn.room ≡ b
+  close-asks : (b : Bool) (removal : Removal) (old : Shelf) (next : Step) (state : Closing) (new : Shelf) → turn.room ≡ b
       → closes.Asks b removal old next state new → P old.back → LeftAs P (CloseHas P M) Q next state new.back
   close-asks true removal old next state new room a p =
       rw (a.state_is) (asks-left P (CloseHas P M) Q (remove_of removal) next (closing.Removing removal) old.back new.back a.next_is
       (ap (λ (s : Shelf). s.back) a.shelf_is) p (w.plain (remove_of removal) room tt))
   close-asks false removal old next state new room a p = close-waits next state old new a.next_is a.shelf_is p
 
-  close-frees : (lane slot : ℕ) (file : List ℕ) (refusal : Option Fault) (old : Shelf) (next : Next) (state : Closing) (new : Shelf)
+  close-frees : (lane slot : ℕ) (file : List ℕ) (refusal : Option Fault) (old : Shelf) (next : Step) (state : Closing) (new : Shelf)
       → closes.Frees lane slot turn.room file refusal old next state new → P old.back → LeftAs P (CloseHas P M) Q next state new.back
   close-frees lane slot file refusal old next state new f p = at f.place f.ends
     where
@@ -221,7 +221,7 @@ module _ (wsize : ℕ) (turn : Turn) (P : Pending → Type 0) (M : Saving → Pe
       at None e = close-ends lane file refusal f.freed next state new e freed
       at (Some place) e = close-asks turn.room (record { file = file; dir = place.0; name = place.1; refusal = refusal }) f.freed next state new refl e freed
 
-  close-follows : (gives : SavingNext) (lane slot : ℕ) (begun : Bool) (saving : Saving) (old : Shelf) (next : Next) (state : Closing) (new : Shelf)
+  close-follows : (gives : SavingStep) (lane slot : ℕ) (begun : Bool) (saving : Saving) (old : Shelf) (next : Step) (state : Closing) (new : Shelf)
       → closes.Follows gives lane slot turn.room begun saving old next state new → Left P M Q gives saving old.back
       → LeftAs P (CloseHas P M) Q next state new.back
   close-follows (Send call) lane slot begun saving old next state new f l =
@@ -229,12 +229,12 @@ module _ (wsize : ℕ) (turn : Turn) (P : Pending → Type 0) (M : Saving → Pe
   close-follows Wait lane slot begun saving old next state new f l = close-waits next state old new f.0 f.2 l
   close-follows (Ended result) lane slot begun saving old next state new f l = close-frees lane slot saving.file (refusal_of result) old next state new f l
 
-  close-on : (lane slot : ℕ) (begun : Bool) (saving : Saving) (old : Shelf) (next : Next) (state : Closing) (new : Shelf)
+  close-on : (lane slot : ℕ) (begun : Bool) (saving : Saving) (old : Shelf) (next : Step) (state : Closing) (new : Shelf)
       → closes.GoesOn wsize lane slot turn begun saving old next state new → P old.back → LeftAs P (CloseHas P M) Q next state new.back
   close-on lane slot begun saving old next state new g p = close-follows g.gives lane slot begun g.saved g.gone next state new g.follows
       (w.goes false saving old.back g.gives g.saved g.gone.back g.goes p)
 
-  close-queues : (b : Bool) (lane slot : ℕ) (saving : Saving) (old : Shelf) (next : Next) (state : Closing) (new : Shelf)
+  close-queues : (b : Bool) (lane slot : ℕ) (saving : Saving) (old : Shelf) (next : Step) (state : Closing) (new : Shelf)
       → closes.QueuesIf b wsize lane slot turn saving old next state new → P old.back → LeftAs P (CloseHas P M) Q next state new.back
   close-queues false lane slot saving old next state new q p = close-waits next state old new q.next_is q.shelf_is p
   close-queues true lane slot saving old next state new q p = at (last_end (of_file saving.file old.back).segments) q
@@ -243,7 +243,7 @@ module _ (wsize : ℕ) (turn : Turn) (P : Pending → Type 0) (M : Saving → Pe
       at None b = close-frees lane slot saving.file None old next state new b p
       at (Some end) b = close-on lane slot false saving old next state new b p
 
-  pub close-starts : (machine : CloseFile) (old : Shelf) (next : Next) (state : Closing) (new : Shelf) → closes.Starts wsize machine turn old next state new
+  pub close-starts : (machine : CloseFile) (old : Shelf) (next : Step) (state : Closing) (new : Shelf) → closes.Starts wsize machine turn old next state new
       → P old.back → LeftAs P (CloseHas P M) Q next state new.back
   close-starts machine old next state new s p = at (file_at machine.lane machine.slot old.opens) s
     where
@@ -252,7 +252,7 @@ module _ (wsize : ℕ) (turn : Turn) (P : Pending → Type 0) (M : Saving → Pe
       at (Some file) s = close-queues (is_first machine.lane (joined machine.lane file old).order) machine.lane machine.slot (saves.begun file old.seq)
           (joined machine.lane file old) next state new s p
 
-  pub close-resumes : (at : Closing) (machine : CloseFile) (old : Shelf) (next : Next) (state : Closing) (new : Shelf)
+  pub close-resumes : (at : Closing) (machine : CloseFile) (old : Shelf) (next : Step) (state : Closing) (new : Shelf)
       → closes.Resumes at wsize machine turn old next state new → P old.back → LeftAs P (CloseHas P M) Q next state new.back
   close-resumes closing.Idle machine old next state new s p = close-waits next state old new s.next_is s.shelf_is p
   close-resumes (closing.Queued saving) machine old next state new s p = close-queues (is_first machine.lane old.order) machine.lane machine.slot saving old
@@ -266,7 +266,7 @@ module _ (wsize : ℕ) (turn : Turn) (P : Pending → Type 0) (M : Saving → Pe
   close-resumes (closing.Removing removal) machine old next state new s p = close-waits next state old new s.next_is s.shelf_is p
 
   pub close-takes : (sent : Turn) (came : Result Reply Fault) (N : Saving → Pending → Type 0) → CarriesReply wsize sent turn came P N M Q
-      → (at : Closing) (machine : CloseFile) (old : Shelf) (next : Next) (state : Closing) (new : Shelf)
+      → (at : Closing) (machine : CloseFile) (old : Shelf) (next : Step) (state : Closing) (new : Shelf)
       → closes.Takes at wsize machine sent turn came old next state new → CloseHas P N at old.back → LeftAs P (CloseHas P M) Q next state new.back
   close-takes sent came N v closing.Idle machine old next state new t h = close-waits next state old new t.next_is t.shelf_is h
   close-takes sent came N v (closing.Queued saving) machine old next state new t h = close-waits next state old new t.next_is t.shelf_is h
@@ -293,7 +293,7 @@ WriteHas P M writing.Idle back = P back
 WriteHas P M (writing.Room file saving) back = M saving back
 
 module _ (wsize : ℕ) (turn : Turn) (P : Pending → Type 0) (M : Saving → Pending → Type 0) (Q : Call → Type 0) (w : Carries wsize turn P M Q) where
-  room-as : (told : SavingNext) (lane : ℕ) (file : List ℕ) (saved : Saving) (shelf : Shelf) (next : Next) (state : Writing) (after : Shelf)
+  room-as : (told : SavingStep) (lane : ℕ) (file : List ℕ) (saved : Saving) (shelf : Shelf) (next : Step) (state : Writing) (after : Shelf)
       → writes.Leads (writes.room_next told) (writes.room_state told file saved) (writes.room_shelf told lane shelf) next state after
       → Left P M Q told saved shelf.back → LeftAs P (WriteHas P M) Q next state after.back
   room-as (Send call) lane file saved shelf next state after r l =
@@ -306,19 +306,19 @@ module _ (wsize : ℕ) (turn : Turn) (P : Pending → Type 0) (M : Saving → Pe
   room-as (Ended (Err fault)) lane file saved shelf next state after r l = done-left P (WriteHas P M) Q _ next state shelf.back after.back r.gives_next
       (ap (λ (s : Shelf). s.back) r.shelf_is) l
 
-  write-refuses : (fault : Fault) (shelf : Shelf) (next : Next) (state : Writing) (after : Shelf) → writes.Refuses fault shelf next state after → P shelf.back
+  write-refuses : (fault : Fault) (shelf : Shelf) (next : Step) (state : Writing) (after : Shelf) → writes.Refuses fault shelf next state after → P shelf.back
       → LeftAs P (WriteHas P M) Q next state after.back
   write-refuses fault shelf next state after r p = done-left P (WriteHas P M) Q _ next state shelf.back after.back r.gives_next
       (ap (λ (s : Shelf). s.back) r.shelf_is) p
 
-  write-saves : (b : Bool) (lane : ℕ) (file : List ℕ) (saving : Saving) (shelf : Shelf) (next : Next) (state : Writing) (after : Shelf)
+  write-saves : (b : Bool) (lane : ℕ) (file : List ℕ) (saving : Saving) (shelf : Shelf) (next : Step) (state : Writing) (after : Shelf)
       → writes.SavesIf b wsize lane file saving turn shelf next state after → P shelf.back → LeftAs P (WriteHas P M) Q next state after.back
   write-saves false lane file saving shelf next state after s p = waits-left P (WriteHas P M) Q next state shelf.back after.back s.gives_next
       (ap (λ (s : Shelf). s.back) s.shelf_is) p
   write-saves true lane file saving shelf next state after s p =
       room-as s.told lane file s.saved (record shelf { back = s.back }) next state after s.leads (w.goes false saving shelf.back s.told s.saved s.back s.goes p)
 
-  pub write-writes : (lane : ℕ) (file : List ℕ) (offset : ℕ) (bytes : List ℕ) (shelf : Shelf) (next : Next) (state : Writing) (after : Shelf)
+  pub write-writes : (lane : ℕ) (file : List ℕ) (offset : ℕ) (bytes : List ℕ) (shelf : Shelf) (next : Step) (state : Writing) (after : Shelf)
       → writes.Writes wsize lane file offset bytes turn shelf next state after → P shelf.back → LeftAs P (WriteHas P M) Q next state after.back
   write-writes lane file offset bytes shelf next state after wrote p = by (is_full bytes shelf.back) wrote
     where
@@ -330,7 +330,7 @@ module _ (wsize : ℕ) (turn : Turn) (P : Pending → Type 0) (M : Saving → Pe
           (w.pieces shelf.back after.back (added-pieces shelf.back after.back file offset (shelf.seq + 1) bytes a.adds) p)
       by false (inr s) = write-refuses _ shelf next state after s p
 
-  pub write-starts : (machine : WriteFile) (old : Shelf) (next : Next) (new : WriteFile) (after : Shelf) → writes.Starts wsize machine turn old next new after
+  pub write-starts : (machine : WriteFile) (old : Shelf) (next : Step) (new : WriteFile) (after : Shelf) → writes.Starts wsize machine turn old next new after
       → P old.back → LeftAs P (WriteHas P M) Q next new.state after.back
   write-starts machine old next new after s p = at (file_to_write machine.lane machine.slot old.opens) s
     where
@@ -339,13 +339,13 @@ module _ (wsize : ℕ) (turn : Turn) (P : Pending → Type 0) (M : Saving → Pe
       at (Ok file) (inl s) = write-writes machine.lane file machine.offset (writes.text_bytes machine.text) old next new.state after s.writes p
       at (Ok file) (inr s) = write-refuses _ old next new.state after s.refuses p
 
-  pub write-resumes : (at : Writing) (lane : ℕ) (old : Shelf) (next : Next) (state : Writing) (after : Shelf)
+  pub write-resumes : (at : Writing) (lane : ℕ) (old : Shelf) (next : Step) (state : Writing) (after : Shelf)
       → writes.ResumesIn at wsize lane turn old next state after → P old.back → LeftAs P (WriteHas P M) Q next state after.back
   write-resumes writing.Idle lane old next state after s p = waits-left P (WriteHas P M) Q next state old.back after.back s.gives_next
       (ap (λ (s : Shelf). s.back) s.shelf_is) p
   write-resumes (writing.Room file saving) lane old next state after s p = write-saves (is_first lane old.order) lane file saving old next state after s p
 
-  write-follows : (told : SavingNext) (machine : WriteFile) (file : List ℕ) (saved : Saving) (shelf : Shelf) (next : Next) (state : Writing) (after : Shelf)
+  write-follows : (told : SavingStep) (machine : WriteFile) (file : List ℕ) (saved : Saving) (shelf : Shelf) (next : Step) (state : Writing) (after : Shelf)
       → writes.Follows told wsize machine file saved turn shelf next state after → Left P M Q told saved shelf.back
       → LeftAs P (WriteHas P M) Q next state after.back
   write-follows (Ended (Ok done)) machine file saved shelf next state after f l =
@@ -357,7 +357,7 @@ module _ (wsize : ℕ) (turn : Turn) (P : Pending → Type 0) (M : Saving → Pe
   write-follows Wait machine file saved shelf next state after f l = room-as Wait machine.lane file saved shelf next state after f l
 
   pub write-takes : (sent : Turn) (came : Result Reply Fault) (N : Saving → Pending → Type 0) → CarriesReply wsize sent turn came P N M Q
-      → (at : Writing) (machine : WriteFile) (old : Shelf) (next : Next) (state : Writing) (after : Shelf)
+      → (at : Writing) (machine : WriteFile) (old : Shelf) (next : Step) (state : Writing) (after : Shelf)
       → writes.TakesIn at wsize machine sent turn came old next state after → WriteHas P N at old.back → LeftAs P (WriteHas P M) Q next state after.back
   write-takes sent came N v writing.Idle machine old next state after t h = waits-left P (WriteHas P M) Q next state old.back after.back t.gives_next
       (ap (λ (s : Shelf). s.back) t.shelf_is) h

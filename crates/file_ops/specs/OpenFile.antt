@@ -12,11 +12,11 @@ use Rattle.world_model.specs.declared.message.Reply.{Reply}
 use Rattle.client_shelf.specs.declared.turn.Turn.{Turn}
 use Rattle.client_shelf.specs.declared.repeats.Repeat.{Repeat}
 use Rattle.attr_cache.specs.Attrs.{Attrs}
-use Rattle.client_shelf.specs.declared.next.Next.{Next}
-use Rattle.client_shelf.specs.declared.next.Next.TheVariants.{Send, Wait, Done}
+use Rattle.client_shelf.specs.declared.step.Step.{Step}
+use Rattle.client_shelf.specs.declared.step.Step.TheVariants.{Send, Wait, Done}
 use Rattle.file_ops.specs.declared.opening.Opening.{Opening}
-use Rattle.file_ops.specs.declared.opening.OpeningNext.{OpeningNext}
-use Rattle.file_ops.specs.declared.opening.OpeningNext.TheVariants as steps
+use Rattle.file_ops.specs.declared.opening.OpeningStep.{OpeningStep}
+use Rattle.file_ops.specs.declared.opening.OpeningStep.TheVariants as steps
 use Rattle.file_ops.specs.declared.open_file.OpenFile.{OpenFile}
 use Rattle.file_ops.specs.Opening.{go_next, go_after, opening_again, opening_after, led_on, LedIf}
 
@@ -25,14 +25,14 @@ abbrev pub place_of : OpenFile → Place
 place_of m = (m.lane, m.slot)
 
 -- it went well, without a value
-abbrev pub well : Next
+abbrev pub well : Step
 well = Done (answers.Done values.Nothing)
 
-abbrev pub refused : Fault → Next
+abbrev pub refused : Fault → Step
 refused fault = Done (answers.Refused fault)
 
 -- a step of the opening as one of the operation
-abbrev pub goes_as : OpeningNext → Next
+abbrev pub goes_as : OpeningStep → Step
 goes_as (steps.Send call) = Send call
 goes_as steps.Wait = Wait
 goes_as (steps.Ended (Ok file)) = well
@@ -51,7 +51,7 @@ abbrev pub is_taken : OpenFile → Opens → Bool
 is_taken m opens = is_some (finite.get opens (place_of m))
 
 -- the first step: a slot that holds an open refuses
-abbrev pub start_next : OpenFile → Turn → Opens → Next
+abbrev pub start_next : OpenFile → Turn → Opens → Step
 start_next m turn opens = if is_taken m opens then refused faults.Slot else goes_as (go_next (begun m turn).opening turn)
 
 abbrev pub start_after : OpenFile → Turn → Opens → OpenFile
@@ -62,16 +62,16 @@ abbrev pub opened_of : Opening → List ℕ → Opened
 opened_of o file = record { file = file; dir = o.dir; name = o.name; mode = o.mode; mark = o.moment }
 
 -- the open goes to its slot, unless another one came there meanwhile or there is no memory
-abbrev pub PutsOver : Option Opened → Place → Opened → Next → Opens → Opens → Type 0
+abbrev pub PutsOver : Option Opened → Place → Opened → Step → Opens → Opens → Type 0
 PutsOver (Some other) place of next old new = (next ≡ refused faults.Slot) × (new ≡ old)
 PutsOver None place of next old new =
     ((next ≡ well) × (new ≡ finite.insert old place of)) ⊎ ((next ≡ refused faults.Memory) × (new ≡ old))
 
-abbrev pub Puts : Place → Opened → Next → Opens → Opens → Type 0
+abbrev pub Puts : Place → Opened → Step → Opens → Opens → Type 0
 Puts place of next old new = PutsOver (finite.get old place) place of next old new
 
 -- what a step of the opening comes to
-abbrev pub Follows : OpenFile → OpeningNext → Next → Opens → Opens → Type 0
+abbrev pub Follows : OpenFile → OpeningStep → Step → Opens → Opens → Type 0
 Follows m (steps.Ended (Ok file)) next old new = Puts (place_of m) (opened_of m.opening file) next old new
 Follows m step next old new = (next ≡ goes_as step) × (new ≡ old)
 
@@ -80,8 +80,8 @@ abbrev pub took_after : Bool → OpenFile → Turn → Result Reply Fault → At
 took_after again m turn reply attrs pages = record m { opening = opening_after again m.opening turn (led_on m.opening turn.now reply attrs pages) }
 
 -- a reply's step: the opening's, and what follows
-pub record OpenTakes (m : OpenFile) (sent turn : Turn) (reply : Result Reply Fault) (attrs : Attrs) (repeats : List Repeat) (next : Next)
+pub record OpenTakes (m : OpenFile) (sent turn : Turn) (reply : Result Reply Fault) (attrs : Attrs) (repeats : List Repeat) (next : Step)
     (pages later : Pages) (old new : Opens) : Type 0 where
-  pub step : OpeningNext
+  pub step : OpeningStep
   pub led : LedIf (opening_again m.opening sent turn reply repeats) m.opening sent turn (led_on m.opening turn.now reply attrs pages) step pages later
   pub follows : Follows m step next old new

@@ -24,10 +24,10 @@ use Rattle.nfs_types.specs.Stamps.{stamp_of, same_stamp}
 use Rattle.client_shelf.specs.declared.turn.Turn.{Turn}
 use Rattle.client_shelf.specs.declared.repeats.Repeat.{Repeat}
 use Rattle.file_ops.specs.declared.opening.Opening.{Opening}
+use Rattle.file_ops.specs.declared.opening.OpeningPhase.{OpeningPhase}
+use Rattle.file_ops.specs.declared.opening.OpeningPhase.TheVariants.{Look, Make, Find, Ask}
 use Rattle.file_ops.specs.declared.opening.OpeningStep.{OpeningStep}
-use Rattle.file_ops.specs.declared.opening.OpeningStep.TheVariants.{Look, Make, Find, Ask}
-use Rattle.file_ops.specs.declared.opening.OpeningNext.{OpeningNext}
-use Rattle.file_ops.specs.declared.opening.OpeningNext.TheVariants.{Send, Wait, Ended}
+use Rattle.file_ops.specs.declared.opening.OpeningStep.TheVariants.{Send, Wait, Ended}
 use Rattle.file_ops.specs.declared.opening.Led.{Led}
 use Rattle.file_ops.specs.declared.opening.Led.TheVariants.{Goes, Opens, Knows, Ends}
 use Rattle.client_shelf.specs.Learning.{Learns, Renews, LearnsThen, LearnsName}
@@ -39,7 +39,7 @@ use Rattle.file_ops.specs.Told.{found_by, made_by, got_by}
 -- ---- the calls
 
 -- the first call: X makes the file, the others look for it
-abbrev pub first_step : Mode → OpeningStep
+abbrev pub first_step : Mode → OpeningPhase
 first_step X = Make
 first_step mode = Look
 
@@ -53,7 +53,7 @@ making_of X = Guarded usual_set
 making_of mode = Unchecked usual_set
 
 -- the call of a step
-abbrev pub call_of : Opening → OpeningStep → Call
+abbrev pub call_of : Opening → OpeningPhase → Call
 call_of o Look = calls.Dir (dirs.Lookup o.dir o.name)
 call_of o Make = calls.Dir (dirs.Create o.dir o.name (making_of o.mode))
 call_of o Find = calls.Dir (dirs.Lookup o.dir o.name)
@@ -63,7 +63,7 @@ call_of o (Ask file) = calls.File (files.GetAttr file)
 abbrev pub waits : Opening → Turn → Bool
 waits o turn = o.asked || not turn.room
 
-abbrev pub go_next : Opening → Turn → OpeningNext
+abbrev pub go_next : Opening → Turn → OpeningStep
 go_next o turn = if waits o turn then Wait else Send (call_of o o.step)
 
 abbrev pub go_after : Opening → Turn → Opening
@@ -97,7 +97,7 @@ abbrev pub got : List ℕ → Result Attr Fault → Led
 got file (Ok attr) = if attr.kind == 1 then Opens file attr else Ends faults.Kind
 got file (Err fault) = Ends fault
 
-abbrev pub led_to : Mode → OpeningStep → Result Reply Fault → Led
+abbrev pub led_to : Mode → OpeningPhase → Result Reply Fault → Led
 led_to mode Look reply = if makes mode reply then Goes Make else found (found_by reply)
 led_to mode Make reply = made (made_by reply)
 led_to mode Find reply = found (found_by reply)
@@ -139,14 +139,14 @@ abbrev pub GotAttrs : List ℕ → ℕ → Result Attr Fault → Attrs → Attrs
 GotAttrs file now (Ok attr) old new = Learns file (Some attr) now old new
 GotAttrs file now (Err fault) old new = new ≡ old
 
-abbrev pub NotesAttrs : Opening → ℕ → Result Reply Fault → OpeningStep → Attrs → Attrs → Type 0
+abbrev pub NotesAttrs : Opening → ℕ → Result Reply Fault → OpeningPhase → Attrs → Attrs → Type 0
 NotesAttrs o now reply Look old new = LookedAttrs o.dir now reply old new
 NotesAttrs o now reply Make old new = MadeAttrs o.dir now reply old new
 NotesAttrs o now reply Find old new = LookedAttrs o.dir now reply old new
 NotesAttrs o now reply (Ask file) old new = GotAttrs file now (got_by reply) old new
 
 -- any reply to CREATE drops the names of the directory; a CREATE that couldn't be made drops none
-abbrev pub NotesNames : Opening → Result Reply Fault → OpeningStep → names.Entries → names.Entries → Type 0
+abbrev pub NotesNames : Opening → Result Reply Fault → OpeningPhase → names.Entries → names.Entries → Type 0
 NotesNames o reply Look old new = LookedNames o.dir o.name reply old new
 NotesNames o reply Make old new = new ≡ names_after (came_unmade reply) o.dir old
 NotesNames o reply Find old new = LookedNames o.dir o.name reply old new
@@ -165,7 +165,7 @@ abbrev pub known_at : List ℕ → Option Attr → Option Stamp → Led
 known_at file (Some attr) (Some stamp) = if (attr.kind == 1) && same_stamp (stamp_of attr) stamp then Knows file stamp else Goes (Ask file)
 known_at file attr known = Goes (Ask file)
 
-abbrev pub known_step : OpeningStep → ℕ → Attrs → Pages → Led
+abbrev pub known_step : OpeningPhase → ℕ → Attrs → Pages → Led
 known_step (Ask file) now attrs pages = known_at file (looked file now attrs) (known_of file pages)
 known_step Look now attrs pages = Goes Look
 known_step Make now attrs pages = Goes Make
@@ -183,7 +183,7 @@ known_by nocto led now attrs pages = if nocto then known_led led now attrs pages
 -- ---- a reply's step
 
 -- the machine at another call
-abbrev pub at_step : Opening → OpeningStep → Opening
+abbrev pub at_step : Opening → OpeningPhase → Opening
 at_step o step = record o { step = step; asked = false }
 
 abbrev pub led_after : Opening → Turn → Led → Opening
@@ -193,7 +193,7 @@ led_after o turn (Knows file stamp) = o
 led_after o turn (Ends fault) = o
 
 -- what the step comes to, and the pages after it
-abbrev pub LedTo : Opening → Turn → Turn → Led → OpeningNext → Pages → Pages → Type 0
+abbrev pub LedTo : Opening → Turn → Turn → Led → OpeningStep → Pages → Pages → Type 0
 LedTo o sent turn (Goes step) next old new = (next ≡ go_next (at_step o step) turn) × (new ≡ old)
 LedTo o sent turn (Opens file attr) (Ended result) old new = FileOpened file (opened_pages file attr o.moment sent turn old) result old new
 LedTo o sent turn (Opens file attr) next old new = ⊥
@@ -212,7 +212,7 @@ ends_busy (Knows file stamp) = false
 ends_busy (Ends fault) = is_busy fault
 
 -- whether the name is looked up
-abbrev pub looks : OpeningStep → Bool
+abbrev pub looks : OpeningPhase → Bool
 looks Look = true
 looks Make = false
 looks Find = true
@@ -237,6 +237,6 @@ led_on o now reply attrs pages = known_by o.nocto (told_led o reply) now attrs p
 abbrev pub opening_after : Bool → Opening → Turn → Led → Opening
 opening_after again o turn led = if again then counted o else led_after o turn led
 
-abbrev pub LedIf : Bool → Opening → Turn → Turn → Led → OpeningNext → Pages → Pages → Type 0
+abbrev pub LedIf : Bool → Opening → Turn → Turn → Led → OpeningStep → Pages → Pages → Type 0
 LedIf true o sent turn led next old new = (next ≡ Send (call_of o o.step)) × (new ≡ old)
 LedIf false o sent turn led next old new = LedTo o sent turn led next old new

@@ -11,17 +11,17 @@ use Rattle.client_shelf.specs.declared.shelf.Shelf.{Shelf}
 use Rattle.client_shelf.specs.LaneFiles.{added, left, is_other, is_first}
 use Rattle.open_files.specs.Slots.{Opens}
 use Rattle.write_back.specs.Files.{Pending}
-use Rattle.client_shelf.specs.declared.next.Next.{Next}
-use Rattle.client_shelf.specs.declared.next.Next.TheVariants as nexts
+use Rattle.client_shelf.specs.declared.step.Step.{Step}
+use Rattle.client_shelf.specs.declared.step.Step.TheVariants as nexts
 use Rattle.file_ops.specs.declared.saving.Saving.{Saving}
-use Rattle.file_ops.specs.declared.saving.SavingNext.{SavingNext}
-use Rattle.file_ops.specs.declared.saving.SavingNext.TheVariants.{Send, Wait, Ended}
+use Rattle.file_ops.specs.declared.saving.SavingStep.{SavingStep}
+use Rattle.file_ops.specs.declared.saving.SavingStep.TheVariants.{Send, Wait, Ended}
 use Rattle.file_ops.specs.declared.put_file.Putting.{Putting}
 use Rattle.file_ops.specs.declared.put_file.Putting.TheVariants.{Idle, Opens as AtOpening, Adds, Saves}
 use Rattle.file_ops.specs.declared.put_file.PutFile.{PutFile}
 use Rattle.file_ops.specs.declared.opening.Opening.{Opening}
-use Rattle.file_ops.specs.declared.opening.OpeningNext.{OpeningNext}
-use Rattle.file_ops.specs.declared.opening.OpeningNext.TheVariants as steps
+use Rattle.file_ops.specs.declared.opening.OpeningStep.{OpeningStep}
+use Rattle.file_ops.specs.declared.opening.OpeningStep.TheVariants as steps
 use Rattle.file_ops.specs.declared.write_file.Text.TheVariants.{Given}
 use Rattle.file_ops.specs.declared.write_file.Writing.{Writing}
 use Rattle.file_ops.specs.declared.write_file.Writing.TheVariants as writings
@@ -39,7 +39,7 @@ use Rattle.file_ops.specs.SlotFiles.{joined}
 use Rattle.file_ops.specs.Saves as saves
 
 -- nothing happens
-pub record Waits (state : Putting) (old : Shelf) (next : Next) (after : Putting) (new : Shelf) : Type 0 where
+pub record Waits (state : Putting) (old : Shelf) (next : Step) (after : Putting) (new : Shelf) : Type 0 where
   pub next_is : next ≡ nexts.Wait
   pub state_is : after ≡ state
   pub shelf_is : new ≡ old
@@ -55,21 +55,21 @@ GivesUpAlone true refusal file opens old new = new ≡ old
 GivesUpAlone false refusal file opens old new = GivesUpBy refusal file opens old new
 
 -- The last step: refused bytes are given up, and it is at no file any more.
-pub record Ends (lane : ℕ) (file : List ℕ) (refusal : Option Fault) (old : Shelf) (next : Next) (state : Putting) (new : Shelf) : Type 0 where
+pub record Ends (lane : ℕ) (file : List ℕ) (refusal : Option Fault) (old : Shelf) (next : Step) (state : Putting) (new : Shelf) : Type 0 where
   pub next_is : next ≡ nexts.Done (closed_answer refusal)
   pub state_is : state ≡ Idle
   pub back : GivesUpAlone (keeps_refused lane file old.puts old.order) refusal file old.opens old.back new.back
   pub others : new ≡ record old { back = new.back; order = left lane old.order; puts = left lane old.puts }
 
 -- It does as its save does, until that has ended.
-abbrev pub Follows : SavingNext → ℕ → Saving → Shelf → Next → Putting → Shelf → Type 0
+abbrev pub Follows : SavingStep → ℕ → Saving → Shelf → Step → Putting → Shelf → Type 0
 Follows (Send call) lane saving old next state new = (next ≡ nexts.Send call) × (state ≡ Saves saving) × (new ≡ old)
 Follows Wait lane saving old next state new = (next ≡ nexts.Wait) × (state ≡ Saves saving) × (new ≡ old)
 Follows (Ended result) lane saving old next state new = Ends lane saving.file (refusal_of result) old next state new
 
 -- its save goes on
-pub record GoesOn (wsize lane : ℕ) (turn : Turn) (saving : Saving) (old : Shelf) (next : Next) (state : Putting) (new : Shelf) : Type 0 where
-  pub gives : SavingNext
+pub record GoesOn (wsize lane : ℕ) (turn : Turn) (saving : Saving) (old : Shelf) (next : Step) (state : Putting) (new : Shelf) : Type 0 where
+  pub gives : SavingStep
   pub saved : Saving
   pub gone : Shelf
   pub goes : saves.Goes wsize turn.xid turn.room false saving old.back gives saved gone.back
@@ -77,28 +77,28 @@ pub record GoesOn (wsize lane : ℕ) (turn : Turn) (saving : Saving) (old : Shel
   pub follows : Follows gives lane saved gone next state new
 
 -- It goes on once its turn has come.
-abbrev pub QueuesIf : Bool → ℕ → ℕ → Turn → Saving → Shelf → Next → Putting → Shelf → Type 0
+abbrev pub QueuesIf : Bool → ℕ → ℕ → Turn → Saving → Shelf → Step → Putting → Shelf → Type 0
 QueuesIf true wsize lane turn saving old next state new = GoesOn wsize lane turn saving old next state new
 QueuesIf false wsize lane turn saving old next state new = Waits (Saves saving) old next state new
 
-abbrev pub Queues : ℕ → ℕ → Turn → Saving → Shelf → Next → Putting → Shelf → Type 0
+abbrev pub Queues : ℕ → ℕ → Turn → Saving → Shelf → Step → Putting → Shelf → Type 0
 Queues wsize lane turn saving old next state new = QueuesIf (is_first lane old.order) wsize lane turn saving old next state new
 
 -- Its bytes are pending: it takes its place in the order of its file, and saves.
-abbrev pub SavesFile : ℕ → ℕ → List ℕ → Turn → Shelf → Next → Putting → Shelf → Type 0
+abbrev pub SavesFile : ℕ → ℕ → List ℕ → Turn → Shelf → Step → Putting → Shelf → Type 0
 SavesFile wsize lane file turn old next state new = Queues wsize lane turn (saves.begun file old.seq) (joined lane file old) next state new
 
 -- What follows a step of the write.
-abbrev pub AfterWrite : Next → ℕ → ℕ → List ℕ → Turn → Shelf → Next → Putting → Shelf → Type 0
+abbrev pub AfterWrite : Step → ℕ → ℕ → List ℕ → Turn → Shelf → Step → Putting → Shelf → Type 0
 AfterWrite (nexts.Send call) wsize lane file turn old next state new = (next ≡ nexts.Send call) × (state ≡ Adds file) × (new ≡ old)
 AfterWrite nexts.Wait wsize lane file turn old next state new = (next ≡ nexts.Wait) × (state ≡ Adds file) × (new ≡ old)
 AfterWrite (nexts.Done (answers.Done value)) wsize lane file turn old next state new = SavesFile wsize lane file turn old next state new
 AfterWrite (nexts.Done (answers.Refused fault)) wsize lane file turn old next state new = Ends lane file (Some fault) old next state new
 
 -- the save takes what came of its call
-pub record TakesOne (wsize lane : ℕ) (sent turn : Turn) (came : Result Reply Fault) (saving : Saving) (old : Shelf) (next : Next) (state : Putting)
+pub record TakesOne (wsize lane : ℕ) (sent turn : Turn) (came : Result Reply Fault) (saving : Saving) (old : Shelf) (next : Step) (state : Putting)
     (new : Shelf) : Type 0 where
-  pub gives : SavingNext
+  pub gives : SavingStep
   pub saved : Saving
   pub took : Shelf
   pub takes : saves.Takes wsize sent turn came old.repeats saving old.back gives saved took.back took.repeats
@@ -122,7 +122,7 @@ abbrev pub opening_at : Turn → PutFile → Opening
 opening_at turn machine = record machine.opening { moment = turn.moment - 1 }
 
 -- nothing happens
-pub record Stays (machine : PutFile) (old : Shelf) (next : Next) (new : PutFile) (after : Shelf) : Type 0 where
+pub record Stays (machine : PutFile) (old : Shelf) (next : Step) (new : PutFile) (after : Shelf) : Type 0 where
   pub next_is : next ≡ nexts.Wait
   pub machine_is : new ≡ machine
   pub shelf_is : after ≡ old
@@ -132,14 +132,14 @@ abbrev pub put_at : ℕ → List ℕ → Shelf → Shelf
 put_at lane file shelf = record shelf { puts = added (record { lane = lane; file = file }) (left lane shelf.puts) }
 
 -- what a step of its write, which leads to `told`, makes of the put
-pub record WritesOn (wsize : ℕ) (machine : PutFile) (file : List ℕ) (turn : Turn) (told : Next) (written : Writing) (mid : Shelf) (next : Next)
+pub record WritesOn (wsize : ℕ) (machine : PutFile) (file : List ℕ) (turn : Turn) (told : Step) (written : Writing) (mid : Shelf) (next : Step)
     (new : PutFile) (after : Shelf) : Type 0 where
   pub follows : AfterWrite told wsize machine.write.lane file turn mid next new.state after
   pub machine_is : new ≡ record machine { write = record machine.write { state = written }; state = new.state }
 
 -- Its bytes become pending at its file, or room is made for them.
-pub record AddsBytes (wsize : ℕ) (machine : PutFile) (file : List ℕ) (turn : Turn) (old : Shelf) (next : Next) (new : PutFile) (after : Shelf) : Type 0 where
-  pub told : Next
+pub record AddsBytes (wsize : ℕ) (machine : PutFile) (file : List ℕ) (turn : Turn) (old : Shelf) (next : Step) (new : PutFile) (after : Shelf) : Type 0 where
+  pub told : Step
   pub written : Writing
   pub mid : Shelf
   pub writes : Writes wsize machine.write.lane file machine.write.offset (made_bytes machine.write.text) turn (put_at machine.write.lane file old) told
@@ -147,24 +147,24 @@ pub record AddsBytes (wsize : ℕ) (machine : PutFile) (file : List ℕ) (turn :
   pub goes : WritesOn wsize machine file turn told written mid next new after
 
 -- The write, which makes room, takes what came of its call.
-pub record TakesRoom (wsize : ℕ) (machine : PutFile) (file : List ℕ) (sent turn : Turn) (came : Result Reply Fault) (old : Shelf) (next : Next)
+pub record TakesRoom (wsize : ℕ) (machine : PutFile) (file : List ℕ) (sent turn : Turn) (came : Result Reply Fault) (old : Shelf) (next : Step)
     (new : PutFile) (after : Shelf) : Type 0 where
-  pub told : Next
+  pub told : Step
   pub written : Writing
   pub mid : Shelf
   pub takes : TakesIn machine.write.state wsize machine.write sent turn came old told written mid
   pub goes : WritesOn wsize machine file turn told written mid next new after
 
 -- The write goes on to make room.
-pub record ResumesRoom (wsize : ℕ) (machine : PutFile) (file : List ℕ) (turn : Turn) (old : Shelf) (next : Next) (new : PutFile) (after : Shelf) : Type 0 where
-  pub told : Next
+pub record ResumesRoom (wsize : ℕ) (machine : PutFile) (file : List ℕ) (turn : Turn) (old : Shelf) (next : Step) (new : PutFile) (after : Shelf) : Type 0 where
+  pub told : Step
   pub written : Writing
   pub mid : Shelf
   pub resumes : ResumesIn machine.write.state wsize machine.write.lane turn old told written mid
   pub goes : WritesOn wsize machine file turn told written mid next new after
 
 -- what follows a step of the opening
-abbrev pub AfterOpening : OpeningNext → ℕ → PutFile → Turn → Shelf → Next → PutFile → Shelf → Type 0
+abbrev pub AfterOpening : OpeningStep → ℕ → PutFile → Turn → Shelf → Step → PutFile → Shelf → Type 0
 AfterOpening (steps.Send call) wsize machine turn old next new after = (next ≡ nexts.Send call) × (new ≡ machine) × (after ≡ old)
 AfterOpening steps.Wait wsize machine turn old next new after = Stays machine old next new after
 AfterOpening (steps.Ended (Ok file)) wsize machine turn old next new after = AddsBytes wsize machine file turn old next new after
@@ -177,9 +177,9 @@ led again machine turn came attrs pages =
     record machine { opening = opening_after again machine.opening turn (led_on machine.opening turn.now came attrs pages) }
 
 -- The opening takes what came of its call.
-pub record TakesOpening (wsize : ℕ) (machine : PutFile) (sent turn : Turn) (came : Result Reply Fault) (old : Shelf) (next : Next) (new : PutFile)
+pub record TakesOpening (wsize : ℕ) (machine : PutFile) (sent turn : Turn) (came : Result Reply Fault) (old : Shelf) (next : Step) (new : PutFile)
     (after : Shelf) : Type 0 where
-  pub step : OpeningNext
+  pub step : OpeningStep
   pub took : Shelf
   pub leads : LedIf (opening_again machine.opening sent turn came old.repeats) machine.opening sent turn
       (led_on machine.opening turn.now came took.attrs old.pages) step old.pages took.pages
@@ -191,7 +191,7 @@ pub record TakesOpening (wsize : ℕ) (machine : PutFile) (sent turn : Turn) (ca
       new after
 
 -- a step that no reply made possible
-abbrev pub Resumes : Putting → ℕ → PutFile → Turn → Shelf → Next → PutFile → Shelf → Type 0
+abbrev pub Resumes : Putting → ℕ → PutFile → Turn → Shelf → Step → PutFile → Shelf → Type 0
 Resumes Idle wsize machine turn old next new after = Stays machine old next new after
 Resumes AtOpening wsize machine turn old next new after =
     (next ≡ goes_as (go_next machine.opening turn)) × (new ≡ record machine { opening = go_after machine.opening turn }) × (after ≡ old)
@@ -200,7 +200,7 @@ Resumes (Saves saving) wsize machine turn old next new after =
     Queues wsize machine.write.lane turn saving old next new.state after × (new ≡ record machine { state = new.state })
 
 -- What comes to a put that asked for nothing means nothing.
-abbrev pub Takes : Putting → ℕ → PutFile → Turn → Turn → Result Reply Fault → Shelf → Next → PutFile → Shelf → Type 0
+abbrev pub Takes : Putting → ℕ → PutFile → Turn → Turn → Result Reply Fault → Shelf → Step → PutFile → Shelf → Type 0
 Takes Idle wsize machine sent turn came old next new after = Stays machine old next new after
 Takes AtOpening wsize machine sent turn came old next new after = TakesOpening wsize machine sent turn came old next new after
 Takes (Adds file) wsize machine sent turn came old next new after = TakesRoom wsize machine file sent turn came old next new after

@@ -8,8 +8,8 @@ use Rattle.write_back.specs.Files.{Pending}
 use Rattle.world_model.specs.declared.answer.Fault.{Fault}
 use Rattle.world_model.specs.declared.answer.Fault.TheVariants as faults
 use Rattle.world_model.specs.declared.message.Reply.{Reply}
-use Rattle.client_shelf.specs.declared.next.Next.{Next}
-use Rattle.client_shelf.specs.declared.next.Next.TheVariants.{Wait}
+use Rattle.client_shelf.specs.declared.step.Step.{Step}
+use Rattle.client_shelf.specs.declared.step.Step.TheVariants.{Wait}
 use Rattle.client_shelf.specs.declared.repeats.Repeat.{Repeat}
 use Rattle.client_shelf.specs.declared.turn.Turn.{Turn}
 use Rattle.file_ops.specs.declared.reading.Phase.{Phase}
@@ -57,43 +57,43 @@ Begins (Err fault) result = result ≡ Err fault
 Begins (Ok reading) result = (result ≡ Ok reading) ⊎ (result ≡ Err faults.Memory)
 
 -- a step in which nothing changes
-pub record StaysSo (m : ReadFile) (pages : Pages) (next to : Next) (new : ReadFile) (later : Pages) : Type 0 where
+pub record StaysSo (m : ReadFile) (pages : Pages) (next to : Step) (new : ReadFile) (later : Pages) : Type 0 where
   pub step : next ≡ to
   pub machine : new ≡ m
   pub kept : later ≡ pages
 
 -- the read goes on from a state
-pub record GoesFrom (room : Bool) (m : ReadFile) (back : Pending) (s : State) (next : Next) (new : ReadFile) (later : Pages) : Type 0 where
+pub record GoesFrom (room : Bool) (m : ReadFile) (back : Pending) (s : State) (next : Step) (new : ReadFile) (later : Pages) : Type 0 where
   pub step : Goes room back s next
   pub machine : new ≡ record m { reading = Some (gone room s).reading }
   pub kept : later ≡ (gone room s).pages
 
 -- what a read that begins comes to
-abbrev pub StartsWith : Result Reading Fault → Bool → ReadFile → Pages → Pending → Next → ReadFile → Pages → Type 0
+abbrev pub StartsWith : Result Reading Fault → Bool → ReadFile → Pages → Pending → Step → ReadFile → Pages → Type 0
 StartsWith (Err fault) room m pages back next new later = StaysSo m pages next (refused fault) new later
 StartsWith (Ok reading) room m pages back next new later = GoesFrom room m back (settled reading pages) next new later
 
 -- the first step: there may be no memory to begin
-pub record Starts (opened : Option Opened) (turn : Turn) (m : ReadFile) (pages : Pages) (back : Pending) (next : Next) (new : ReadFile)
+pub record Starts (opened : Option Opened) (turn : Turn) (m : ReadFile) (pages : Pages) (back : Pending) (next : Step) (new : ReadFile)
     (later : Pages) : Type 0 where
   pub reading : Result Reading Fault
   pub begins : Begins (begun_at opened (turn.moment - 1) m back) reading
   pub goes : StartsWith reading turn.room m pages back next new later
 
 -- a step without a reply
-abbrev pub ResumesIn : Option Reading → Bool → ReadFile → Pages → Pending → Next → ReadFile → Pages → Type 0
+abbrev pub ResumesIn : Option Reading → Bool → ReadFile → Pages → Pending → Step → ReadFile → Pages → Type 0
 ResumesIn None room m pages back next new later = StaysSo m pages next Wait new later
 ResumesIn (Some reading) room m pages back next new later = GoesFrom room m back (settled reading pages) next new later
 
 -- a step with what came of its call
 pub record TakesFrom (sent turn : Turn) (reply : Result Reply Fault) (repeats : List Repeat) (m : ReadFile) (reading : Reading) (back : Pending)
-    (pages : Pages) (next : Next) (new : ReadFile) (later : Pages) : Type 0 where
+    (pages : Pages) (next : Step) (new : ReadFile) (later : Pages) : Type 0 where
   pub state : State
   pub step : Takes sent turn reply repeats reading pages back next state
   pub machine : new ≡ record m { reading = Some state.reading }
   pub kept : later ≡ state.pages
 
-abbrev pub TakesIn : Option Reading → Turn → Turn → Result Reply Fault → List Repeat → ReadFile → Pages → Pending → Next → ReadFile → Pages → Type 0
+abbrev pub TakesIn : Option Reading → Turn → Turn → Result Reply Fault → List Repeat → ReadFile → Pages → Pending → Step → ReadFile → Pages → Type 0
 TakesIn None sent turn reply repeats m pages back next new later = StaysSo m pages next Wait new later
 TakesIn (Some reading) sent turn reply repeats m pages back next new later = TakesFrom sent turn reply repeats m reading back pages next new later
 

@@ -17,8 +17,8 @@ use Rattle.world_model.specs.declared.message.Call.TheVariants as calls
 use Rattle.world_model.specs.declared.message.Reply.{Reply}
 use Rattle.file_ops.specs.declared.gather.Found.{Found}
 use Rattle.file_ops.specs.declared.gather.Found.TheVariants as found
-use Rattle.client_shelf.specs.declared.next.Next.{Next}
-use Rattle.client_shelf.specs.declared.next.Next.TheVariants.{Send, Wait, Done}
+use Rattle.client_shelf.specs.declared.step.Step.{Step}
+use Rattle.client_shelf.specs.declared.step.Step.TheVariants.{Send, Wait, Done}
 use Rattle.file_ops.specs.declared.reading.Phase.{Phase}
 use Rattle.file_ops.specs.declared.reading.Phase.TheVariants as phases
 use Rattle.file_ops.specs.declared.reading.Reading.{Reading}
@@ -108,14 +108,14 @@ asked s = if asks_attrs s.reading.phase then record { reading = record s.reading
 abbrev pub answer_of : Reading → Pending → List ℕ
 answer_of r back = shown_over r.file r.offset r.space (bytes_from r.offset r.base) r.was back
 
-abbrev pub refused : Fault → Next
+abbrev pub refused : Fault → Step
 refused fault = Done (answers.Refused fault)
 
-abbrev pub shown_next : List ℕ → Next
+abbrev pub shown_next : List ℕ → Step
 shown_next bytes = Done (answers.Done (values.Bytes bytes))
 
 -- What it comes to where it has ended, or else waits. The answer takes no memory that it didn't take when it began.
-abbrev pub Stays : Phase → Reading → Pending → Next → Type 0
+abbrev pub Stays : Phase → Reading → Pending → Step → Type 0
 Stays phases.Attrs r back next = next ≡ Wait
 Stays phases.AskedAttrs r back next = next ≡ Wait
 Stays phases.Pages r back next = next ≡ Wait
@@ -139,11 +139,11 @@ asks room s = room && wants s.reading.phase
 abbrev pub gone : Bool → State → State
 gone room s = if asks room s then asked s else record { reading = answered s.reading.phase s.reading; pages = s.pages }
 
-abbrev pub GoesIf : Bool → Pending → State → Next → Type 0
+abbrev pub GoesIf : Bool → Pending → State → Step → Type 0
 GoesIf true back s next = next ≡ Send (asked_call s)
 GoesIf false back s next = Stays s.reading.phase s.reading back next
 
-abbrev pub Goes : Bool → Pending → State → Next → Type 0
+abbrev pub Goes : Bool → Pending → State → Step → Type 0
 Goes room back s next = GoesIf (asks room s) back s next
 
 -- what a reply tells of the pages: its attributes are seen, and then its pages are offered
@@ -191,10 +191,10 @@ abbrev pub part_call : Reading → Call
 part_call r = calls.File (files.Read r.file (place_after r.base) (count_of r.phase))
 
 -- A call that is refused is made again, or the read is refused.
-abbrev pub again_next : Bool → Call → Fault → Next
+abbrev pub again_next : Bool → Call → Fault → Step
 again_next again call fault = if again then Send call else refused fault
 
-abbrev pub refused_next : Bool → Fault → Reading → Next
+abbrev pub refused_next : Bool → Fault → Reading → Step
 refused_next again fault r = again_next again (part_call r) fault
 
 -- the read after what was said, and what the step comes to
@@ -202,41 +202,41 @@ abbrev pub told : Turn → Turn → Said → Reading → Pages → State
 told sent turn (part attr eof bytes) r pages = gone turn.room (after_part (count_of r.phase) sent.moment attr eof bytes r pages)
 told sent turn (refusal attr fault) r pages = record { reading = r; pages = pages }
 
-abbrev pub Tells : Bool → Turn → Turn → Said → Reading → Pages → Pending → Next → Type 0
+abbrev pub Tells : Bool → Turn → Turn → Said → Reading → Pages → Pending → Step → Type 0
 Tells again sent turn (part attr eof bytes) r pages back next = Goes turn.room back (after_part (count_of r.phase) sent.moment attr eof bytes r pages) next
 Tells again sent turn (refusal attr fault) r pages back next = next ≡ refused_next again fault r
 
 -- The file's pages follow its attributes, and it goes on to take them; there may be no memory for a file that was never opened.
-abbrev pub AfterOpened : Result (Unit {0}) memory.Memory → Turn → Reading → Pages → Pending → Next → State → Type 0
+abbrev pub AfterOpened : Result (Unit {0}) memory.Memory → Turn → Reading → Pages → Pending → Step → State → Type 0
 AfterOpened (Ok done) turn r pages back next new =
     Goes turn.room back (settled (record r { phase = phases.Pages }) pages) next × (new ≡ gone turn.room (settled (record r { phase = phases.Pages }) pages))
 AfterOpened (Err memory) turn r pages back next new = (next ≡ refused faults.Memory) × (new ≡ record { reading = r; pages = pages })
 
-pub record TakesAttr (attr : Attr) (sent turn : Turn) (r : Reading) (pages : Pages) (back : Pending) (next : Next) (new : State) : Type 0 where
+pub record TakesAttr (attr : Attr) (sent turn : Turn) (r : Reading) (pages : Pages) (back : Pending) (next : Step) (new : State) : Type 0 where
   pub result : Result (Unit {0}) memory.Memory
   pub later : Pages
   pub opens : PagesOpened r.file attr r.moment sent turn result pages later
   pub goes : AfterOpened result turn r later back next new
 
 -- the attributes came, or were refused
-abbrev pub TakesAttrs : Bool → Result Attr Fault → Turn → Turn → Reading → Pages → Pending → Next → State → Type 0
+abbrev pub TakesAttrs : Bool → Result Attr Fault → Turn → Turn → Reading → Pages → Pending → Step → State → Type 0
 TakesAttrs again (Ok attr) sent turn r pages back next new = TakesAttr attr sent turn r pages back next new
 TakesAttrs again (Err fault) sent turn r pages back next new = (next ≡ again_next again (attrs_call r.file) fault)
     × (new ≡ record { reading = r; pages = pages })
 
 -- the same of what was heard, if anything
-abbrev pub TakesPart : Option Said → Turn → Turn → List Repeat → Reading → Pages → Pending → Next → State → Type 0
+abbrev pub TakesPart : Option Said → Turn → Turn → List Repeat → Reading → Pages → Pending → Step → State → Type 0
 TakesPart None sent turn repeats r pages back next new = (next ≡ Wait) × (new ≡ record { reading = r; pages = pages })
 TakesPart (Some said) sent turn repeats r pages back next new =
     Tells (goes_again (says_busy said) sent turn repeats) sent turn said r pages back next × (new ≡ told sent turn said r pages)
 
-abbrev pub TakesIf : Bool → Turn → Turn → Result Reply Fault → List Repeat → Reading → Pages → Pending → Next → State → Type 0
+abbrev pub TakesIf : Bool → Turn → Turn → Result Reply Fault → List Repeat → Reading → Pages → Pending → Step → State → Type 0
 TakesIf true sent turn reply repeats r pages back next new =
     TakesAttrs (goes_again (fails_busy (got_by reply)) sent turn repeats) (got_by reply) sent turn r pages back next new
 TakesIf false sent turn reply repeats r pages back next new = TakesPart (heard r.phase reply) sent turn repeats r pages back next new
 
 -- A read takes what came of the call that the step with the turn `sent` made.
-abbrev pub Takes : Turn → Turn → Result Reply Fault → List Repeat → Reading → Pages → Pending → Next → State → Type 0
+abbrev pub Takes : Turn → Turn → Result Reply Fault → List Repeat → Reading → Pages → Pending → Step → State → Type 0
 Takes sent turn reply repeats r pages back next new = TakesIf (waits_attrs r.phase) sent turn reply repeats r pages back next new
 
 -- the attributes that are learnt

@@ -31,8 +31,8 @@ use Rattle.file_ops.specs.Judging.{write_told, commit_told}
 use Rattle.file_ops.specs.declared.saving.Saving.{Saving}
 use Rattle.file_ops.specs.declared.saving.Phase.{Phase}
 use Rattle.file_ops.specs.declared.saving.Phase.TheVariants.{Sending, Committing, Resending, CommittingAgain}
-use Rattle.file_ops.specs.declared.saving.SavingNext.{SavingNext}
-use Rattle.file_ops.specs.declared.saving.SavingNext.TheVariants.{Send, Wait, Ended}
+use Rattle.file_ops.specs.declared.saving.SavingStep.{SavingStep}
+use Rattle.file_ops.specs.declared.saving.SavingStep.TheVariants.{Send, Wait, Ended}
 
 -- nothing was sent yet
 abbrev pub begun : List ℕ → ℕ → Saving
@@ -56,7 +56,7 @@ abbrev pub commit_phase : Phase → Phase
 commit_phase phase = if is_again phase then CommittingAgain else Committing
 
 -- Once refused it ends as soon as no call of its own waits.
-abbrev pub refused_next : ℕ → Fault → SavingNext
+abbrev pub refused_next : ℕ → Fault → SavingStep
 refused_next waiting fault = if waiting == 0 then Ended (Err fault) else Wait
 
 -- the first refusal stays
@@ -80,7 +80,7 @@ commit_of file = calls.File (Commit file 0 0)
 
 -- Nothing is left to send: it waits for its own WRITEs; it is done where the reply to one, which counts all its bytes, made the last
 -- lost byte stable; else it asks for a COMMIT.
-abbrev pub next_sent : Bool → Saving → SavingNext
+abbrev pub next_sent : Bool → Saving → SavingStep
 next_sent by_reply s = if nat_lt 0 s.waiting then Wait else if is_again s.phase && by_reply then Ended (Ok tt) else Send (commit_of s.file)
 
 abbrev pub saving_sent : Bool → Saving → Saving
@@ -93,36 +93,36 @@ CallsWrite xid upto file [] old new (Ok call) = (call ≡ None) × (new ≡ old)
 CallsWrite xid upto file (e ∷ es) old new (Ok call) = (call ≡ Some (write_of file (piece_of xid e (e ∷ es)))) × PutsPiece xid upto (e ∷ es) old new file
 
 -- what a step leads to
-pub record Leads (next : SavingNext) (saving : Saving) (gives : SavingNext) (new : Saving) : Type 0 where
+pub record Leads (next : SavingStep) (saving : Saving) (gives : SavingStep) (new : Saving) : Type 0 where
   pub gives_next : gives ≡ next
   pub keeps : new ≡ saving
 
 -- the next WRITE, or what follows once nothing is left to send
-abbrev pub SendsRun : ℕ → Bool → Segments → Saving → Pending → SavingNext → Saving → Pending → Type 0
+abbrev pub SendsRun : ℕ → Bool → Segments → Saving → Pending → SavingStep → Saving → Pending → Type 0
 SendsRun xid by_reply [] s back next new after = Leads (next_sent by_reply s) (saving_sent by_reply s) next new × (after ≡ back)
 SendsRun xid by_reply (e ∷ es) s back next new after =
     Leads (Send (write_of s.file (piece_of xid e (e ∷ es)))) (record s { waiting = s.waiting + 1 }) next new × PutsPiece xid s.upto (e ∷ es) back after s.file
 
 -- Where there is no memory for a call it waits for the replies to its others, and is refused where none waits.
-abbrev pub Lacks : Saving → Pending → SavingNext → Saving → Pending → Type 0
+abbrev pub Lacks : Saving → Pending → SavingStep → Saving → Pending → Type 0
 Lacks s back next new after = Leads (refused_next s.waiting Memory) s next new × (after ≡ back)
 
-abbrev pub Sends : ℕ → Bool → Segments → Saving → Pending → SavingNext → Saving → Pending → Type 0
+abbrev pub Sends : ℕ → Bool → Segments → Saving → Pending → SavingStep → Saving → Pending → Type 0
 Sends xid by_reply run s back next new after = SendsRun xid by_reply run s back next new after ⊎ Lacks s back next new after
 
 -- It sends where it may, and waits else.
-abbrev pub SendsIf : Bool → ℕ → Bool → Segments → Saving → Pending → SavingNext → Saving → Pending → Type 0
+abbrev pub SendsIf : Bool → ℕ → Bool → Segments → Saving → Pending → SavingStep → Saving → Pending → Type 0
 SendsIf true xid by_reply run s back next new after = Sends xid by_reply run s back next new after
 SendsIf false xid by_reply run s back next new after = Leads Wait s next new × (after ≡ back)
 
-abbrev pub GoesOver : Option Fault → ℕ → ℕ → Bool → Bool → Saving → Pending → SavingNext → Saving → Pending → Type 0
+abbrev pub GoesOver : Option Fault → ℕ → ℕ → Bool → Bool → Saving → Pending → SavingStep → Saving → Pending → Type 0
 GoesOver (Some fault) wsize xid room by_reply s back next new after = Leads (refused_next s.waiting fault) s next new × (after ≡ back)
 GoesOver None wsize xid room by_reply s back next new after =
     SendsIf (may_send room s) xid by_reply (chosen s.upto wsize (of_file s.file back)) s back next new after
 
 -- A save goes on: with a WRITE size, an xid and whether there is room; `by_reply`: the reply to a WRITE has just come, and counts all its
 -- bytes.
-abbrev pub Goes : ℕ → ℕ → Bool → Bool → Saving → Pending → SavingNext → Saving → Pending → Type 0
+abbrev pub Goes : ℕ → ℕ → Bool → Bool → Saving → Pending → SavingStep → Saving → Pending → Type 0
 Goes wsize xid room by_reply s back next new after = GoesOver s.refusal wsize xid room by_reply s back next new after
 
 -- The piece that a reply answers. One of no bytes stands for one that isn't there.
@@ -183,7 +183,7 @@ abbrev pub counts_whole : ℕ → List ℕ → WriteTold → Pending → Bool
 counts_whole asked file told back = counts_all told (length (answered asked file back).bytes)
 
 -- A WRITE's reply: the piece lands, so that no more bytes are pending than before, and the save goes on.
-pub record TakesWrite (wsize asked xid : ℕ) (room : Bool) (told : WriteTold) (s : Saving) (back : Pending) (next : SavingNext) (new : Saving)
+pub record TakesWrite (wsize asked xid : ℕ) (room : Bool) (told : WriteTold) (s : Saving) (back : Pending) (next : SavingStep) (new : Saving)
     (after : Pending) : Type 0 where
   pub refusal : Option Fault
   pub between : Pending
@@ -195,24 +195,24 @@ pub record TakesWrite (wsize asked xid : ℕ) (room : Bool) (told : WriteTold) (
   pub goes : Goes wsize xid room counts (refused_by refusal s) between next new after
 
 -- It is done where all is stable; else what may be lost is sent again.
-abbrev pub Decides : Verdict → ℕ → ℕ → Bool → Saving → Pending → SavingNext → Saving → Pending → Type 0
+abbrev pub Decides : Verdict → ℕ → ℕ → Bool → Saving → Pending → SavingStep → Saving → Pending → Type 0
 Decides AllStable wsize xid room s back next new after = Leads (Ended (Ok tt)) s next new × (after ≡ back)
 Decides (SendAgain count) wsize xid room s back next new after = Goes wsize xid room false (record s { phase = Resending }) back next new after
 
 -- the reply to a COMMIT that was done, after which no more bytes are pending than before
-pub record TakesVerf (wsize xid : ℕ) (room : Bool) (verf : Verf) (s : Saving) (back : Pending) (next : SavingNext) (new : Saving)
+pub record TakesVerf (wsize xid : ℕ) (room : Bool) (verf : Verf) (s : Saving) (back : Pending) (next : SavingStep) (new : Saving)
     (after : Pending) : Type 0 where
   pub between : Pending
   pub decides : OnFile back between s.file (decided s.upto verf (of_file s.file back))
   pub total : all_pending between ≤ all_pending back
   pub goes : Decides (verdict_of (lost verf s.upto (of_file s.file back).segments)) wsize xid room s between next new after
 
-abbrev pub TakesCommit : ℕ → ℕ → Bool → Result Verf Fault → Saving → Pending → SavingNext → Saving → Pending → Type 0
+abbrev pub TakesCommit : ℕ → ℕ → Bool → Result Verf Fault → Saving → Pending → SavingStep → Saving → Pending → Type 0
 TakesCommit wsize xid room (Ok verf) s back next new after = TakesVerf wsize xid room verf s back next new after
 TakesCommit wsize xid room (Err fault) s back next new after = Leads (Ended (Err fault)) s next new × (after ≡ back)
 
 -- After the second COMMIT it has ended: the lost bytes were sent to be stable at once.
-abbrev pub ended_by : Result Verf Fault → SavingNext
+abbrev pub ended_by : Result Verf Fault → SavingStep
 ended_by (Ok verf) = Ended (Ok tt)
 ended_by (Err fault) = Ended (Err fault)
 
@@ -237,24 +237,24 @@ CopiesPiece (Some piece) file call = (call ≡ Some (write_of file piece)) ⊎ (
 
 -- The WRITE goes on under another xid with the bytes that it has, so that as many are pending as before, or is refused once it was made
 -- again too often.
-abbrev pub RepeatsWrite : Bool → ℕ → Turn → Turn → WriteTold → Saving → Pending → SavingNext → Saving → Pending → Type 0
+abbrev pub RepeatsWrite : Bool → ℕ → Turn → Turn → WriteTold → Saving → Pending → SavingStep → Saving → Pending → Type 0
 RepeatsWrite true wsize sent turn told s back next new after =
     Leads (Send (write_of s.file (answered sent.xid s.file back))) s next new × OnFile back after s.file (with_xid sent.xid turn.xid (of_file s.file back))
     × (all_pending after ≡ all_pending back)
 RepeatsWrite false wsize sent turn told s back next new after = TakesWrite wsize sent.xid turn.xid turn.room told (less_waiting s) back next new after
 
 -- a WRITE's reply from a server that is busy: its bytes are copied once more, if there is memory for that
-abbrev pub TakesBusy : ℕ → Turn → Turn → WriteTold → List Repeat → Saving → Pending → SavingNext → Saving → Pending → List Repeat → Type 0
+abbrev pub TakesBusy : ℕ → Turn → Turn → WriteTold → List Repeat → Saving → Pending → SavingStep → Saving → Pending → List Repeat → Type 0
 TakesBusy wsize sent turn told repeats s back next new after later =
     (RepeatsWrite (goes_again true sent turn repeats) wsize sent turn told s back next new after × (later ≡ repeats_after true sent turn repeats))
     ⊎ (TakesWrite wsize sent.xid turn.xid turn.room (Fails Memory) (less_waiting s) back next new after × (later ≡ repeats_after false sent turn repeats))
 
-abbrev pub TakesToldIf : Bool → ℕ → Turn → Turn → WriteTold → List Repeat → Saving → Pending → SavingNext → Saving → Pending → List Repeat → Type 0
+abbrev pub TakesToldIf : Bool → ℕ → Turn → Turn → WriteTold → List Repeat → Saving → Pending → SavingStep → Saving → Pending → List Repeat → Type 0
 TakesToldIf true wsize sent turn told repeats s back next new after later = TakesBusy wsize sent turn told repeats s back next new after later
 TakesToldIf false wsize sent turn told repeats s back next new after later =
     TakesWrite wsize sent.xid turn.xid turn.room told (less_waiting s) back next new after × (later ≡ repeats_after false sent turn repeats)
 
-abbrev pub TakesTold : ℕ → Turn → Turn → WriteTold → List Repeat → Saving → Pending → SavingNext → Saving → Pending → List Repeat → Type 0
+abbrev pub TakesTold : ℕ → Turn → Turn → WriteTold → List Repeat → Saving → Pending → SavingStep → Saving → Pending → List Repeat → Type 0
 TakesTold wsize sent turn told repeats s back next new after later =
     TakesToldIf (may_again (told_busy told) s) wsize sent turn told repeats s back next new after later
 
@@ -266,15 +266,15 @@ abbrev pub put_off_more : Saving → Saving
 put_off_more s = record s { put_off = s.put_off + 1 }
 
 -- a COMMIT that is made again
-abbrev pub CommitsAgain : Saving → Pending → SavingNext → Saving → Pending → Type 0
+abbrev pub CommitsAgain : Saving → Pending → SavingStep → Saving → Pending → Type 0
 CommitsAgain s back next new after = Leads (Send (commit_of s.file)) (put_off_more s) next new × (after ≡ back)
 
 -- the reply to the first COMMIT, and to the second one
-abbrev pub TakesFirst : Bool → ℕ → Turn → Result Verf Fault → Saving → Pending → SavingNext → Saving → Pending → Type 0
+abbrev pub TakesFirst : Bool → ℕ → Turn → Result Verf Fault → Saving → Pending → SavingStep → Saving → Pending → Type 0
 TakesFirst true wsize turn told s back next new after = CommitsAgain s back next new after
 TakesFirst false wsize turn told s back next new after = TakesCommit wsize turn.xid turn.room told (less_waiting s) back next new after
 
-abbrev pub last_next : Bool → Result Verf Fault → Saving → SavingNext
+abbrev pub last_next : Bool → Result Verf Fault → Saving → SavingStep
 last_next again told s = if again then Send (commit_of s.file) else ended_by told
 
 abbrev pub last_saving : Bool → Saving → Saving
@@ -287,7 +287,7 @@ abbrev pub commit_repeats : Result Verf Fault → Turn → Turn → List Repeat 
 commit_repeats told sent turn repeats s = repeats_after (may_commit told s) sent turn repeats
 
 -- A save takes what came of its call, which the step with the turn `sent` made, by its phase.
-abbrev pub TakesIn : Phase → ℕ → Turn → Turn → Result Reply Fault → List Repeat → Saving → Pending → SavingNext → Saving → Pending → List Repeat → Type 0
+abbrev pub TakesIn : Phase → ℕ → Turn → Turn → Result Reply Fault → List Repeat → Saving → Pending → SavingStep → Saving → Pending → List Repeat → Type 0
 TakesIn Sending wsize sent turn came repeats s back next new after later =
     TakesTold wsize sent turn (told_of sent.xid s.file back came) repeats s back next new after later
 TakesIn Resending wsize sent turn came repeats s back next new after later =
@@ -300,7 +300,7 @@ TakesIn CommittingAgain wsize sent turn came repeats s back next new after later
     (last_saving (commit_again (commit_told came) sent turn repeats s) s) next new × (after ≡ back)
     × (later ≡ commit_repeats (commit_told came) sent turn repeats s)
 
-abbrev pub Takes : ℕ → Turn → Turn → Result Reply Fault → List Repeat → Saving → Pending → SavingNext → Saving → Pending → List Repeat → Type 0
+abbrev pub Takes : ℕ → Turn → Turn → Result Reply Fault → List Repeat → Saving → Pending → SavingStep → Saving → Pending → List Repeat → Type 0
 Takes wsize sent turn came repeats s back next new after later = TakesIn s.phase wsize sent turn came repeats s back next new after later
 
 -- the kept pages after it

@@ -25,8 +25,8 @@ use Rattle.client_shelf.specs.Busy.{fails_busy, goes_again, repeats_after}
 use Rattle.page_cache.specs.Pages as pages
 use Rattle.write_back.specs.Files.{Pending, of_file, OnFile}
 use Rattle.write_back.specs.Landing.{with_cut}
-use Rattle.client_shelf.specs.declared.next.Next.{Next}
-use Rattle.client_shelf.specs.declared.next.Next.TheVariants.{Send, Wait, Done}
+use Rattle.client_shelf.specs.declared.step.Step.{Step}
+use Rattle.client_shelf.specs.declared.step.Step.TheVariants.{Send, Wait, Done}
 use Rattle.file_ops.specs.declared.truncate_file.TruncateFile.{TruncateFile}
 use Rattle.file_ops.specs.declared.truncate_file.Truncating.{Truncating}
 use Rattle.file_ops.specs.declared.truncate_file.Truncating.TheVariants.{Idle, Queued, Asked}
@@ -47,14 +47,14 @@ abbrev pub may_ask : ℕ → List ℕ → Turn → Shelf → Bool
 may_ask lane file turn shelf = turn.room && is_first lane shelf.order && is_quiet file shelf.back
 
 -- in the order, it asks when its turn has come and waits before
-abbrev pub queued_next : TruncateFile → List ℕ → Turn → Shelf → Next
+abbrev pub queued_next : TruncateFile → List ℕ → Turn → Shelf → Step
 queued_next machine file turn shelf = if may_ask machine.lane file turn shelf then Send (size_call file machine.size) else Wait
 
 abbrev pub queued_state : TruncateFile → List ℕ → ℕ → Turn → Shelf → Truncating
 queued_state machine file upto turn shelf = if may_ask machine.lane file turn shelf then Asked file upto else Queued file upto
 
 -- At its start it takes its place, if its file may be written.
-abbrev pub begun_next : Result (List ℕ) Fault → TruncateFile → Turn → Shelf → Next
+abbrev pub begun_next : Result (List ℕ) Fault → TruncateFile → Turn → Shelf → Step
 begun_next (Ok file) machine turn shelf = queued_next machine file turn (joined machine.lane file shelf)
 begun_next (Err fault) machine turn shelf = Done (refused fault)
 
@@ -69,7 +69,7 @@ begun_shelf (Err fault) machine shelf = shelf
 abbrev pub found_file : TruncateFile → Shelf → Result (List ℕ) Fault
 found_file machine shelf = file_to_write machine.lane machine.slot shelf.opens
 
-abbrev pub started_next : TruncateFile → Turn → Shelf → Next
+abbrev pub started_next : TruncateFile → Turn → Shelf → Step
 started_next machine turn shelf = begun_next (found_file machine shelf) machine turn shelf
 
 abbrev pub started_state : TruncateFile → Turn → Shelf → Truncating
@@ -79,7 +79,7 @@ abbrev pub started_shelf : TruncateFile → Shelf → Shelf
 started_shelf machine shelf = begun_shelf (found_file machine shelf) machine shelf
 
 -- It goes on where it waits for its turn.
-abbrev pub resumed_next : Truncating → TruncateFile → Turn → Shelf → Next
+abbrev pub resumed_next : Truncating → TruncateFile → Turn → Shelf → Step
 resumed_next Idle machine turn shelf = Wait
 resumed_next (Queued file upto) machine turn shelf = queued_next machine file turn shelf
 resumed_next (Asked file upto) machine turn shelf = Wait
@@ -112,7 +112,7 @@ attr_told (Ok other) = None
 attr_told (Err fault) = None
 
 -- its answer
-abbrev pub told_next : Result Wcc Fault → Next
+abbrev pub told_next : Result Wcc Fault → Step
 told_next (Ok wcc) = Done (done Nothing)
 told_next (Err fault) = Done (refused fault)
 
@@ -152,14 +152,14 @@ ended_shelf machine file came sent turn attrs back shelf = record shelf {
   repeats = repeats_after (fails_busy (size_told came)) sent turn shelf.repeats;
 }
 
-abbrev pub ended_next : Bool → TruncateFile → List ℕ → Result Reply Fault → Next
+abbrev pub ended_next : Bool → TruncateFile → List ℕ → Result Reply Fault → Step
 ended_next again machine file came = if again then Send (size_call file machine.size) else told_next (size_told came)
 
 abbrev pub ended_state : Bool → Truncating → Truncating
 ended_state again state = if again then state else Idle
 
 -- A reply means nothing where it asked for none.
-abbrev pub took_next : Truncating → TruncateFile → Result Reply Fault → Turn → Turn → List Repeat → Next
+abbrev pub took_next : Truncating → TruncateFile → Result Reply Fault → Turn → Turn → List Repeat → Step
 took_next Idle machine came sent turn repeats = Wait
 took_next (Queued file upto) machine came sent turn repeats = Wait
 took_next (Asked file upto) machine came sent turn repeats = ended_next (size_again came sent turn repeats) machine file came

@@ -11,10 +11,10 @@ use crate::closing::{
     Removal, closed_answer, give_up_by, last_place, note_removal, refusal_of, remove_busy,
     remove_of,
 };
-use crate::saving::{Saving, SavingNext};
+use crate::saving::{Saving, SavingStep};
 use crate::slots::file_at;
 use client_shelf::busy::again;
-use client_shelf::{Came, Next, Shelf, Turn};
+use client_shelf::{Came, Shelf, Step, Turn};
 use nfs_types::Handle;
 use std::alloc::Global;
 use world_model::{Answer, Fault};
@@ -58,7 +58,7 @@ impl CloseFile {
     }
 
     /// The first step: it takes its place in the order of its file.
-    pub fn start(&mut self, alloc: Global, wsize: u32, turn: Turn, shelf: &mut Shelf) -> Next
+    pub fn start(&mut self, alloc: Global, wsize: u32, turn: Turn, shelf: &mut Shelf) -> Step
         requires size { 1 ≤ wsize }
         requires free { IsUnused turn.xid shelf.old.back }
         ensures step { Starts wsize self.old turn shelf.old result self.new.state shelf.new }
@@ -70,12 +70,12 @@ impl CloseFile {
                 let saving = Saving::begin(&file, shelf.seq);
                 self.queue(saving, alloc, wsize, turn, shelf)
             }
-            None => Next::Done(Answer::Refused(Fault::Slot)),
+            None => Step::Done(Answer::Refused(Fault::Slot)),
         }
     }
 
     /// A step that no reply made possible.
-    pub fn resume(&mut self, alloc: Global, wsize: u32, turn: Turn, shelf: &mut Shelf) -> Next
+    pub fn resume(&mut self, alloc: Global, wsize: u32, turn: Turn, shelf: &mut Shelf) -> Step
         requires size { 1 ≤ wsize }
         requires free { IsUnused turn.xid shelf.old.back }
         ensures step { Resumes self.old.state wsize self.old turn shelf.old result self.new.state shelf.new }
@@ -86,8 +86,8 @@ impl CloseFile {
             Closing::Queued(saving) => self.queue(saving, alloc, wsize, turn, shelf),
             Closing::Saves(saving) => self.go_on(saving, alloc, wsize, turn, shelf),
             Closing::ToRemove(removal) => self.ask(removal, turn.room),
-            Closing::Idle => Next::Wait,
-            Closing::Removing(_) => Next::Wait,
+            Closing::Idle => Step::Wait,
+            Closing::Removing(_) => Step::Wait,
         }
     }
 
@@ -100,7 +100,7 @@ impl CloseFile {
         came: &Came<'_>,
         turn: Turn,
         shelf: &mut Shelf,
-    ) -> Next
+    ) -> Step
         requires size { 1 ≤ wsize }
         requires free { IsUnused turn.xid shelf.old.back }
         requires moment { 1 ≤ turn.moment }
@@ -113,9 +113,9 @@ impl CloseFile {
                 saving, alloc, wsize, sent, came, turn, shelf,
             ),
             Closing::Removing(removal) => self.take_removal(&removal, sent, came, turn, shelf),
-            Closing::Idle => Next::Wait,
-            Closing::Queued(_) => Next::Wait,
-            Closing::ToRemove(_) => Next::Wait,
+            Closing::Idle => Step::Wait,
+            Closing::Queued(_) => Step::Wait,
+            Closing::ToRemove(_) => Step::Wait,
         }
     }
 
@@ -127,7 +127,7 @@ impl CloseFile {
         wsize: u32,
         turn: Turn,
         shelf: &mut Shelf,
-    ) -> Next
+    ) -> Step
         requires size { 1 ≤ wsize }
         requires free { IsUnused turn.xid shelf.old.back }
         ensures step { Queues wsize self.old.lane self.old.slot turn saving shelf.old result self.new.state shelf.new }
@@ -135,7 +135,7 @@ impl CloseFile {
     {
         if !shelf.order.is_first(self.lane) {
             self.state = Closing::Queued(saving);
-            return Next::Wait;
+            return Step::Wait;
         }
         if shelf.back.end(&saving.file).is_none() {
             let file = saving.file;
@@ -152,7 +152,7 @@ impl CloseFile {
         wsize: u32,
         turn: Turn,
         shelf: &mut Shelf,
-    ) -> Next
+    ) -> Step
         requires size { 1 ≤ wsize }
         requires free { IsUnused turn.xid shelf.old.back }
         ensures step { GoesOnIf (is_first self.old.lane shelf.old.order) wsize self.old.lane self.old.slot turn saving shelf.old result self.new.state shelf.new }
@@ -160,7 +160,7 @@ impl CloseFile {
     {
         if !shelf.order.is_first(self.lane) {
             self.state = Closing::Saves(saving);
-            return Next::Wait;
+            return Step::Wait;
         }
         self.go(saving, true, alloc, wsize, turn, shelf)
     }
@@ -174,7 +174,7 @@ impl CloseFile {
         wsize: u32,
         turn: Turn,
         shelf: &mut Shelf,
-    ) -> Next
+    ) -> Step
         requires size { 1 ≤ wsize }
         requires free { IsUnused turn.xid shelf.old.back }
         ensures step { GoesOn wsize self.old.lane self.old.slot turn begun saving shelf.old result self.new.state shelf.new }
@@ -194,7 +194,7 @@ impl CloseFile {
         came: &Came<'_>,
         turn: Turn,
         shelf: &mut Shelf,
-    ) -> Next
+    ) -> Step
         requires size { 1 ≤ wsize }
         requires free { IsUnused turn.xid shelf.old.back }
         requires moment { 1 ≤ turn.moment }
@@ -218,25 +218,25 @@ impl CloseFile {
     /// It does as its save does, until that has ended. A save that waits may not have begun.
     fn follow(
         &mut self,
-        next: SavingNext,
+        next: SavingStep,
         begun: bool,
         saving: Saving,
         room: bool,
         shelf: &mut Shelf,
-    ) -> Next
+    ) -> Step
         ensures step { Follows next self.old.lane self.old.slot room begun saving shelf.old result self.new.state shelf.new }
         ensures machine { self.new ≡ record self.old { state = self.new.state } }
     {
         match next {
-            SavingNext::Send(call) => {
+            SavingStep::Send(call) => {
                 self.state = Closing::Saves(saving);
-                Next::Send(call)
+                Step::Send(call)
             }
-            SavingNext::Wait => {
+            SavingStep::Wait => {
                 self.state = waits_as(begun, saving);
-                Next::Wait
+                Step::Wait
             }
-            SavingNext::Ended(result) => {
+            SavingStep::Ended(result) => {
                 let file = saving.file;
                 self.free(file, refusal_of(result), room, shelf)
             }
@@ -244,7 +244,7 @@ impl CloseFile {
     }
 
     /// The slot is free. A file that is to be removed at its last close is.
-    fn free(&mut self, file: Handle, refusal: Option<Fault>, room: bool, shelf: &mut Shelf) -> Next
+    fn free(&mut self, file: Handle, refusal: Option<Fault>, room: bool, shelf: &mut Shelf) -> Step
         ensures step { Frees self.old.lane self.old.slot room file refusal shelf.old result self.new.state shelf.new }
         ensures machine { self.new ≡ record self.old { state = self.new.state } }
     {
@@ -264,16 +264,16 @@ impl CloseFile {
     }
 
     /// Asks for the removal as soon as there is room.
-    fn ask(&mut self, removal: Removal, room: bool) -> Next
+    fn ask(&mut self, removal: Removal, room: bool) -> Step
         ensures next { result ≡ ask_next room removal }
         ensures machine { self.new ≡ record self.old { state = ask_state room removal } }
     {
         if room {
             self.state = Closing::Removing(removal);
-            Next::Send(remove_of(&removal))
+            Step::Send(remove_of(&removal))
         } else {
             self.state = Closing::ToRemove(removal);
-            Next::Wait
+            Step::Wait
         }
     }
 
@@ -285,7 +285,7 @@ impl CloseFile {
         came: &Came<'_>,
         turn: Turn,
         shelf: &mut Shelf,
-    ) -> Next
+    ) -> Step
         ensures step { Removed self.old.lane sent turn (reply_of came.now) removal.now shelf.old result self.new.state shelf.new }
         ensures machine { self.new ≡ record self.old { state = self.new.state } }
     {
@@ -298,20 +298,20 @@ impl CloseFile {
         );
         if again(remove_busy(came), sent, turn, &mut shelf.repeats) {
             self.state = Closing::Removing(*removal);
-            return Next::Send(remove_of(removal));
+            return Step::Send(remove_of(removal));
         }
         self.end(&removal.file, removal.refusal, shelf)
     }
 
     /// The last step: it leaves the order.
-    fn end(&mut self, file: &Handle, refusal: Option<Fault>, shelf: &mut Shelf) -> Next
+    fn end(&mut self, file: &Handle, refusal: Option<Fault>, shelf: &mut Shelf) -> Step
         ensures step { Ends self.old.lane file.now refusal shelf.old result self.new.state shelf.new }
         ensures machine { self.new ≡ record self.old { state = self.new.state } }
     {
         give_up_by(refusal, file, &shelf.opens, &mut shelf.back);
         shelf.order.leave(self.lane);
         self.state = Closing::Idle;
-        Next::Done(closed_answer(refusal))
+        Step::Done(closed_answer(refusal))
     }
 }
 

@@ -17,7 +17,7 @@ use crate::told::got_by;
 use attr_cache::AttrCache;
 use client_shelf::busy::{again, is_busy};
 use client_shelf::learning::learn;
-use client_shelf::{Came, Next, Repeats, Turn};
+use client_shelf::{Came, Repeats, Step, Turn};
 use nfs_file_calls::FileCall;
 use nfs_types::{Attr, Handle};
 use page_cache::PageCache;
@@ -38,7 +38,7 @@ impl Reading {
         pages: &mut PageCache,
         repeats: &mut Repeats,
         back: &WriteBack,
-    ) -> Next
+    ) -> Step
         requires { 1 ≤ turn.moment }
         ensures step { Takes sent turn (reply_of came.now) repeats.old self.old pages.old back.now result (record { reading = self.new; pages = pages.new }) }
         ensures attrs { Learns self.old.file (attr_of self.old.phase (reply_of came.now)) sent.now attrs.old attrs.new }
@@ -49,7 +49,7 @@ impl Reading {
         }
         match self.heard(came) {
             Some(said) => self.tell(alloc, sent, said, turn, attrs, pages, repeats, back),
-            None => Next::Wait,
+            None => Step::Wait,
         }
     }
 
@@ -92,7 +92,7 @@ impl Reading {
         pages: &mut PageCache,
         repeats: &mut Repeats,
         back: &WriteBack,
-    ) -> Next
+    ) -> Step
         requires { 1 ≤ turn.moment }
         ensures step { TakesAttrs (goes_again (fails_busy reply) sent turn repeats.old) reply sent turn self.old pages.old back.now result (record { reading = self.new; pages = pages.new }) }
         ensures attrs { Learns self.old.file (attr_got reply) sent.now attrs.old attrs.new }
@@ -106,9 +106,9 @@ impl Reading {
             }
             Err(fault) => {
                 if again(is_busy(&fault), sent, turn, repeats) {
-                    return Next::Send(self.attrs_call());
+                    return Step::Send(self.attrs_call());
                 }
-                Next::Done(Answer::Refused(fault))
+                Step::Done(Answer::Refused(fault))
             }
         }
     }
@@ -122,7 +122,7 @@ impl Reading {
         turn: Turn,
         pages: &mut PageCache,
         back: &WriteBack,
-    ) -> Next
+    ) -> Step
         requires { 1 ≤ turn.moment }
         ensures { TakesAttr attr.now sent turn self.old pages.old back.now result (record { reading = self.new; pages = pages.new }) }
     {
@@ -131,7 +131,7 @@ impl Reading {
                 self.phase = Phase::Pages;
                 self.go(alloc, turn.room, pages, back)
             }
-            Err(Memory) => Next::Done(Answer::Refused(Fault::Memory)),
+            Err(Memory) => Step::Done(Answer::Refused(Fault::Memory)),
         }
     }
 
@@ -146,7 +146,7 @@ impl Reading {
         pages: &mut PageCache,
         repeats: &mut Repeats,
         back: &WriteBack,
-    ) -> Next
+    ) -> Step
         ensures next { Tells (goes_again (says_busy (said_of said.entry)) sent turn repeats.old) sent turn (said_of said.entry) self.old pages.old back.now result }
         ensures state { record { reading = self.new; pages = pages.new } ≡ told sent turn (said_of said.entry) self.old pages.old }
         ensures attrs { Learns self.old.file (attr_in (said_of said.entry)) sent.now attrs.old attrs.new }
@@ -176,14 +176,14 @@ impl Reading {
     }
 
     /// A part was refused: it is asked for again where the server is busy.
-    fn refused(&self, fault: Fault, sent: Turn, turn: Turn, repeats: &mut Repeats) -> Next
+    fn refused(&self, fault: Fault, sent: Turn, turn: Turn, repeats: &mut Repeats) -> Step
         ensures next { result ≡ refused_next (goes_again (is_busy fault) sent turn repeats.old) fault self.now }
         ensures repeats { repeats.new ≡ repeats_after (is_busy fault) sent turn repeats.old }
     {
         if again(is_busy(&fault), sent, turn, repeats) {
-            return Next::Send(self.part_call());
+            return Step::Send(self.part_call());
         }
-        Next::Done(Answer::Refused(fault))
+        Step::Done(Answer::Refused(fault))
     }
 
     /// The call for the part that it has asked for.

@@ -40,7 +40,7 @@ pub use laws::{
     truncate_waits_still, write_stays_ready, write_waits_still,
 };
 pub use open_file::OpenFile;
-pub use opening::{Led, Opening, OpeningNext, OpeningStep};
+pub use opening::{Led, Opening, OpeningPhase, OpeningStep};
 pub use put_file::{PutFile, Putting};
 pub use read_file::ReadFile;
 pub use saving::{Phase, Saving};

@@ -7,8 +7,8 @@ ghost use Rattle.file_ops.specs.Opening.{first_step, NotesAttrs, NotesNames, tol
 ghost use Rattle.file_ops.specs.OpenFile.{goes_as, gone, start_next, start_after, is_taken, place_of, opened_of, Puts, Follows, took_after, OpenTakes};
 ghost use Rattle.file_ops.specs.Opening.{go_next};
 
-use crate::opening::{Opening, OpeningNext};
-use client_shelf::{Came, Next, Shelf, Turn};
+use crate::opening::{Opening, OpeningStep};
+use client_shelf::{Came, Shelf, Step, Turn};
 use nfs_types::{Handle, Mode, Name};
 use open_files::{OpenFiles, Opened};
 use world_model::{Answer, Fault, Value};
@@ -38,21 +38,21 @@ impl OpenFile {
     }
 
     /// The first step.
-    pub fn start(&mut self, turn: Turn, shelf: &mut Shelf) -> Next
+    pub fn start(&mut self, turn: Turn, shelf: &mut Shelf) -> Step
         requires { 1 ≤ turn.moment }
         ensures next { result ≡ start_next self.old turn shelf.old.opens }
         ensures machine { self.new ≡ start_after self.old turn shelf.old.opens }
         ensures frame { shelf.new ≡ shelf.old }
     {
         if self.is_taken(&shelf.opens) {
-            return Next::Done(Answer::Refused(Fault::Slot));
+            return Step::Done(Answer::Refused(Fault::Slot));
         }
         self.opening.moment = turn.moment - 1;
         going(self.opening.go(turn))
     }
 
     /// The reply to its call came, which the step with the turn `sent` made.
-    pub fn took(&mut self, sent: Turn, came: &Came<'_>, turn: Turn, shelf: &mut Shelf) -> Next
+    pub fn took(&mut self, sent: Turn, came: &Came<'_>, turn: Turn, shelf: &mut Shelf) -> Step
         requires { 1 ≤ turn.moment }
         ensures steps { OpenTakes self.old sent turn (reply_of came.now) shelf.new.attrs shelf.old.repeats result shelf.old.pages shelf.new.pages shelf.old.opens shelf.new.opens }
         ensures machine { self.new ≡ took_after (opening_again self.old.opening sent turn (reply_of came.now) shelf.old.repeats) self.old turn (reply_of came.now) shelf.new.attrs shelf.old.pages }
@@ -66,7 +66,7 @@ impl OpenFile {
     }
 
     /// It may go on: there is room.
-    pub fn resume(&mut self, turn: Turn, shelf: &mut Shelf) -> Next
+    pub fn resume(&mut self, turn: Turn, shelf: &mut Shelf) -> Step
         ensures next { result ≡ goes_as (go_next self.old.opening turn) }
         ensures machine { self.new ≡ gone self.old turn }
         ensures frame { shelf.new ≡ shelf.old }
@@ -82,23 +82,23 @@ impl OpenFile {
     }
 
     /// What follows a step of the opening.
-    fn follow(&self, step: OpeningNext, opens: &mut OpenFiles) -> Next
+    fn follow(&self, step: OpeningStep, opens: &mut OpenFiles) -> Step
         ensures { Follows self.now step result opens.old opens.new }
     {
         match step {
-            OpeningNext::Ended(Ok(file)) => self.put(&file, opens),
-            OpeningNext::Ended(Err(fault)) => Next::Done(Answer::Refused(fault)),
-            OpeningNext::Send(call) => Next::Send(call),
-            OpeningNext::Wait => Next::Wait,
+            OpeningStep::Ended(Ok(file)) => self.put(&file, opens),
+            OpeningStep::Ended(Err(fault)) => Step::Done(Answer::Refused(fault)),
+            OpeningStep::Send(call) => Step::Send(call),
+            OpeningStep::Wait => Step::Wait,
         }
     }
 
     /// Puts the open to its slot.
-    fn put(&self, file: &Handle, opens: &mut OpenFiles) -> Next
+    fn put(&self, file: &Handle, opens: &mut OpenFiles) -> Step
         ensures { Puts (place_of self.now) (opened_of self.now.opening file.now) result opens.old opens.new }
     {
         if opens.get(self.lane, self.slot).is_some() {
-            return Next::Done(Answer::Refused(Fault::Slot));
+            return Step::Done(Answer::Refused(Fault::Slot));
         }
         let of = Opened {
             file: *file,
@@ -108,20 +108,20 @@ impl OpenFile {
             mark: self.opening.moment,
         };
         match opens.put(self.lane, self.slot, of) {
-            Ok(()) => Next::Done(Answer::Done(Value::Nothing)),
-            Err(Memory) => Next::Done(Answer::Refused(Fault::Memory)),
+            Ok(()) => Step::Done(Answer::Done(Value::Nothing)),
+            Err(Memory) => Step::Done(Answer::Refused(Fault::Memory)),
         }
     }
 }
 
 /// A step of the opening as one of the operation.
-pub(crate) fn going(step: OpeningNext) -> Next
+pub(crate) fn going(step: OpeningStep) -> Step
     ensures { result ≡ goes_as step }
 {
     match step {
-        OpeningNext::Send(call) => Next::Send(call),
-        OpeningNext::Wait => Next::Wait,
-        OpeningNext::Ended(Ok(_)) => Next::Done(Answer::Done(Value::Nothing)),
-        OpeningNext::Ended(Err(fault)) => Next::Done(Answer::Refused(fault)),
+        OpeningStep::Send(call) => Step::Send(call),
+        OpeningStep::Wait => Step::Wait,
+        OpeningStep::Ended(Ok(_)) => Step::Done(Answer::Done(Value::Nothing)),
+        OpeningStep::Ended(Err(fault)) => Step::Done(Answer::Refused(fault)),
     }
 }

@@ -7,7 +7,7 @@ ghost use Rattle.client_shelf.specs.Busy.{repeats_after};
 ghost use Rattle.file_ops.specs.PagesOpened.{opened_pages};
 ghost use Rattle.page_cache.specs.Pages.{opened};
 ghost use Rattle.file_ops.specs.Told.{got_by};
-ghost use Rattle.file_ops.specs.declared.opening.OpeningStep.TheVariants.{Look};
+ghost use Rattle.file_ops.specs.declared.opening.OpeningPhase.TheVariants.{Look};
 
 use crate::noting::{note_attr, note_create, note_look_up};
 use crate::open_pages::open_pages;
@@ -26,7 +26,7 @@ use xdr_codec::Memory;
 
 /// The call that an opening makes, or waits for.
 #[derive(Clone, Copy, Debug, PartialEq, Eq)]
-pub enum OpeningStep {
+pub enum OpeningPhase {
     /// LOOKUP, before any CREATE.
     Look,
     /// CREATE.
@@ -39,7 +39,7 @@ pub enum OpeningStep {
 
 /// What a step of an opening comes to.
 #[derive(Debug, Drop)]
-pub enum OpeningNext {
+pub enum OpeningStep {
     /// It asks for this call.
     Send(Call),
     /// It waits for a reply or for room.
@@ -52,7 +52,7 @@ pub enum OpeningNext {
 #[derive(Clone, Copy, Debug)]
 pub enum Led {
     /// To another call.
-    Goes(OpeningStep),
+    Goes(OpeningPhase),
     /// The file is there, with these attributes.
     Opens(Handle, Attr),
     /// The file is there, in its known state, and isn't asked for its attributes.
@@ -75,7 +75,7 @@ pub struct Opening {
     /// The operation's own moment.
     pub moment: u64,
     /// The call that it makes next, or waits for.
-    pub step: OpeningStep,
+    pub step: OpeningPhase,
     /// Whether it asked for that call.
     pub asked: bool,
     /// How often a LOOKUP of the name was put off (RFC 1813, NFS3ERR_JUKEBOX), before a CREATE and after it.
@@ -94,8 +94,8 @@ impl Opening {
             nocto,
             moment,
             step: match mode {
-                Mode::X => OpeningStep::Make,
-                _ => OpeningStep::Look,
+                Mode::X => OpeningPhase::Make,
+                _ => OpeningPhase::Look,
             },
             asked: false,
             put_off: 0,
@@ -103,15 +103,15 @@ impl Opening {
     }
 
     /// Asks for its next call, where there is room.
-    pub(crate) fn go(&mut self, turn: Turn) -> OpeningNext
+    pub(crate) fn go(&mut self, turn: Turn) -> OpeningStep
         ensures next { result ≡ go_next self.old turn }
         ensures machine { self.new ≡ go_after self.old turn }
     {
         if self.asked || !turn.room {
-            return OpeningNext::Wait;
+            return OpeningStep::Wait;
         }
         self.asked = true;
-        OpeningNext::Send(self.call())
+        OpeningStep::Send(self.call())
     }
 
     /// Takes the reply to its call, which the step with the turn `sent` made. A call that is refused because the server is
@@ -122,7 +122,7 @@ impl Opening {
         came: &Came<'_>,
         turn: Turn,
         shelf: &mut Shelf,
-    ) -> OpeningNext
+    ) -> OpeningStep
         requires { 1 ≤ turn.moment }
         ensures machine { self.new ≡ opening_after (opening_again self.old sent turn (reply_of came.now) shelf.old.repeats) self.old turn (led_on self.old turn.now (reply_of came.now) shelf.new.attrs shelf.old.pages) }
         ensures next { LedIf (opening_again self.old sent turn (reply_of came.now) shelf.old.repeats) self.old sent turn (led_on self.old turn.now (reply_of came.now) shelf.new.attrs shelf.old.pages) result shelf.old.pages shelf.new.pages }
@@ -136,7 +136,7 @@ impl Opening {
         if again(self.may_again(&told), sent, turn, &mut shelf.repeats) {
             let call = self.call();
             self.count();
-            return OpeningNext::Send(call);
+            return OpeningStep::Send(call);
         }
         let led = self.known(told, turn.now, &shelf.attrs, &shelf.pages);
         self.lead(led, sent, turn, &mut shelf.pages)
@@ -160,7 +160,7 @@ impl Opening {
     }
 
     /// Goes to where the reply leads.
-    fn lead(&mut self, led: Led, sent: Turn, turn: Turn, pages: &mut PageCache) -> OpeningNext
+    fn lead(&mut self, led: Led, sent: Turn, turn: Turn, pages: &mut PageCache) -> OpeningStep
         requires { 1 ≤ turn.moment }
         ensures machine { self.new ≡ led_after self.old turn led }
         ensures next { LedTo self.old sent turn led result pages.old pages.new }
@@ -168,15 +168,15 @@ impl Opening {
         match led {
             Led::Goes(step) => self.go_to(step, turn),
             Led::Opens(file, attr) => {
-                OpeningNext::Ended(self.open_pages(file, attr, sent, turn, pages))
+                OpeningStep::Ended(self.open_pages(file, attr, sent, turn, pages))
             }
-            Led::Knows(file, stamp) => OpeningNext::Ended(self.open_known(file, stamp, pages)),
-            Led::Ends(fault) => OpeningNext::Ended(Err(fault)),
+            Led::Knows(file, stamp) => OpeningStep::Ended(self.open_known(file, stamp, pages)),
+            Led::Ends(fault) => OpeningStep::Ended(Err(fault)),
         }
     }
 
     /// Goes to another call.
-    fn go_to(&mut self, step: OpeningStep, turn: Turn) -> OpeningNext
+    fn go_to(&mut self, step: OpeningPhase, turn: Turn) -> OpeningStep
         ensures machine { self.new ≡ go_after (at_step self.old step) turn }
         ensures next { result ≡ go_next (at_step self.old step) turn }
     {
@@ -229,10 +229,10 @@ impl Opening {
         ensures { result ≡ led_to self.now.mode self.now.step (reply_of came.now) }
     {
         match self.step {
-            OpeningStep::Look => looked(self.mode, came),
-            OpeningStep::Make => made(made_by(came)),
-            OpeningStep::Find => found(found_by(came)),
-            OpeningStep::Ask(file) => got(file, got_by(came)),
+            OpeningPhase::Look => looked(self.mode, came),
+            OpeningPhase::Make => made(made_by(came)),
+            OpeningPhase::Find => found(found_by(came)),
+            OpeningPhase::Ask(file) => got(file, got_by(came)),
         }
     }
 
@@ -242,10 +242,10 @@ impl Opening {
         ensures names { NotesNames self.now (reply_of came.now) self.now.step names.old names.new }
     {
         match self.step {
-            OpeningStep::Look => note_look_up(&self.dir, &self.name, came, now, attrs, names),
-            OpeningStep::Make => note_create(&self.dir, came, now, attrs, names),
-            OpeningStep::Find => note_look_up(&self.dir, &self.name, came, now, attrs, names),
-            OpeningStep::Ask(file) => note_attr(&file, got_by(came), now, attrs),
+            OpeningPhase::Look => note_look_up(&self.dir, &self.name, came, now, attrs, names),
+            OpeningPhase::Make => note_create(&self.dir, came, now, attrs, names),
+            OpeningPhase::Find => note_look_up(&self.dir, &self.name, came, now, attrs, names),
+            OpeningPhase::Ask(file) => note_attr(&file, got_by(came), now, attrs),
         }
     }
 
@@ -254,14 +254,14 @@ impl Opening {
         ensures { result ≡ call_of self.now self.now.step }
     {
         match self.step {
-            OpeningStep::Look => self.look_up(),
-            OpeningStep::Make => Call::Dir(DirCall::Create {
+            OpeningPhase::Look => self.look_up(),
+            OpeningPhase::Make => Call::Dir(DirCall::Create {
                 dir: self.dir,
                 name: self.name,
                 making: making(self.mode),
             }),
-            OpeningStep::Find => self.look_up(),
-            OpeningStep::Ask(file) => Call::File(FileCall::GetAttr { file }),
+            OpeningPhase::Find => self.look_up(),
+            OpeningPhase::Ask(file) => Call::File(FileCall::GetAttr { file }),
         }
     }
 
@@ -298,7 +298,7 @@ fn looked(mode: Mode, came: &Came<'_>) -> Led
     ensures { result ≡ led_to mode Look (reply_of came.now) }
 {
     if makes(mode, came) {
-        Led::Goes(OpeningStep::Make)
+        Led::Goes(OpeningPhase::Make)
     } else {
         found(found_by(came))
     }
@@ -333,8 +333,8 @@ fn made(reply: Result<Option<Handle>, Fault>) -> Led
     ensures { result ≡ made reply }
 {
     match reply {
-        Ok(Some(found)) => Led::Goes(OpeningStep::Ask(found)),
-        Ok(None) => Led::Goes(OpeningStep::Find),
+        Ok(Some(found)) => Led::Goes(OpeningPhase::Ask(found)),
+        Ok(None) => Led::Goes(OpeningPhase::Find),
         Err(fault) => Led::Ends(fault),
     }
 }
@@ -344,7 +344,7 @@ fn found(reply: Result<Handle, Fault>) -> Led
     ensures { result ≡ found reply }
 {
     match reply {
-        Ok(file) => Led::Goes(OpeningStep::Ask(file)),
+        Ok(file) => Led::Goes(OpeningPhase::Ask(file)),
         Err(fault) => Led::Ends(fault),
     }
 }
@@ -366,14 +366,14 @@ fn got(file: Handle, reply: Result<Attr, Fault>) -> Led
 }
 
 /// Whether the name is looked up.
-fn looks(step: &OpeningStep) -> bool
+fn looks(step: &OpeningPhase) -> bool
     ensures { result ≡ looks step.now }
 {
     match step {
-        OpeningStep::Look => true,
-        OpeningStep::Find => true,
-        OpeningStep::Make => false,
-        OpeningStep::Ask(_) => false,
+        OpeningPhase::Look => true,
+        OpeningPhase::Find => true,
+        OpeningPhase::Make => false,
+        OpeningPhase::Ask(_) => false,
     }
 }
 
@@ -403,14 +403,14 @@ fn known_led(led: Led, now: u64, attrs: &AttrCache, pages: &PageCache) -> Led
 }
 
 /// The same where it leads to another call.
-fn known_step(step: OpeningStep, now: u64, attrs: &AttrCache, pages: &PageCache) -> Led
+fn known_step(step: OpeningPhase, now: u64, attrs: &AttrCache, pages: &PageCache) -> Led
     ensures { result ≡ known_step step now attrs.now pages.now }
 {
     match step {
-        OpeningStep::Ask(file) => known_at(file, attrs.look(&file, now), pages.stamp(&file)),
-        OpeningStep::Look => Led::Goes(OpeningStep::Look),
-        OpeningStep::Make => Led::Goes(OpeningStep::Make),
-        OpeningStep::Find => Led::Goes(OpeningStep::Find),
+        OpeningPhase::Ask(file) => known_at(file, attrs.look(&file, now), pages.stamp(&file)),
+        OpeningPhase::Look => Led::Goes(OpeningPhase::Look),
+        OpeningPhase::Make => Led::Goes(OpeningPhase::Make),
+        OpeningPhase::Find => Led::Goes(OpeningPhase::Find),
     }
 }
 
@@ -419,11 +419,11 @@ fn known_at(file: Handle, attr: Option<Attr>, known: Option<Stamp>) -> Led
     ensures { result ≡ known_at file attr known }
 {
     let (Some(attr), Some(stamp)) = (attr, known) else {
-        return Led::Goes(OpeningStep::Ask(file));
+        return Led::Goes(OpeningPhase::Ask(file));
     };
     if attr.kind == 1 && attr.stamp() == stamp {
         Led::Knows(file, stamp)
     } else {
-        Led::Goes(OpeningStep::Ask(file))
+        Led::Goes(OpeningPhase::Ask(file))
     }
 }

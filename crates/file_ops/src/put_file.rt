@@ -4,7 +4,7 @@ ghost use Rattle.std.specs.Prelude.{◌≡◌, ◌+◌, ◌-◌, ◌^◌, ◌<�
 ghost use Rattle.client_shelf.specs.Coming.{reply_of};
 ghost use Rattle.world_model.specs.declared.answer.Answer.TheVariants.{Done as WasDone};
 ghost use Rattle.world_model.specs.declared.answer.Value.{Value as Told};
-ghost use Rattle.client_shelf.specs.declared.next.Next.TheVariants.{Done};
+ghost use Rattle.client_shelf.specs.declared.step.Step.TheVariants.{Done};
 ghost use Rattle.write_back.specs.Files.{IsNewest};
 ghost use Rattle.file_ops.specs.declared.put_file.Putting.TheVariants as states;
 ghost use Rattle.file_ops.specs.Opening.{go_next, go_after};
@@ -15,10 +15,10 @@ ghost use Rattle.file_ops.specs.PutFile.{keeps_refused, GivesUpAlone, Ends, Foll
 
 use crate::closing::{closed_answer, give_up_by, refusal_of};
 use crate::open_file::going;
-use crate::opening::{Opening, OpeningNext};
-use crate::saving::{Saving, SavingNext};
+use crate::opening::{Opening, OpeningStep};
+use crate::saving::{Saving, SavingStep};
 use crate::write_file::{Text, WriteFile};
-use client_shelf::{Came, LaneFiles, Next, Shelf, Turn};
+use client_shelf::{Came, LaneFiles, Shelf, Step, Turn};
 use nfs_types::{Handle, Mode, Name};
 use open_files::OpenFiles;
 use std::alloc::Global;
@@ -70,7 +70,7 @@ impl PutFile {
     }
 
     /// The first step: it asks for its file.
-    pub fn start(&mut self, turn: Turn) -> Next
+    pub fn start(&mut self, turn: Turn) -> Step
         requires { 1 ≤ turn.moment }
         ensures next { result ≡ goes_as (go_next (opening_at turn self.old) turn) }
         ensures machine { self.new ≡ record self.old { opening = go_after (opening_at turn self.old) turn; state = states.Opens } }
@@ -81,14 +81,14 @@ impl PutFile {
     }
 
     /// A step that no reply made possible.
-    pub fn resume(&mut self, alloc: Global, wsize: u32, turn: Turn, shelf: &mut Shelf) -> Next
+    pub fn resume(&mut self, alloc: Global, wsize: u32, turn: Turn, shelf: &mut Shelf) -> Step
         requires size { 1 ≤ wsize }
         requires free { IsUnused turn.xid shelf.old.back }
         ensures step { Resumes self.old.state wsize self.old turn shelf.old result self.new shelf.new }
     {
         let state = self.state;
         match state {
-            Putting::Idle => Next::Wait,
+            Putting::Idle => Step::Wait,
             Putting::Opens => going(self.opening.go(turn)),
             Putting::Adds(file) => self.resume_room(alloc, wsize, &file, turn, shelf),
             Putting::Saves(saving) => self.queue(saving, alloc, wsize, turn, shelf),
@@ -104,7 +104,7 @@ impl PutFile {
         came: &Came<'_>,
         turn: Turn,
         shelf: &mut Shelf,
-    ) -> Next
+    ) -> Step
         requires newest { IsNewest (shelf.old.seq + 1) shelf.old.back }
         requires last { self.old.write.offset + length (made_bytes self.old.write.text) ≤ 2 ^ 63 - 1 }
         requires size { 1 ≤ wsize }
@@ -115,7 +115,7 @@ impl PutFile {
     {
         let state = self.state;
         match state {
-            Putting::Idle => Next::Wait,
+            Putting::Idle => Step::Wait,
             Putting::Opens => self.take_opening(alloc, wsize, sent, came, turn, shelf),
             Putting::Adds(file) => self.take_room(alloc, wsize, &file, sent, came, turn, shelf),
             Putting::Saves(saving) => self.take_saving(
@@ -133,7 +133,7 @@ impl PutFile {
         came: &Came<'_>,
         turn: Turn,
         shelf: &mut Shelf,
-    ) -> Next
+    ) -> Step
         requires newest { IsNewest (shelf.old.seq + 1) shelf.old.back }
         requires last { self.old.write.offset + length (made_bytes self.old.write.text) ≤ 2 ^ 63 - 1 }
         requires size { 1 ≤ wsize }
@@ -149,12 +149,12 @@ impl PutFile {
     /// What follows a step of the opening.
     fn opened(
         &mut self,
-        step: OpeningNext,
+        step: OpeningStep,
         alloc: Global,
         wsize: u32,
         turn: Turn,
         shelf: &mut Shelf,
-    ) -> Next
+    ) -> Step
         requires newest { IsNewest (shelf.old.seq + 1) shelf.old.back }
         requires last { self.old.write.offset + length (made_bytes self.old.write.text) ≤ 2 ^ 63 - 1 }
         requires size { 1 ≤ wsize }
@@ -164,12 +164,12 @@ impl PutFile {
         ensures { AfterOpening step wsize self.old turn shelf.old result self.new shelf.new }
     {
         match step {
-            OpeningNext::Send(call) => Next::Send(call),
-            OpeningNext::Wait => Next::Wait,
-            OpeningNext::Ended(Ok(file)) => self.add(alloc, wsize, &file, turn, shelf),
-            OpeningNext::Ended(Err(fault)) => {
+            OpeningStep::Send(call) => Step::Send(call),
+            OpeningStep::Wait => Step::Wait,
+            OpeningStep::Ended(Ok(file)) => self.add(alloc, wsize, &file, turn, shelf),
+            OpeningStep::Ended(Err(fault)) => {
                 self.state = Putting::Idle;
-                Next::Done(Answer::Refused(fault))
+                Step::Done(Answer::Refused(fault))
             }
         }
     }
@@ -182,7 +182,7 @@ impl PutFile {
         file: &Handle,
         turn: Turn,
         shelf: &mut Shelf,
-    ) -> Next
+    ) -> Step
         requires newest { IsNewest (shelf.old.seq + 1) shelf.old.back }
         requires last { self.old.write.offset + length (made_bytes self.old.write.text) ≤ 2 ^ 63 - 1 }
         requires size { 1 ≤ wsize }
@@ -206,7 +206,7 @@ impl PutFile {
         came: &Came<'_>,
         turn: Turn,
         shelf: &mut Shelf,
-    ) -> Next
+    ) -> Step
         requires newest { IsNewest (shelf.old.seq + 1) shelf.old.back }
         requires last { self.old.write.offset + length (made_bytes self.old.write.text) ≤ 2 ^ 63 - 1 }
         requires size { 1 ≤ wsize }
@@ -227,7 +227,7 @@ impl PutFile {
         file: &Handle,
         turn: Turn,
         shelf: &mut Shelf,
-    ) -> Next
+    ) -> Step
         requires size { 1 ≤ wsize }
         requires free { IsUnused turn.xid shelf.old.back }
         ensures step { ResumesRoom wsize self.old file.now turn shelf.old result self.new shelf.new }
@@ -239,13 +239,13 @@ impl PutFile {
     /// What follows a step of the write.
     fn wrote(
         &mut self,
-        next: Next,
+        next: Step,
         alloc: Global,
         wsize: u32,
         file: &Handle,
         turn: Turn,
         shelf: &mut Shelf,
-    ) -> Next
+    ) -> Step
         requires size { 1 ≤ wsize }
         requires free { (value : Told) → next ≡ Done (WasDone value) → IsUnused turn.xid shelf.old.back }
         ensures step { AfterWrite next wsize self.old.write.lane file.now turn shelf.old result self.new.state shelf.new }
@@ -253,9 +253,9 @@ impl PutFile {
     {
         self.state = Putting::Adds(*file);
         match next {
-            Next::Send(call) => Next::Send(call),
-            Next::Wait => Next::Wait,
-            Next::Done(answer) => match answer {
+            Step::Send(call) => Step::Send(call),
+            Step::Wait => Step::Wait,
+            Step::Done(answer) => match answer {
                 Answer::Done(_) => self.save(alloc, wsize, file, turn, shelf),
                 Answer::Refused(fault) => self.end(file, Some(fault), shelf),
             },
@@ -270,7 +270,7 @@ impl PutFile {
         file: &Handle,
         turn: Turn,
         shelf: &mut Shelf,
-    ) -> Next
+    ) -> Step
         requires size { 1 ≤ wsize }
         requires free { IsUnused turn.xid shelf.old.back }
         ensures step { SavesFile wsize self.old.write.lane file.now turn shelf.old result self.new.state shelf.new }
@@ -289,7 +289,7 @@ impl PutFile {
         wsize: u32,
         turn: Turn,
         shelf: &mut Shelf,
-    ) -> Next
+    ) -> Step
         requires size { 1 ≤ wsize }
         requires free { IsUnused turn.xid shelf.old.back }
         ensures step { Queues wsize self.old.write.lane turn saving shelf.old result self.new.state shelf.new }
@@ -297,7 +297,7 @@ impl PutFile {
     {
         if !shelf.order.is_first(self.write.lane) {
             self.state = Putting::Saves(saving);
-            return Next::Wait;
+            return Step::Wait;
         }
         self.go(saving, alloc, wsize, turn, shelf)
     }
@@ -310,7 +310,7 @@ impl PutFile {
         wsize: u32,
         turn: Turn,
         shelf: &mut Shelf,
-    ) -> Next
+    ) -> Step
         requires size { 1 ≤ wsize }
         requires free { IsUnused turn.xid shelf.old.back }
         ensures step { GoesOn wsize self.old.write.lane turn saving shelf.old result self.new.state shelf.new }
@@ -330,7 +330,7 @@ impl PutFile {
         came: &Came<'_>,
         turn: Turn,
         shelf: &mut Shelf,
-    ) -> Next
+    ) -> Step
         requires size { 1 ≤ wsize }
         requires free { IsUnused turn.xid shelf.old.back }
         requires moment { 1 ≤ turn.moment }
@@ -352,21 +352,21 @@ impl PutFile {
     }
 
     /// It does as its save does, until that has ended.
-    fn follow(&mut self, next: SavingNext, saving: Saving, shelf: &mut Shelf) -> Next
+    fn follow(&mut self, next: SavingStep, saving: Saving, shelf: &mut Shelf) -> Step
         ensures step { Follows next self.old.write.lane saving shelf.old result self.new.state shelf.new }
         ensures machine { self.new ≡ record self.old { state = self.new.state } }
     {
         let file = saving.file;
         self.state = Putting::Saves(saving);
         match next {
-            SavingNext::Send(call) => Next::Send(call),
-            SavingNext::Wait => Next::Wait,
-            SavingNext::Ended(result) => self.end(&file, refusal_of(result), shelf),
+            SavingStep::Send(call) => Step::Send(call),
+            SavingStep::Wait => Step::Wait,
+            SavingStep::Ended(result) => self.end(&file, refusal_of(result), shelf),
         }
     }
 
     /// The last step: it is at no file any more.
-    fn end(&mut self, file: &Handle, refusal: Option<Fault>, shelf: &mut Shelf) -> Next
+    fn end(&mut self, file: &Handle, refusal: Option<Fault>, shelf: &mut Shelf) -> Step
         ensures step { Ends self.old.write.lane file.now refusal shelf.old result self.new.state shelf.new }
         ensures machine { self.new ≡ record self.old { state = self.new.state } }
     {
@@ -382,7 +382,7 @@ impl PutFile {
         shelf.order.leave(self.write.lane);
         shelf.puts.leave(self.write.lane);
         self.state = Putting::Idle;
-        Next::Done(closed_answer(refusal))
+        Step::Done(closed_answer(refusal))
     }
 }
 

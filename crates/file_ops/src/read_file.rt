@@ -11,7 +11,7 @@ use crate::base::Base;
 use crate::overlaid::WasPending;
 use crate::reading::{Phase, Reading};
 use crate::space::Space;
-use client_shelf::{Came, Next, Shelf, Turn};
+use client_shelf::{Came, Shelf, Step, Turn};
 use nfs_types::{Handle, Mode};
 use open_files::Opened;
 use page_cache::PageCache;
@@ -55,7 +55,7 @@ impl ReadFile {
     }
 
     /// The first step.
-    pub fn start(&mut self, alloc: Global, turn: Turn, shelf: &mut Shelf) -> Next
+    pub fn start(&mut self, alloc: Global, turn: Turn, shelf: &mut Shelf) -> Step
         requires { 1 ≤ turn.moment }
         ensures step { Starts (finite.get shelf.old.opens (self.old.lane, self.old.slot)) turn self.old shelf.old.pages shelf.old.back result self.new shelf.new.pages }
         ensures frame { shelf.new ≡ record shelf.old { pages = shelf.new.pages } }
@@ -77,7 +77,7 @@ impl ReadFile {
         came: &Came<'_>,
         turn: Turn,
         shelf: &mut Shelf,
-    ) -> Next
+    ) -> Step
         requires { 1 ≤ turn.moment }
         ensures step { TakesIn self.old.reading sent turn (reply_of came.now) shelf.old.repeats self.old shelf.old.pages shelf.old.back result self.new shelf.new.pages }
         ensures attrs { Learns (file_of self.old.reading) (attr_heard self.old.reading (reply_of came.now)) sent.now shelf.old.attrs shelf.new.attrs }
@@ -85,7 +85,7 @@ impl ReadFile {
         ensures frame { shelf.new ≡ record shelf.old { attrs = shelf.new.attrs; pages = shelf.new.pages; repeats = shelf.new.repeats } }
     {
         let Some(reading) = &mut self.reading else {
-            return Next::Wait;
+            return Step::Wait;
         };
         reading.took(
             alloc,
@@ -100,12 +100,12 @@ impl ReadFile {
     }
 
     /// It may go on.
-    pub fn resume(&mut self, alloc: Global, turn: Turn, shelf: &mut Shelf) -> Next
+    pub fn resume(&mut self, alloc: Global, turn: Turn, shelf: &mut Shelf) -> Step
         ensures step { ResumesIn self.old.reading turn.room self.old shelf.old.pages shelf.old.back result self.new shelf.new.pages }
         ensures frame { shelf.new ≡ record shelf.old { pages = shelf.new.pages } }
     {
         let Some(reading) = &mut self.reading else {
-            return Next::Wait;
+            return Step::Wait;
         };
         reading.go(alloc, turn.room, &mut shelf.pages, &shelf.back)
     }
@@ -196,7 +196,7 @@ impl ReadFile {
         room: bool,
         pages: &mut PageCache,
         back: &WriteBack,
-    ) -> Next
+    ) -> Step
         ensures { StartsWith begun room self.old pages.old back.now result self.new pages.new }
     {
         match begun {
@@ -205,7 +205,7 @@ impl ReadFile {
                 self.reading = Some(reading);
                 next
             }
-            Err(fault) => Next::Done(Answer::Refused(fault)),
+            Err(fault) => Step::Done(Answer::Refused(fault)),
         }
     }
 }

@@ -8,7 +8,7 @@ use crate::base::Base;
 use crate::gather::{Found, gather, plan};
 use crate::overlaid::{WasPending, bytes_from};
 use crate::space::Space;
-use client_shelf::Next;
+use client_shelf::Step;
 use nfs_file_calls::FileCall;
 use nfs_types::Handle;
 use page_cache::PageCache;
@@ -63,7 +63,7 @@ impl Reading {
         room: bool,
         pages: &mut PageCache,
         back: &WriteBack,
-    ) -> Next
+    ) -> Step
         ensures next { Goes room back.now (settled self.old pages.old) result }
         ensures state { record { reading = self.new; pages = pages.new } ≡ gone room (settled self.old pages.old) }
     {
@@ -90,12 +90,12 @@ impl Reading {
     }
 
     /// It makes its next call where it is to and there is room; where it has ended it answers.
-    fn step(&mut self, alloc: Global, room: bool, pages: &mut PageCache, back: &WriteBack) -> Next
+    fn step(&mut self, alloc: Global, room: bool, pages: &mut PageCache, back: &WriteBack) -> Step
         ensures next { Goes room back.now (record { reading = self.old; pages = pages.old }) result }
         ensures state { record { reading = self.new; pages = pages.new } ≡ gone room (record { reading = self.old; pages = pages.old }) }
     {
         if self.asks(room) {
-            return Next::Send(self.ask(pages));
+            return Step::Send(self.ask(pages));
         }
         self.stay(alloc, back)
     }
@@ -169,26 +169,26 @@ impl Reading {
     }
 
     /// What it comes to where it has ended, or else waits.
-    fn stay(&mut self, alloc: Global, back: &WriteBack) -> Next
+    fn stay(&mut self, alloc: Global, back: &WriteBack) -> Step
         ensures next { Stays self.old.phase self.old back.now result }
         ensures state { self.new ≡ answered self.old.phase self.old }
     {
         match self.phase {
-            Phase::Attrs => Next::Wait,
-            Phase::AskedAttrs => Next::Wait,
-            Phase::Pages => Next::Wait,
-            Phase::Rest => Next::Wait,
-            Phase::Asked(_) => Next::Wait,
+            Phase::Attrs => Step::Wait,
+            Phase::AskedAttrs => Step::Wait,
+            Phase::Pages => Step::Wait,
+            Phase::Rest => Step::Wait,
+            Phase::Asked(_) => Step::Wait,
             Phase::Ended => self.show(alloc, back),
         }
     }
 
     /// The answer, whose memory was taken when it began.
-    fn show(&mut self, alloc: Global, back: &WriteBack) -> Next
+    fn show(&mut self, alloc: Global, back: &WriteBack) -> Step
         ensures next { result ≡ shown_next (answer_of self.old back.now) }
         ensures state { self.new ≡ record self.old { space = 0 } }
     {
-        Next::Done(Answer::Done(Value::Bytes(self.shown(alloc, back))))
+        Step::Done(Answer::Done(Value::Bytes(self.shown(alloc, back))))
     }
 
     /// The bytes that it answers with. Its space is used up.

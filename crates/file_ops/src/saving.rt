@@ -44,7 +44,7 @@ pub enum Phase {
 
 /// What a step of a save comes to.
 #[derive(Debug, Drop)]
-pub(crate) enum SavingNext {
+pub(crate) enum SavingStep {
     /// It asks for this call.
     Send(Call),
     /// It waits.
@@ -96,7 +96,7 @@ impl Saving {
         turn: Turn,
         by_reply: bool,
         back: &mut WriteBack,
-    ) -> SavingNext
+    ) -> SavingStep
         requires size { 1 ≤ wsize }
         requires free { IsFree turn.xid self.old.file back.old }
         ensures { Goes wsize turn.xid turn.room by_reply self.old back.old result self.new back.new }
@@ -105,7 +105,7 @@ impl Saving {
             return refused_next(self.waiting, fault);
         }
         if !self.may_send(turn.room) {
-            return SavingNext::Wait;
+            return SavingStep::Wait;
         }
         self.send(alloc, wsize, turn.xid, by_reply, back)
     }
@@ -124,7 +124,7 @@ impl Saving {
         xid: u32,
         by_reply: bool,
         back: &mut WriteBack,
-    ) -> SavingNext
+    ) -> SavingStep
         requires size { 1 ≤ wsize }
         requires free { IsFree xid self.old.file back.old }
         requires few { self.old.waiting < 32 }
@@ -133,7 +133,7 @@ impl Saving {
         match write_call(alloc, &self.file, self.upto, wsize, xid, back) {
             Ok(Some(call)) => {
                 self.waiting += 1;
-                SavingNext::Send(call)
+                SavingStep::Send(call)
             }
             Ok(None) => self.sent_all(by_reply),
             Err(_memory) => refused_next(self.waiting, Fault::Memory),
@@ -141,19 +141,19 @@ impl Saving {
     }
 
     /// Nothing is left to send.
-    fn sent_all(&mut self, by_reply: bool) -> SavingNext
+    fn sent_all(&mut self, by_reply: bool) -> SavingStep
         ensures next { result ≡ next_sent by_reply self.old }
         ensures saving { self.new ≡ saving_sent by_reply self.old }
     {
         if self.waiting > 0 {
-            return SavingNext::Wait;
+            return SavingStep::Wait;
         }
         if is_again(self.phase) && by_reply {
-            return SavingNext::Ended(Ok(()));
+            return SavingStep::Ended(Ok(()));
         }
         self.phase = commit_phase(self.phase);
         self.waiting = 1;
-        SavingNext::Send(commit_of(&self.file))
+        SavingStep::Send(commit_of(&self.file))
     }
 
     /// Takes what came of its call, which the step with the turn `sent` made, and goes on.
@@ -168,7 +168,7 @@ impl Saving {
         pages: &mut PageCache,
         repeats: &mut Repeats,
         back: &mut WriteBack,
-    ) -> SavingNext
+    ) -> SavingStep
         requires size { 1 ≤ wsize }
         requires free { IsFree turn.xid self.old.file back.old }
         requires moment { 1 ≤ turn.moment }
@@ -201,7 +201,7 @@ impl Saving {
         turn: Turn,
         repeats: &mut Repeats,
         back: &mut WriteBack,
-    ) -> SavingNext
+    ) -> SavingStep
         requires size { 1 ≤ wsize }
         requires free { IsFree turn.xid self.old.file back.old }
         ensures { TakesTold wsize sent turn told repeats.old self.old back.old result self.new back.new repeats.new }
@@ -238,7 +238,7 @@ impl Saving {
         turn: Turn,
         repeats: &mut Repeats,
         back: &mut WriteBack,
-    ) -> SavingNext
+    ) -> SavingStep
         requires size { 1 ≤ wsize }
         requires free { IsFree turn.xid self.old.file back.old }
         ensures { TakesBusy wsize sent turn told repeats.old self.old back.old result self.new back.new repeats.new }
@@ -252,7 +252,7 @@ impl Saving {
             return self.take_write(alloc, wsize, sent.xid, told, turn, back);
         }
         back.renumber(&self.file, sent.xid, turn.xid);
-        SavingNext::Send(call)
+        SavingStep::Send(call)
     }
 
     /// The piece lands, and the save goes on.
@@ -264,7 +264,7 @@ impl Saving {
         told: WriteTold,
         turn: Turn,
         back: &mut WriteBack,
-    ) -> SavingNext
+    ) -> SavingStep
         requires size { 1 ≤ wsize }
         requires free { IsFree turn.xid self.old.file back.old }
         ensures { TakesWrite wsize asked turn.xid turn.room told (less_waiting self.old) back.old result self.new back.new }
@@ -295,7 +295,7 @@ impl Saving {
         turn: Turn,
         repeats: &mut Repeats,
         back: &mut WriteBack,
-    ) -> SavingNext
+    ) -> SavingStep
         requires size { 1 ≤ wsize }
         requires free { IsFree turn.xid self.old.file back.old }
         ensures step { TakesFirst (commit_again told sent turn repeats.old self.old) wsize turn told self.old back.old result self.new back.new }
@@ -303,7 +303,7 @@ impl Saving {
     {
         if again(self.may_commit(&told), sent, turn, repeats) {
             self.put_off += 1;
-            return SavingNext::Send(commit_of(&self.file));
+            return SavingStep::Send(commit_of(&self.file));
         }
         self.take_commit(alloc, wsize, told, turn, back)
     }
@@ -315,14 +315,14 @@ impl Saving {
         told: Result<Verf, Fault>,
         turn: Turn,
         repeats: &mut Repeats,
-    ) -> SavingNext
+    ) -> SavingStep
         ensures next { result ≡ last_next (commit_again told sent turn repeats.old self.old) told self.old }
         ensures saving { self.new ≡ last_saving (commit_again told sent turn repeats.old self.old) self.old }
         ensures repeats { repeats.new ≡ commit_repeats told sent turn repeats.old self.old }
     {
         if again(self.may_commit(&told), sent, turn, repeats) {
             self.put_off += 1;
-            return SavingNext::Send(commit_of(&self.file));
+            return SavingStep::Send(commit_of(&self.file));
         }
         self.waiting = self.waiting.saturating_sub(1);
         ended_by(told)
@@ -336,7 +336,7 @@ impl Saving {
         told: Result<Verf, Fault>,
         turn: Turn,
         back: &mut WriteBack,
-    ) -> SavingNext
+    ) -> SavingStep
         requires size { 1 ≤ wsize }
         requires free { IsFree turn.xid self.old.file back.old }
         ensures { TakesCommit wsize turn.xid turn.room told (less_waiting self.old) back.old result self.new back.new }
@@ -344,7 +344,7 @@ impl Saving {
         self.waiting = self.waiting.saturating_sub(1);
         match told {
             Ok(verf) => self.take_verf(alloc, wsize, verf, turn, back),
-            Err(fault) => SavingNext::Ended(Err(fault)),
+            Err(fault) => SavingStep::Ended(Err(fault)),
         }
     }
 
@@ -356,13 +356,13 @@ impl Saving {
         verf: Verf,
         turn: Turn,
         back: &mut WriteBack,
-    ) -> SavingNext
+    ) -> SavingStep
         requires size { 1 ≤ wsize }
         requires free { IsFree turn.xid self.old.file back.old }
         ensures { TakesVerf wsize turn.xid turn.room verf self.old back.old result self.new back.new }
     {
         match decide_of(&self.file, self.upto, verf, turn.xid, back) {
-            Verdict::AllStable => SavingNext::Ended(Ok(())),
+            Verdict::AllStable => SavingStep::Ended(Ok(())),
             Verdict::SendAgain(_) => {
                 self.phase = Phase::Resending;
                 self.go(alloc, wsize, turn, false, back)
@@ -400,13 +400,13 @@ fn commit_phase(phase: Phase) -> Phase
 }
 
 /// Once refused, it ends as soon as none of its calls waits.
-fn refused_next(waiting: u32, fault: Fault) -> SavingNext
+fn refused_next(waiting: u32, fault: Fault) -> SavingStep
     ensures { result ≡ refused_next waiting fault }
 {
     if waiting == 0 {
-        SavingNext::Ended(Err(fault))
+        SavingStep::Ended(Err(fault))
     } else {
-        SavingNext::Wait
+        SavingStep::Wait
     }
 }
 
@@ -479,12 +479,12 @@ fn told_busy(told: &WriteTold) -> bool
 }
 
 /// After the second COMMIT.
-fn ended_by(told: Result<Verf, Fault>) -> SavingNext
+fn ended_by(told: Result<Verf, Fault>) -> SavingStep
     ensures { result ≡ ended_by told }
 {
     match told {
-        Ok(_) => SavingNext::Ended(Ok(())),
-        Err(fault) => SavingNext::Ended(Err(fault)),
+        Ok(_) => SavingStep::Ended(Ok(())),
+        Err(fault) => SavingStep::Ended(Err(fault)),
     }
 }
 

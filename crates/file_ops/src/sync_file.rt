@@ -6,9 +6,9 @@ ghost use Rattle.file_ops.specs.declared.sync_file.Syncing.TheVariants as states
 ghost use Rattle.file_ops.specs.SlotFiles.{IsUnused};
 ghost use Rattle.file_ops.specs.Syncs.{answer_of, Follows, Queues, Starts, Resumes, Takes};
 
-use crate::saving::{Saving, SavingNext};
+use crate::saving::{Saving, SavingStep};
 use crate::slots::file_at;
-use client_shelf::{Came, LaneFiles, Next, Shelf, Turn};
+use client_shelf::{Came, LaneFiles, Shelf, Step, Turn};
 use std::alloc::Global;
 use world_model::{Answer, Fault, Value};
 
@@ -45,7 +45,7 @@ impl SyncFile {
     }
 
     /// The first step: it takes its place in the order of its file.
-    pub fn start(&mut self, alloc: Global, wsize: u32, turn: Turn, shelf: &mut Shelf) -> Next
+    pub fn start(&mut self, alloc: Global, wsize: u32, turn: Turn, shelf: &mut Shelf) -> Step
         requires size { 1 ≤ wsize }
         requires free { IsUnused turn.xid shelf.old.back }
         ensures step { Starts wsize self.old turn shelf.old result self.new.state shelf.new }
@@ -57,12 +57,12 @@ impl SyncFile {
                 let saving = Saving::begin(&file, shelf.seq);
                 self.queue(saving, alloc, wsize, turn, shelf)
             }
-            None => Next::Done(Answer::Refused(Fault::Slot)),
+            None => Step::Done(Answer::Refused(Fault::Slot)),
         }
     }
 
     /// A step that no reply made possible.
-    pub fn resume(&mut self, alloc: Global, wsize: u32, turn: Turn, shelf: &mut Shelf) -> Next
+    pub fn resume(&mut self, alloc: Global, wsize: u32, turn: Turn, shelf: &mut Shelf) -> Step
         requires size { 1 ≤ wsize }
         requires free { IsUnused turn.xid shelf.old.back }
         ensures step { Resumes self.old.state wsize self.old turn shelf.old result self.new.state shelf.new }
@@ -71,7 +71,7 @@ impl SyncFile {
         let state = self.state;
         match state {
             Syncing::Saves(saving) => self.queue(saving, alloc, wsize, turn, shelf),
-            Syncing::Idle => Next::Wait,
+            Syncing::Idle => Step::Wait,
         }
     }
 
@@ -84,7 +84,7 @@ impl SyncFile {
         came: &Came<'_>,
         turn: Turn,
         shelf: &mut Shelf,
-    ) -> Next
+    ) -> Step
         requires size { 1 ≤ wsize }
         requires free { IsUnused turn.xid shelf.old.back }
         requires moment { 1 ≤ turn.moment }
@@ -107,7 +107,7 @@ impl SyncFile {
                 );
                 self.follow(next, saving, &mut shelf.order)
             }
-            Syncing::Idle => Next::Wait,
+            Syncing::Idle => Step::Wait,
         }
     }
 
@@ -119,7 +119,7 @@ impl SyncFile {
         wsize: u32,
         turn: Turn,
         shelf: &mut Shelf,
-    ) -> Next
+    ) -> Step
         requires size { 1 ≤ wsize }
         requires free { IsUnused turn.xid shelf.old.back }
         ensures step { Queues wsize self.old.lane turn saving shelf.old result self.new.state shelf.new }
@@ -127,25 +127,25 @@ impl SyncFile {
     {
         if !shelf.order.is_first(self.lane) {
             self.state = Syncing::Saves(saving);
-            return Next::Wait;
+            return Step::Wait;
         }
         let next = saving.go(alloc, wsize, turn, false, &mut shelf.back);
         self.follow(next, saving, &mut shelf.order)
     }
 
     /// It does as its save does.
-    fn follow(&mut self, next: SavingNext, saving: Saving, order: &mut LaneFiles) -> Next
+    fn follow(&mut self, next: SavingStep, saving: Saving, order: &mut LaneFiles) -> Step
         ensures follows { Follows self.old.lane next saving order.old result self.new.state order.new }
         ensures machine { self.new ≡ record self.old { state = self.new.state } }
     {
         self.state = Syncing::Saves(saving);
         match next {
-            SavingNext::Send(call) => Next::Send(call),
-            SavingNext::Wait => Next::Wait,
-            SavingNext::Ended(result) => {
+            SavingStep::Send(call) => Step::Send(call),
+            SavingStep::Wait => Step::Wait,
+            SavingStep::Ended(result) => {
                 order.leave(self.lane);
                 self.state = Syncing::Idle;
-                Next::Done(answer_of(result))
+                Step::Done(answer_of(result))
             }
         }
     }

@@ -17,7 +17,7 @@ use crate::quiet::is_quiet;
 use client_shelf::busy::{again, is_busy};
 use client_shelf::learning::learn;
 use client_shelf::unmade::is_unmade;
-use client_shelf::{Came, Next, Shelf, Turn};
+use client_shelf::{Came, Shelf, Step, Turn};
 use nfs_file_calls::{FileCall, FileReply};
 use nfs_types::{Attr, Handle, SetAttr, SetTime, Wcc};
 use page_cache::PageCache;
@@ -72,7 +72,7 @@ impl TruncateFile {
     }
 
     /// The first step: it takes its place in the order of its file.
-    pub fn start(&mut self, turn: Turn, shelf: &mut Shelf) -> Next
+    pub fn start(&mut self, turn: Turn, shelf: &mut Shelf) -> Step
         ensures next { result ≡ started_next self.old turn shelf.old }
         ensures machine { self.new ≡ record self.old { state = started_state self.old turn shelf.old } }
         ensures shelf { shelf.new ≡ started_shelf self.old shelf.old }
@@ -84,13 +84,13 @@ impl TruncateFile {
             }
             Err(fault) => {
                 self.state = Truncating::Idle;
-                Next::Done(Answer::Refused(fault))
+                Step::Done(Answer::Refused(fault))
             }
         }
     }
 
     /// A step that no reply made possible.
-    pub fn resume(&mut self, turn: Turn, shelf: &mut Shelf) -> Next
+    pub fn resume(&mut self, turn: Turn, shelf: &mut Shelf) -> Step
         ensures next { result ≡ resumed_next self.old.state self.old turn shelf.old }
         ensures machine { self.new ≡ record self.old { state = resumed_state self.old.state self.old turn shelf.old } }
         ensures shelf { shelf.new ≡ shelf.old }
@@ -98,12 +98,12 @@ impl TruncateFile {
         let state = self.state;
         match state {
             Truncating::Queued { file, upto } => self.queue(file, upto, turn, shelf),
-            Truncating::Idle | Truncating::Asked { .. } => Next::Wait,
+            Truncating::Idle | Truncating::Asked { .. } => Step::Wait,
         }
     }
 
     /// The step at the reply to its call.
-    pub fn took(&mut self, sent: Turn, came: &Came<'_>, turn: Turn, shelf: &mut Shelf) -> Next
+    pub fn took(&mut self, sent: Turn, came: &Came<'_>, turn: Turn, shelf: &mut Shelf) -> Step
         requires moment { 1 ≤ turn.moment }
         ensures next { result ≡ took_next self.old.state self.old (reply_of came.now) sent turn shelf.old.repeats }
         ensures machine { self.new ≡ record self.old { state = took_state self.old.state (reply_of came.now) sent turn shelf.old.repeats } }
@@ -115,21 +115,21 @@ impl TruncateFile {
         let state = self.state;
         match state {
             Truncating::Asked { file, upto } => self.end(&file, upto, sent, came, turn, shelf),
-            Truncating::Idle | Truncating::Queued { .. } => Next::Wait,
+            Truncating::Idle | Truncating::Queued { .. } => Step::Wait,
         }
     }
 
     /// In the order of its file: it asks when its turn has come.
-    fn queue(&mut self, file: Handle, upto: u64, turn: Turn, shelf: &Shelf) -> Next
+    fn queue(&mut self, file: Handle, upto: u64, turn: Turn, shelf: &Shelf) -> Step
         ensures next { result ≡ queued_next self.old file turn shelf.now }
         ensures machine { self.new ≡ record self.old { state = queued_state self.old file upto turn shelf.now } }
     {
         if turn.room && shelf.order.is_first(self.lane) && is_quiet(&shelf.back, &file) {
             self.state = Truncating::Asked { file, upto };
-            Next::Send(size_call(file, self.size))
+            Step::Send(size_call(file, self.size))
         } else {
             self.state = Truncating::Queued { file, upto };
-            Next::Wait
+            Step::Wait
         }
     }
 
@@ -142,7 +142,7 @@ impl TruncateFile {
         came: &Came<'_>,
         turn: Turn,
         shelf: &mut Shelf,
-    ) -> Next
+    ) -> Step
         requires moment { 1 ≤ turn.moment }
         ensures next { result ≡ ended_next (size_again (reply_of came.now) sent turn shelf.old.repeats) self.old file.now (reply_of came.now) }
         ensures machine { self.new ≡ record self.old { state = ended_state (size_again (reply_of came.now) sent turn shelf.old.repeats) self.old.state } }
@@ -156,13 +156,13 @@ impl TruncateFile {
         show_size(&mut shelf.pages, file, &told, self.size, turn.moment - 1);
         cut_pending(&mut shelf.back, file, &told, self.size, upto);
         if again(size_busy(&told), sent, turn, &mut shelf.repeats) {
-            return Next::Send(size_call(*file, self.size));
+            return Step::Send(size_call(*file, self.size));
         }
         shelf.order.leave(self.lane);
         self.state = Truncating::Idle;
         match told {
-            Ok(_) => Next::Done(Answer::Done(Value::Nothing)),
-            Err(fault) => Next::Done(Answer::Refused(fault)),
+            Ok(_) => Step::Done(Answer::Done(Value::Nothing)),
+            Err(fault) => Step::Done(Answer::Refused(fault)),
         }
     }
 }

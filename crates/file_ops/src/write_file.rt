@@ -2,11 +2,11 @@
 
 ghost use Rattle.std.specs.Prelude.{◌≡◌, ◌+◌, ◌-◌, ◌^◌, ◌<◌, ◌≤◌, ℕ, List, length, replicate, ◌⊎◌, Ok, IfOk, OnOk, OnErr};
 ghost use Rattle.client_shelf.specs.Coming.{reply_of};
-ghost use Rattle.file_ops.specs.declared.saving.SavingNext.TheVariants.{Ended};
+ghost use Rattle.file_ops.specs.declared.saving.SavingStep.TheVariants.{Ended};
 ghost use Rattle.write_back.specs.Files.{IsNewest};
 ghost use Rattle.file_ops.specs.declared.write_file.Text.TheVariants.{Given};
 ghost use Rattle.file_ops.specs.declared.write_file.Writing.TheVariants.{Idle, Room};
-ghost use Rattle.client_shelf.specs.declared.next.Next.TheVariants.{Done};
+ghost use Rattle.client_shelf.specs.declared.step.Step.TheVariants.{Done};
 ghost use Rattle.world_model.specs.declared.answer.Fault.TheVariants.{Memory as Lacks};
 ghost use Rattle.world_model.specs.declared.answer.Answer.TheVariants.{Refused};
 ghost use Rattle.file_ops.specs.WriteFile.{text_bytes, made_bytes, room_next, room_state, room_shelf, SavesInTurn, MakesRoom, Writes, WritesMade, RefusesUnmade, Starts, ResumesIn, Follows, TakesIn};
@@ -15,8 +15,8 @@ ghost use Rattle.file_ops.specs.SlotFiles.{IsUnused, joined};
 
 use crate::adding::add_written;
 use crate::opens::file_to_write;
-use crate::saving::{Saving, SavingNext};
-use client_shelf::{Came, Next, Shelf, Turn};
+use crate::saving::{Saving, SavingStep};
+use client_shelf::{Came, Shelf, Step, Turn};
 use nfs_types::Handle;
 use std::alloc::Global;
 use world_model::{Answer, Fault, Value};
@@ -104,7 +104,7 @@ impl WriteFile {
     }
 
     /// The first step: its bytes are made and become pending.
-    pub fn start(&mut self, alloc: Global, wsize: u32, turn: Turn, shelf: &mut Shelf) -> Next
+    pub fn start(&mut self, alloc: Global, wsize: u32, turn: Turn, shelf: &mut Shelf) -> Step
         requires newest { IsNewest (shelf.old.seq + 1) shelf.old.back }
         requires last { self.old.offset + length (text_bytes self.old.text) ≤ 2 ^ 63 - 1 }
         requires size { 1 ≤ wsize }
@@ -120,7 +120,7 @@ impl WriteFile {
     }
 
     /// A step that no reply made possible.
-    pub fn resume(&mut self, alloc: Global, wsize: u32, turn: Turn, shelf: &mut Shelf) -> Next
+    pub fn resume(&mut self, alloc: Global, wsize: u32, turn: Turn, shelf: &mut Shelf) -> Step
         requires size { 1 ≤ wsize }
         requires free { IsUnused turn.xid shelf.old.back }
         ensures machine { self.new ≡ record self.old { state = self.new.state } }
@@ -128,7 +128,7 @@ impl WriteFile {
     {
         let state = self.state;
         match state {
-            Writing::Idle => Next::Wait,
+            Writing::Idle => Step::Wait,
             Writing::Room { file, saving } => self.go(alloc, wsize, &file, saving, turn, shelf),
         }
     }
@@ -142,7 +142,7 @@ impl WriteFile {
         came: &Came<'_>,
         turn: Turn,
         shelf: &mut Shelf,
-    ) -> Next
+    ) -> Step
         requires newest { IsNewest (shelf.old.seq + 1) shelf.old.back }
         requires last { self.old.offset + length (made_bytes self.old.text) ≤ 2 ^ 63 - 1 }
         requires size { 1 ≤ wsize }
@@ -154,7 +154,7 @@ impl WriteFile {
     {
         let state = self.state;
         match state {
-            Writing::Idle => Next::Wait,
+            Writing::Idle => Step::Wait,
             Writing::Room { file, mut saving } => {
                 let told = saving.took(
                     alloc,
@@ -179,10 +179,10 @@ impl WriteFile {
         wsize: u32,
         file: &Handle,
         saving: Saving,
-        told: SavingNext,
+        told: SavingStep,
         turn: Turn,
         shelf: &mut Shelf,
-    ) -> Next
+    ) -> Step
         requires newest { told ≡ Ended (Ok tt) → IsNewest (shelf.old.seq + 1) shelf.old.back }
         requires last { self.old.offset + length (made_bytes self.old.text) ≤ 2 ^ 63 - 1 }
         requires size { 1 ≤ wsize }
@@ -193,15 +193,15 @@ impl WriteFile {
         ensures step { Follows told wsize self.old file.now saving turn shelf.old result self.new.state shelf.new }
     {
         match told {
-            SavingNext::Ended(Ok(())) => {
+            SavingStep::Ended(Ok(())) => {
                 shelf.order.leave(self.lane);
                 self.write(alloc, wsize, file, turn, shelf)
             }
-            SavingNext::Ended(Err(fault)) => {
-                self.lead(file, saving, SavingNext::Ended(Err(fault)), shelf)
+            SavingStep::Ended(Err(fault)) => {
+                self.lead(file, saving, SavingStep::Ended(Err(fault)), shelf)
             }
-            SavingNext::Send(call) => self.lead(file, saving, SavingNext::Send(call), shelf),
-            SavingNext::Wait => self.lead(file, saving, SavingNext::Wait, shelf),
+            SavingStep::Send(call) => self.lead(file, saving, SavingStep::Send(call), shelf),
+            SavingStep::Wait => self.lead(file, saving, SavingStep::Wait, shelf),
         }
     }
 
@@ -213,7 +213,7 @@ impl WriteFile {
         file: &Handle,
         turn: Turn,
         shelf: &mut Shelf,
-    ) -> Next
+    ) -> Step
         requires newest { IsNewest (shelf.old.seq + 1) shelf.old.back }
         requires last { self.old.offset + length (text_bytes self.old.text) ≤ 2 ^ 63 - 1 }
         requires size { 1 ≤ wsize }
@@ -229,12 +229,12 @@ impl WriteFile {
     }
 
     /// It ends with a refusal.
-    fn refuse(&mut self, fault: Fault) -> Next
+    fn refuse(&mut self, fault: Fault) -> Step
         ensures next { result ≡ Done (Refused fault) }
         ensures machine { self.new ≡ record self.old { state = Idle } }
     {
         self.state = Writing::Idle;
-        Next::Done(Answer::Refused(fault))
+        Step::Done(Answer::Refused(fault))
     }
 
     /// The bytes become pending, or room is made for them.
@@ -245,7 +245,7 @@ impl WriteFile {
         file: &Handle,
         turn: Turn,
         shelf: &mut Shelf,
-    ) -> Next
+    ) -> Step
         requires newest { IsNewest (shelf.old.seq + 1) shelf.old.back }
         requires last { self.old.offset + length (made_bytes self.old.text) ≤ 2 ^ 63 - 1 }
         requires size { 1 ≤ wsize }
@@ -258,7 +258,7 @@ impl WriteFile {
         match add_written(shelf, file, self.offset, self.text.made()) {
             Ok(()) => {
                 self.state = Writing::Idle;
-                Next::Done(Answer::Done(Value::Nothing))
+                Step::Done(Answer::Done(Value::Nothing))
             }
             Err(fault) => match fault {
                 AddFault::Full => self.make_room(alloc, wsize, file, turn, shelf),
@@ -275,7 +275,7 @@ impl WriteFile {
         file: &Handle,
         turn: Turn,
         shelf: &mut Shelf,
-    ) -> Next
+    ) -> Step
         requires size { 1 ≤ wsize }
         requires free { IsUnused turn.xid shelf.old.back }
         ensures machine { self.new ≡ record self.old { state = self.new.state } }
@@ -296,7 +296,7 @@ impl WriteFile {
         of: &Handle,
         turn: Turn,
         shelf: &mut Shelf,
-    ) -> Next
+    ) -> Step
         requires size { 1 ≤ wsize }
         requires free { IsUnused turn.xid shelf.old.back }
         ensures machine { self.new ≡ record self.old { state = self.new.state } }
@@ -316,7 +316,7 @@ impl WriteFile {
         saving: Saving,
         turn: Turn,
         shelf: &mut Shelf,
-    ) -> Next
+    ) -> Step
         requires size { 1 ≤ wsize }
         requires free { IsUnused turn.xid shelf.old.back }
         ensures machine { self.new ≡ record self.old { state = self.new.state } }
@@ -324,7 +324,7 @@ impl WriteFile {
     {
         if !shelf.order.is_first(self.lane) {
             self.wait(file, saving);
-            return Next::Wait;
+            return Step::Wait;
         }
         let mut saving = saving;
         let told = saving.go(alloc, wsize, turn, false, &mut shelf.back);
@@ -332,21 +332,21 @@ impl WriteFile {
     }
 
     /// What a step of the save leads to.
-    fn lead(&mut self, file: &Handle, saving: Saving, told: SavingNext, shelf: &mut Shelf) -> Next
+    fn lead(&mut self, file: &Handle, saving: Saving, told: SavingStep, shelf: &mut Shelf) -> Step
         ensures next { result ≡ room_next told }
         ensures machine { self.new ≡ record self.old { state = room_state told file.now saving } }
         ensures shelf { shelf.new ≡ room_shelf told self.old.lane shelf.old }
     {
         match told {
-            SavingNext::Send(call) => {
+            SavingStep::Send(call) => {
                 self.wait(file, saving);
-                Next::Send(call)
+                Step::Send(call)
             }
-            SavingNext::Wait | SavingNext::Ended(Ok(())) => {
+            SavingStep::Wait | SavingStep::Ended(Ok(())) => {
                 self.wait(file, saving);
-                Next::Wait
+                Step::Wait
             }
-            SavingNext::Ended(Err(fault)) => {
+            SavingStep::Ended(Err(fault)) => {
                 shelf.order.leave(self.lane);
                 self.refuse(fault)
             }

@@ -14,8 +14,8 @@ use Rattle.world_model.specs.declared.message.Reply.{Reply}
 use Rattle.world_model.specs.declared.message.Reply.TheVariants as replies
 use Rattle.world_model.specs.declared.op.Op.{Op}
 use Rattle.call_replies.specs.Says.{said_of}
-use Rattle.client_shelf.specs.declared.next.Next.{Next}
-use Rattle.client_shelf.specs.declared.next.Next.TheVariants.{Send, Wait, Done}
+use Rattle.client_shelf.specs.declared.step.Step.{Step}
+use Rattle.client_shelf.specs.declared.step.Step.TheVariants.{Send, Wait, Done}
 use Rattle.client_shelf.specs.declared.shelf.Shelf.{Shelf}
 use Rattle.op_machines.specs.Begun.{machine_of}
 use Rattle.op_machines.specs.declared.begun.Mounted.{Mounted}
@@ -105,7 +105,7 @@ push-fine lanes lane fine all k other there = by (get-push lanes lane k other th
     by (inl here) = all k other here
     by (inr new) = subst FineLane (sym new.1) fine
 
-leads-fine : (v new : View) (at number : ℕ) (machine : Machine) (next : Next) → slice_get v.lanes at ≡ Some (record { number = number; state = Busy machine }) → FineNext NotLost next
+leads-fine : (v new : View) (at number : ℕ) (machine : Machine) (next : Step) → slice_get v.lanes at ≡ Some (record { number = number; state = Busy machine }) → FineNext NotLost next
     → Leads v at number machine next new → AllFine v.lanes → AllFine new.lanes
 leads-fine v new at number machine (Send call) there fine (inl m) all = subst AllFine (sym (ap (λ (w : View). w.lanes) m.is)) all
 leads-fine v new at number machine (Send call) there fine (inr f) all =
@@ -117,7 +117,7 @@ leads-fine v new at number machine (Send call) there fine (inr f) all =
         (steps.any-ends NotLost own tt machine v.shelf) (outer-not-lost f.fault (unmade-fine v f.fault f.unmade))
         (all at (record { number = number; state = Busy machine }) there) f.takes
 
-    by : (next : Next) (state : State) → IsRefused f.after next state → steps.MachineStep NotLost own next f.after → FineState state
+    by : (next : Step) (state : State) → IsRefused f.after next state → steps.MachineStep NotLost own next f.after → FineState state
     by (Send again) state is s = absurd is
     by Wait state is s = subst FineState (sym is) s.1
     by (Done answer) state is s = subst FineState (sym is) s.0
@@ -127,7 +127,7 @@ leads-fine v new at number machine (Done answer) there fine is all =
     (set-fine v.lanes at (record { number = number; state = Busy machine }) (record { number = number; state = Over answer }) there fine all)
 
 -- the operation at a place made a step
-step-fine : (v new : View) (at number : ℕ) (machine after : Machine) (shelf : Shelf) (next : Next) → slice_get v.lanes at ≡ Some (record { number = number; state = Busy machine })
+step-fine : (v new : View) (at number : ℕ) (machine after : Machine) (shelf : Shelf) (next : Step) → slice_get v.lanes at ≡ Some (record { number = number; state = Busy machine })
     → steps.MachineStep NotLost own next after → Leads (with_state v at number (Busy after) shelf) at number after next new → AllFine v.lanes → AllFine new.lanes
 step-fine v new at number machine after shelf next there s leads all =
     leads-fine (with_state v at number (Busy after) shelf) new at number after next

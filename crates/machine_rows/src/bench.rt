@@ -3,7 +3,7 @@
 ghost use Rattle.std.specs.Prelude.{◌≡◌, ◌≤◌, ◌+◌};
 
 use crate::asked::is_asked;
-use client_shelf::{Came, Next, Shelf, Turn};
+use client_shelf::{Came, Shelf, Step, Turn};
 use op_machines::{Machine, Mounted, steps_number_writes, steps_stay_fit, steps_stay_ready};
 use std::alloc::Global;
 use std::marker::Model;
@@ -83,11 +83,11 @@ impl Model for Bench {
 
 /// A step that was made: its turn, and what it came to.
 #[derive(Drop)]
-pub(crate) struct Step {
+pub(crate) struct Stepped {
     /// Its number is the xid of the call that it makes.
     pub turn: Turn,
     /// What it came to.
-    pub next: Next,
+    pub next: Step,
 }
 
 impl Bench {
@@ -110,7 +110,7 @@ impl Bench {
         alloc: Global,
         running: &mut Running,
         setting: &Setting,
-    ) -> Option<Step> {
+    ) -> Option<Stepped> {
         steps_stay_ready();
         steps_stay_fit();
         steps_number_writes();
@@ -121,7 +121,7 @@ impl Bench {
         let turn = turn_of(self.number, setting);
         let next = running.machine.start(alloc, wsize, turn, &mut self.shelf);
         self.number += 1;
-        Some(Step { turn, next })
+        Some(Stepped { turn, next })
     }
 
     /// A step that no reply made possible. None where all numbers of steps were given.
@@ -130,7 +130,7 @@ impl Bench {
         alloc: Global,
         running: &mut Running,
         setting: &Setting,
-    ) -> Option<Step> {
+    ) -> Option<Stepped> {
         steps_stay_ready();
         steps_stay_fit();
         steps_number_writes();
@@ -141,7 +141,7 @@ impl Bench {
         let turn = turn_of(self.number, setting);
         let next = running.machine.resume(alloc, wsize, turn, &mut self.shelf);
         self.number += 1;
-        Some(Step { turn, next })
+        Some(Stepped { turn, next })
     }
 
     /// The step at what came of the call that the step with the turn `sent` asked for. None where all numbers of steps were given.
@@ -152,7 +152,7 @@ impl Bench {
         sent: Turn,
         came: &Came<'_>,
         setting: &Setting,
-    ) -> Option<Step> {
+    ) -> Option<Stepped> {
         steps_stay_ready();
         steps_stay_fit();
         steps_number_writes();
@@ -165,7 +165,7 @@ impl Bench {
             .machine
             .took(alloc, wsize, sent, came, turn, &mut self.shelf);
         self.number += 1;
-        Some(Step { turn, next })
+        Some(Stepped { turn, next })
     }
 }
 

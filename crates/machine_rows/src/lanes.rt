@@ -1,11 +1,11 @@
 //! The operation of a lane.
 
-use crate::bench::{Bench, Running, Setting, Step};
+use crate::bench::{Bench, Running, Setting, Stepped};
 use crate::operations::{mounted, operation};
 use crate::replies::{body, came};
 use crate::shown::{show_answer, show_call};
 use crate::words::{first_word, numbers};
-use client_shelf::{Next, Turn};
+use client_shelf::{Step, Turn};
 use std::alloc::Global;
 use std::io;
 
@@ -66,17 +66,17 @@ impl Lane {
     }
 
     /// Prints what a step came to.
-    fn show(&mut self, rt: &impl Print, step: Option<Step>) -> io::Result<()> {
-        let Some(Step { turn, next }) = step else {
+    fn show(&mut self, rt: &impl Print, step: Option<Stepped>) -> io::Result<()> {
+        let Some(Stepped { turn, next }) = step else {
             return println!(rt; "  too many steps");
         };
         match next {
-            Next::Send(call) => {
+            Step::Send(call) => {
                 let number = self.note(turn);
                 show_call(rt, number, &call)
             }
-            Next::Wait => println!(rt; "  waits"),
-            Next::Done(answer) => show_answer(rt, &answer),
+            Step::Wait => println!(rt; "  waits"),
+            Step::Done(answer) => show_answer(rt, &answer),
         }
     }
 }

@@ -9,18 +9,18 @@ use Rattle.world_model.specs.declared.answer.Value.TheVariants as values
 use Rattle.world_model.specs.declared.message.Call.{Call}
 use Rattle.client_shelf.specs.declared.shelf.Shelf.{Shelf}
 use Rattle.client_shelf.specs.declared.turn.Turn.{Turn}
-use Rattle.client_shelf.specs.declared.next.Next.{Next}
-use Rattle.client_shelf.specs.declared.next.Next.TheVariants as nexts
+use Rattle.client_shelf.specs.declared.step.Step.{Step}
+use Rattle.client_shelf.specs.declared.step.Step.TheVariants as nexts
 use Rattle.name_ops.specs.declared.pair.Pair.{Pair}
-use Rattle.name_ops.specs.declared.pair.PairNext.{PairNext}
-use Rattle.name_ops.specs.declared.pair.PairNext.TheVariants as two
+use Rattle.name_ops.specs.declared.pair.PairStep.{PairStep}
+use Rattle.name_ops.specs.declared.pair.PairStep.TheVariants as two
 use Rattle.name_ops.specs.declared.stat.Stat.{Stat}
 use Rattle.name_ops.specs.declared.visit.Visit.{Visit}
-use Rattle.name_ops.specs.declared.visit.VisitNext.{VisitNext}
-use Rattle.name_ops.specs.declared.visit.VisitNext.TheVariants as visits
+use Rattle.name_ops.specs.declared.visit.VisitStep.{VisitStep}
+use Rattle.name_ops.specs.declared.visit.VisitStep.TheVariants as visits
 use Rattle.name_ops.specs.declared.walk.Walk.{Walk}
-use Rattle.name_ops.specs.declared.walk.WalkNext.{WalkNext}
-use Rattle.name_ops.specs.declared.walk.WalkNext.TheVariants.{Send, Wait, At, Refused}
+use Rattle.name_ops.specs.declared.walk.WalkStep.{WalkStep}
+use Rattle.name_ops.specs.declared.walk.WalkStep.TheVariants.{Send, Wait, At, Refused}
 use Rattle.name_ops.specs.declared.remove_file.Deed.{Deed}
 use Rattle.name_ops.specs.declared.remove_file.RemoveFile.{RemoveFile}
 use Rattle.name_ops.specs.Looking.{look_up}
@@ -64,14 +64,14 @@ walk-still w turn shelf room waits = by w.asked refl
 
 -- ---- visits
 
-follow-waits : (step : WalkNext) (room : Bool) → room ≡ true → visiting.follow_next step room ≡ visits.Wait → step ≡ Wait
+follow-waits : (step : WalkStep) (room : Bool) → room ≡ true → visiting.follow_next step room ≡ visits.Wait → step ≡ Wait
 follow-waits (Send call) room r e = let no-way : visits.Look call ≡ visits.Wait = e in absurd cc
 follow-waits Wait room r e = refl
 follow-waits (At object) true r e = let no-way : visits.Ask object ≡ visits.Wait = e in absurd cc
 follow-waits (At object) false r e = absurd cc
 follow-waits (Refused fault) room r e = let no-way : visits.Refused fault ≡ visits.Wait = e in absurd cc
 
-by-waits : (call : List ℕ → Call) (step : VisitNext) → visiting.next_by call step ≡ nexts.Wait → step ≡ visits.Wait
+by-waits : (call : List ℕ → Call) (step : VisitStep) → visiting.next_by call step ≡ nexts.Wait → step ≡ visits.Wait
 by-waits call (visits.Look look) e = let no-way : nexts.Send look ≡ nexts.Wait = e in absurd cc
 by-waits call visits.Wait e = refl
 by-waits call (visits.Ask object) e = let no-way : nexts.Send (call object) ≡ nexts.Wait = e in absurd cc
@@ -94,14 +94,14 @@ visit-still call v turn shelf room waits = by v.asked refl
         ap (λ step. visiting.follow_after step turn.room (record v { walk = go_after v.walk turn shelf })) w ∙ ap (λ walk. record v { walk = walk }) still.0 in
         (if-false v.asked v (visiting.follow_after (go_next v.walk turn shelf) turn.room (record v { walk = go_after v.walk turn shelf })) h ∙ after, if-false v.asked shelf (go_shelf v.walk turn shelf) h ∙ still.1)
 
-copies-wait : (call : List ℕ → Call) (step : VisitNext) (next : Next) → CopiesBy call step next → next ≡ nexts.Wait → visiting.next_by call step ≡ nexts.Wait
+copies-wait : (call : List ℕ → Call) (step : VisitStep) (next : Step) → CopiesBy call step next → next ≡ nexts.Wait → visiting.next_by call step ≡ nexts.Wait
 copies-wait call (visits.Look look) next c e = sym c ∙ e
 copies-wait call visits.Wait next c e = refl
 copies-wait call (visits.Ask dir) next (inl c) e = let no-way : nexts.Send (call dir) ≡ nexts.Wait = sym c ∙ e in absurd cc
 copies-wait call (visits.Ask dir) next (inr c) e = let no-way : nexts.Done (answers.Refused faults.Memory) ≡ nexts.Wait = sym c ∙ e in absurd cc
 copies-wait call (visits.Refused fault) next c e = sym c ∙ e
 
-pub copy-still : (call : List ℕ → Call) (v : Visit) (turn : Turn) (shelf : Shelf) (next : Next) → turn.room ≡ true → CopiesBy call (visiting.visit_next v turn shelf) next → next ≡ nexts.Wait
+pub copy-still : (call : List ℕ → Call) (v : Visit) (turn : Turn) (shelf : Shelf) (next : Step) → turn.room ≡ true → CopiesBy call (visiting.visit_next v turn shelf) next → next ≡ nexts.Wait
     → (visiting.visit_after v turn shelf ≡ v) × (visiting.visit_shelf v turn shelf ≡ shelf)
 copy-still call v turn shelf next room copies waits = visit-still call v turn shelf room (copies-wait call (visiting.visit_next v turn shelf) next copies waits)
 
@@ -112,7 +112,7 @@ ask-not (Some attr) object room r e = let no-way : nexts.Done (answers.Done (val
 ask-not None object true r e = let no-way : nexts.Send (stats.get_attr object) ≡ nexts.Wait = e in absurd cc
 ask-not None object false r e = absurd cc
 
-stat-waits : (step : WalkNext) (turn : Turn) (known : attrs.Attrs) → turn.room ≡ true → stats.follow_next step turn known ≡ nexts.Wait → step ≡ Wait
+stat-waits : (step : WalkStep) (turn : Turn) (known : attrs.Attrs) → turn.room ≡ true → stats.follow_next step turn known ≡ nexts.Wait → step ≡ Wait
 stat-waits (Send call) turn known r e = let no-way : nexts.Send call ≡ nexts.Wait = e in absurd cc
 stat-waits Wait turn known r e = refl
 stat-waits (At object) turn known r e = absurd (ask-not (attrs.looked object turn.now known) object turn.room r e)
@@ -134,15 +134,15 @@ stat-still m turn shelf room waits = by m.asked refl
 
 -- ---- removals of names
 
-asked-not : (m : RemoveFile) (deed : Deed) (room : Bool) (next : Next) → room ≡ true → next ≡ removals.asked_next m deed room → next ≡ nexts.Wait → ⊥
+asked-not : (m : RemoveFile) (deed : Deed) (room : Bool) (next : Step) → room ≡ true → next ≡ removals.asked_next m deed room → next ≡ nexts.Wait → ⊥
 asked-not m deed true next r is waits = let no-way : nexts.Send (removals.call_of m deed) ≡ nexts.Wait = sym is ∙ waits in absurd cc
 asked-not m deed false next r is waits = absurd cc
 
-pub remove-still : (m : RemoveFile) (turn : Turn) (old : Shelf) (next : Next) (new : RemoveFile) (after : Shelf) → turn.room ≡ true
+pub remove-still : (m : RemoveFile) (turn : Turn) (old : Shelf) (next : Step) (new : RemoveFile) (after : Shelf) → turn.room ≡ true
     → removals.Resumes m.asked m turn old next new after → next ≡ nexts.Wait → (new ≡ m) × (after ≡ old)
 remove-still m turn old next new after room resumes waits = asked m.asked resumes
   where
-    followed : (step : WalkNext) → go_next m.walk turn old ≡ step → removals.Follows step turn.room (record m { walk = go_after m.walk turn old }) old.opens next new → after ≡ go_shelf m.walk turn old → (new ≡ m) × (after ≡ old)
+    followed : (step : WalkStep) → go_next m.walk turn old ≡ step → removals.Follows step turn.room (record m { walk = go_after m.walk turn old }) old.opens next new → after ≡ go_shelf m.walk turn old → (new ≡ m) × (after ≡ old)
     followed (Send call) is f s = let no-way : nexts.Send call ≡ nexts.Wait = sym f.0 ∙ waits in absurd cc
     followed Wait is f s =
         let still = walk-still m.walk turn old room is in
@@ -165,13 +165,13 @@ go-not w turn shelf room h waits =
     let n : on_next w turn shelf.attrs shelf.names ≡ Wait = sym (if-false w.asked Wait (on_next w turn shelf.attrs shelf.names) h) ∙ waits in
     asks-not (next_name (walked w turn.now shelf.attrs shelf.names)) turn.room (walked w turn.now shelf.attrs shelf.names) room n
 
-pair-by-waits : (call : List ℕ → List ℕ → Call) (step : PairNext) → pairs.next_by call step ≡ nexts.Wait → step ≡ two.Wait
+pair-by-waits : (call : List ℕ → List ℕ → Call) (step : PairStep) → pairs.next_by call step ≡ nexts.Wait → step ≡ two.Wait
 pair-by-waits call (two.Look look) e = let no-way : nexts.Send look ≡ nexts.Wait = e in absurd cc
 pair-by-waits call two.Wait e = refl
 pair-by-waits call (two.Ask first second) e = let no-way : nexts.Send (call first second) ≡ nexts.Wait = e in absurd cc
 pair-by-waits call (two.Refused fault) e = let no-way : nexts.Done (answers.Refused fault) ≡ nexts.Wait = e in absurd cc
 
-second-waits : (first : List ℕ) (step : WalkNext) (room : Bool) → room ≡ true → pairs.led_second first step room ≡ two.Wait → step ≡ Wait
+second-waits : (first : List ℕ) (step : WalkStep) (room : Bool) → room ≡ true → pairs.led_second first step room ≡ two.Wait → step ≡ Wait
 second-waits first (Send call) room r e = let no-way : two.Look call ≡ two.Wait = e in absurd cc
 second-waits first Wait room r e = refl
 second-waits first (At second) true r e = let no-way : two.Ask first second ≡ two.Wait = e in absurd cc
@@ -185,7 +185,7 @@ pair-still call p turn shelf room waits = by (pairs.waits p) refl
     step-waits : pairs.pair_next p turn shelf ≡ two.Wait
     step-waits = pair-by-waits call (pairs.pair_next p turn shelf) waits
 
-    led : p.second.asked ≡ false → (step : WalkNext) → go_next p.first turn shelf ≡ step → pairs.led_first step (pairs.walked_first p turn shelf) turn (go_shelf p.first turn shelf) ≡ two.Wait
+    led : p.second.asked ≡ false → (step : WalkStep) → go_next p.first turn shelf ≡ step → pairs.led_first step (pairs.walked_first p turn shelf) turn (go_shelf p.first turn shelf) ≡ two.Wait
         → (pairs.first_kept step (pairs.walked_first p turn shelf) turn (go_shelf p.first turn shelf) ≡ p) × (pairs.first_shelf step (pairs.walked_first p turn shelf) turn (go_shelf p.first turn shelf) ≡ shelf)
     led s (Send look) is e = let no-way : two.Look look ≡ two.Wait = e in absurd cc
     led s Wait is e =

@@ -18,8 +18,8 @@ use Rattle.world_model.specs.declared.message.Reply.{Reply}
 use Rattle.client_shelf.specs.declared.repeats.Repeat.{Repeat}
 use Rattle.client_shelf.specs.declared.turn.Turn.{Turn}
 use Rattle.client_shelf.specs.declared.shelf.Shelf.{Shelf}
-use Rattle.client_shelf.specs.declared.next.Next.{Next}
-use Rattle.client_shelf.specs.declared.next.Next.TheVariants.{Send, Done}
+use Rattle.client_shelf.specs.declared.step.Step.{Step}
+use Rattle.client_shelf.specs.declared.step.Step.TheVariants.{Send, Done}
 use Rattle.name_ops.specs.declared.told.Told.{Told}
 use Rattle.name_ops.specs.declared.visit.Visit.{Visit}
 use Rattle.client_shelf.specs.Busy.{is_busy, goes_again, repeats_after}
@@ -67,7 +67,7 @@ LearnsTold true told dir now old new = new ≡ old
 LearnsTold false told dir now old new = LearnsOf told.object told.attr dir told.dir now old new
 
 -- the same call again where the server is busy, or the answer
-abbrev pub change_next : Bool → Call → Told → Next
+abbrev pub change_next : Bool → Call → Told → Step
 change_next again call told = if again then Send call else Done (answer_of told.refusal)
 
 -- what the shelf becomes, but for what is learnt of attributes
@@ -79,19 +79,19 @@ changed_shelf dir told sent turn attrs shelf = record shelf {
 }
 
 -- the step at the reply
-pub record Changes (dir : List ℕ) (call : Call) (told : Told) (sent turn : Turn) (old : Shelf) (next : Next) (after : Shelf) : Type 0 where
+pub record Changes (dir : List ℕ) (call : Call) (told : Told) (sent turn : Turn) (old : Shelf) (next : Step) (after : Shelf) : Type 0 where
   pub attrs : LearnsTold told.unmade told dir sent.now old.attrs after.attrs
   pub next_is : next ≡ change_next (goes_again (told_busy told.refusal) sent turn old.repeats) call told
   pub others : after ≡ changed_shelf dir told sent turn after.attrs old
 
 -- the step at a reply that leads to no further call
-pub record EndsChange (dir : List ℕ) (told : Told) (sent turn : Turn) (old : Shelf) (next : Next) (after : Shelf) : Type 0 where
+pub record EndsChange (dir : List ℕ) (told : Told) (sent turn : Turn) (old : Shelf) (next : Step) (after : Shelf) : Type 0 where
   pub attrs : LearnsTold told.unmade told dir sent.now old.attrs after.attrs
   pub next_is : next ≡ Done (answer_of told.refusal)
   pub others : after ≡ changed_shelf dir told sent turn after.attrs old
 
 -- The step at what came of a call, by whether the operation's own call was asked for.
-abbrev pub TakesChange : Bool → (List ℕ → Call) → Told → Visit → Turn → Turn → Result Reply Fault → Shelf → Next → Visit → Shelf → Type 0
+abbrev pub TakesChange : Bool → (List ℕ → Call) → Told → Visit → Turn → Turn → Result Reply Fault → Shelf → Step → Visit → Shelf → Type 0
 TakesChange true call told v sent turn came old next new after =
     (new ≡ v) × Changes v.walk.spot.dir (call v.walk.spot.dir) told sent turn old next after
 TakesChange false call told v sent turn came old next new after = Walks call v sent turn came old next new after

@@ -3,14 +3,14 @@ use Rattle.std.specs.Prelude.{◌≡◌, ℕ, List, true}
 use Rattle.world_model.specs.declared.message.Call.{Call}
 use Rattle.client_shelf.specs.declared.shelf.Shelf.{Shelf}
 use Rattle.client_shelf.specs.declared.turn.Turn.{Turn}
-use Rattle.client_shelf.specs.declared.next.Next.{Next}
-use Rattle.client_shelf.specs.declared.next.Next.TheVariants.{Wait}
+use Rattle.client_shelf.specs.declared.step.Step.{Step}
+use Rattle.client_shelf.specs.declared.step.Step.TheVariants.{Wait}
 use Rattle.name_ops.specs.declared.pair.Pair.{Pair}
 use Rattle.name_ops.specs.declared.remove_file.RemoveFile.{RemoveFile}
 use Rattle.name_ops.specs.declared.stat.Stat.{Stat}
 use Rattle.name_ops.specs.declared.visit.Visit.{Visit}
 use Rattle.name_ops.specs.declared.walk.Walk.{Walk}
-use Rattle.name_ops.specs.declared.walk.WalkNext.TheVariants as walks
+use Rattle.name_ops.specs.declared.walk.WalkStep.TheVariants as walks
 use Rattle.name_ops.specs.Pairs as pairs
 use Rattle.name_ops.specs.RemoveFile as removals
 use Rattle.name_ops.specs.Stat.{stat_next, stat_after, stat_shelf}
@@ -28,7 +28,7 @@ VisitWaitsStill = (call : List ℕ → Call) (v : Visit) (turn : Turn) (shelf : 
     → next_by call (visit_next v turn shelf) ≡ Wait → (visit_after v turn shelf ≡ v) × (visit_shelf v turn shelf ≡ shelf)
 
 abbrev pub CopyWaitsStill : Type 0
-CopyWaitsStill = (call : List ℕ → Call) (v : Visit) (turn : Turn) (shelf : Shelf) (next : Next) → turn.room ≡ true
+CopyWaitsStill = (call : List ℕ → Call) (v : Visit) (turn : Turn) (shelf : Shelf) (next : Step) → turn.room ≡ true
     → CopiesBy call (visit_next v turn shelf) next → next ≡ Wait → (visit_after v turn shelf ≡ v) × (visit_shelf v turn shelf ≡ shelf)
 
 abbrev pub PairWaitsStill : Type 0
@@ -40,5 +40,5 @@ StatWaitsStill = (m : Stat) (turn : Turn) (shelf : Shelf) → turn.room ≡ true
     → (stat_after m turn shelf ≡ m) × (stat_shelf m turn shelf ≡ shelf)
 
 abbrev pub RemoveWaitsStill : Type 0
-RemoveWaitsStill = (m : RemoveFile) (turn : Turn) (old : Shelf) (next : Next) (new : RemoveFile) (after : Shelf) → turn.room ≡ true
+RemoveWaitsStill = (m : RemoveFile) (turn : Turn) (old : Shelf) (next : Step) (new : RemoveFile) (after : Shelf) → turn.room ≡ true
     → removals.Resumes m.asked m turn old next new after → next ≡ Wait → (new ≡ m) × (after ≡ old)

@@ -12,7 +12,7 @@ use Rattle.world_model.specs.declared.message.Reply.{Reply}
 use Rattle.world_model.specs.declared.message.Reply.TheVariants.{Dir}
 use Rattle.client_shelf.specs.declared.turn.Turn.{Turn}
 use Rattle.client_shelf.specs.declared.shelf.Shelf.{Shelf}
-use Rattle.client_shelf.specs.declared.next.Next.{Next}
+use Rattle.client_shelf.specs.declared.step.Step.{Step}
 use Rattle.name_ops.specs.declared.told.Told.{Told}
 use Rattle.name_ops.specs.declared.pair.Pair.{Pair}
 use Rattle.name_ops.specs.declared.link.Link.{Link}
@@ -33,7 +33,7 @@ linked_told file (Ok reply) = refused_by (Bad 2)
 linked_told file (Err fault) = refused_by fault
 
 -- The step at what came of a call, by whether the LINK was asked for.
-abbrev pub TakesLink : Bool → Link → Turn → Turn → Result Reply Fault → Shelf → Next → Pair → Shelf → Type 0
+abbrev pub TakesLink : Bool → Link → Turn → Turn → Result Reply Fault → Shelf → Step → Pair → Shelf → Type 0
 TakesLink true m sent turn came old next new after =
     (new ≡ m.pair) × Changes m.pair.second.spot.dir (link_call m.name m.pair.first.spot.dir m.pair.second.spot.dir) (linked_told m.pair.first.spot.dir came)
     sent turn old next after

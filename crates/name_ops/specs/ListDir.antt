@@ -4,8 +4,8 @@ use Rattle.std.specs.Prelude.{◌≡◌, ◌⊎◌, ℕ, ◌++◌, Bool, true, f
 use Rattle.nfs_types.specs.declared.attr.Attr.{Attr}
 use Rattle.nfs_types.specs.declared.verf.Verf.{Verf}
 use Rattle.nfs_dir_calls.specs.declared.keeping.DirKept.TheVariants as kept
-use Rattle.dir_list.specs.declared.progress.Step.{Step}
-use Rattle.dir_list.specs.declared.progress.Step.TheVariants.{More, End}
+use Rattle.dir_list.specs.declared.progress.ListStep.{ListStep}
+use Rattle.dir_list.specs.declared.progress.ListStep.TheVariants.{More, End}
 use Rattle.dir_list.specs.declared.progress.ListFault.{ListFault}
 use Rattle.dir_list.specs.declared.progress.ListFault.TheVariants as lists
 use Rattle.dir_list.specs.Listings.{counted, page_step, Lists}
@@ -19,8 +19,8 @@ use Rattle.world_model.specs.declared.message.Reply.TheVariants.{Dir}
 use Rattle.world_model.specs.Chains.{list_call, zero_verf}
 use Rattle.client_shelf.specs.declared.turn.Turn.{Turn}
 use Rattle.client_shelf.specs.declared.shelf.Shelf.{Shelf}
-use Rattle.client_shelf.specs.declared.next.Next.{Next}
-use Rattle.client_shelf.specs.declared.next.Next.TheVariants.{Send, Wait, Done}
+use Rattle.client_shelf.specs.declared.step.Step.{Step}
+use Rattle.client_shelf.specs.declared.step.Step.TheVariants.{Send, Wait, Done}
 use Rattle.client_shelf.specs.Busy.{fails_busy, goes_again}
 use Rattle.client_shelf.specs.Learning.{Learns}
 use Rattle.name_ops.specs.declared.list_dir.ListDir.{ListDir}
@@ -62,58 +62,58 @@ refusal_of lists.Stuck = faults.Bad 6
 refusal_of lists.Memory = faults.Memory
 
 -- The next page is asked for as soon as there is room.
-abbrev pub more_next : PageStart → Bool → ListDir → Next
+abbrev pub more_next : PageStart → Bool → ListDir → Step
 more_next place room m = if room then Send (page_call place m.visit.walk.spot.dir) else Wait
 
 abbrev pub more_after : PageStart → Bool → ListDir → ListDir
 more_after place room m = record m { visit = record m.visit { asked = room }; place = place }
 
 -- After the last page the names are the answer.
-pub record Ends (m : ListDir) (next : Next) (new : ListDir) : Type 0 where
+pub record Ends (m : ListDir) (next : Step) (new : ListDir) : Type 0 where
   pub names : List (List ℕ)
   pub lists : Lists m.listing names
   pub next_is : next ≡ Done (answers.Done (Names names))
   pub machine_is : new ≡ record m { listing = [] }
 
-abbrev pub GoesOn : Step → Bool → ListDir → Next → ListDir → Type 0
+abbrev pub GoesOn : ListStep → Bool → ListDir → Step → ListDir → Type 0
 GoesOn (More cookie verf) room m next new =
     (next ≡ more_next (record { cookie = cookie; verf = verf }) room m) × (new ≡ more_after (record { cookie = cookie; verf = verf }) room m)
 GoesOn End room m next new = Ends m next new
 
 -- The names of the page join those of the pages before it.
-abbrev pub TakesStep : Result Step ListFault → PageHeard → Bool → ListDir → Next → ListDir → Type 0
+abbrev pub TakesStep : Result ListStep ListFault → PageHeard → Bool → ListDir → Step → ListDir → Type 0
 TakesStep (Ok step) heard room m next new = GoesOn step room (record m { listing = m.listing ++ counted heard.page }) next new
 TakesStep (Err fault) heard room m next new = (next ≡ Done (answers.Refused (refusal_of fault))) × (new ≡ m)
 
 -- For them there may be no memory.
-abbrev pub TakesPage : PageHeard → Bool → ListDir → Next → ListDir → Type 0
+abbrev pub TakesPage : PageHeard → Bool → ListDir → Step → ListDir → Type 0
 TakesPage heard room m next new =
     ((next ≡ Done (answers.Refused faults.Memory)) × (new ≡ m))
     ⊎ (TakesStep (page_step m.listing heard.page heard.verf heard.eof) heard room m next new)
 
 -- the same call again where the server is busy, or the refusal
-abbrev pub refused_next : Bool → Fault → ListDir → Next
+abbrev pub refused_next : Bool → Fault → ListDir → Step
 refused_next again fault m = if again then Send (page_call m.place m.visit.walk.spot.dir) else Done (answers.Refused fault)
 
-abbrev pub Follows : Result PageHeard Fault → Bool → Bool → ListDir → Next → ListDir → Type 0
+abbrev pub Follows : Result PageHeard Fault → Bool → Bool → ListDir → Step → ListDir → Type 0
 Follows (Ok heard) again room m next new = TakesPage heard room m next new
 Follows (Err fault) again room m next new = (next ≡ refused_next again fault m) × (new ≡ m)
 
 -- The step at the reply. The attributes of the directory are learnt, those of its entries aren't.
-pub record ListsPage (m : ListDir) (sent turn : Turn) (came : Result Reply Fault) (old : Shelf) (next : Next) (new : ListDir)
+pub record ListsPage (m : ListDir) (sent turn : Turn) (came : Result Reply Fault) (old : Shelf) (next : Step) (new : ListDir)
     (after : Shelf) : Type 0 where
   pub attrs : Learns m.visit.walk.spot.dir (page_attr came) sent.now old.attrs after.attrs
   pub follows : Follows (page_heard came) (goes_again (fails_busy (page_heard came)) sent turn old.repeats) turn.room m next new
   pub others : after ≡ shown_shelf (fails_busy (page_heard came)) sent turn after.attrs old
 
 -- a reply's step of a listing that asked for no page yet
-pub record WalksToList (m : ListDir) (sent turn : Turn) (came : Result Reply Fault) (old : Shelf) (next : Next) (new : ListDir)
+pub record WalksToList (m : ListDir) (sent turn : Turn) (came : Result Reply Fault) (old : Shelf) (next : Step) (new : ListDir)
     (after : Shelf) : Type 0 where
   pub visit : Visit
   pub walks : Walks (page_call m.place) m.visit sent turn came old next visit after
   pub machine_is : new ≡ record m { visit = visit }
 
 -- The step at what came of a call, by whether a page was asked for.
-abbrev pub TakesList : Bool → ListDir → Turn → Turn → Result Reply Fault → Shelf → Next → ListDir → Shelf → Type 0
+abbrev pub TakesList : Bool → ListDir → Turn → Turn → Result Reply Fault → Shelf → Step → ListDir → Shelf → Type 0
 TakesList true m sent turn came old next new after = ListsPage m sent turn came old next new after
 TakesList false m sent turn came old next new after = WalksToList m sent turn came old next new after

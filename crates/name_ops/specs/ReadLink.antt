@@ -13,7 +13,7 @@ use Rattle.world_model.specs.declared.message.Reply.{Reply}
 use Rattle.world_model.specs.declared.message.Reply.TheVariants.{Dir}
 use Rattle.client_shelf.specs.declared.turn.Turn.{Turn}
 use Rattle.client_shelf.specs.declared.shelf.Shelf.{Shelf}
-use Rattle.client_shelf.specs.declared.next.Next.{Next}
+use Rattle.client_shelf.specs.declared.step.Step.{Step}
 use Rattle.name_ops.specs.declared.visit.Visit.{Visit}
 use Rattle.name_ops.specs.Showing.{Shows}
 use Rattle.name_ops.specs.Visiting.{Walks}
@@ -39,12 +39,12 @@ TellsText (Ok reply) told = told ≡ Err (faults.Bad 2)
 TellsText (Err fault) told = told ≡ Err fault
 
 -- the step at the reply
-pub record ShowsText (link : List ℕ) (sent turn : Turn) (came : Result Reply Fault) (old : Shelf) (next : Next) (after : Shelf) : Type 0 where
+pub record ShowsText (link : List ℕ) (sent turn : Turn) (came : Result Reply Fault) (old : Shelf) (next : Step) (after : Shelf) : Type 0 where
   pub told : Result Value Fault
   pub tells : TellsText came told
   pub shows : Shows link (text_attr came) told (text_call link) sent turn old next after
 
 -- The step at what came of a call, by whether the READLINK was asked for.
-abbrev pub TakesText : Bool → Visit → Turn → Turn → Result Reply Fault → Shelf → Next → Visit → Shelf → Type 0
+abbrev pub TakesText : Bool → Visit → Turn → Turn → Result Reply Fault → Shelf → Step → Visit → Shelf → Type 0
 TakesText true v sent turn came old next new after = (new ≡ v) × ShowsText v.walk.spot.dir sent turn came old next after
 TakesText false v sent turn came old next new after = Walks text_call v sent turn came old next new after

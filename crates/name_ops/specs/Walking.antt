@@ -11,8 +11,8 @@ use Rattle.client_shelf.specs.declared.turn.Turn.{Turn}
 use Rattle.client_shelf.specs.declared.shelf.Shelf.{Shelf}
 use Rattle.name_ops.specs.declared.walk.Spot.{Spot}
 use Rattle.name_ops.specs.declared.walk.Walk.{Walk}
-use Rattle.name_ops.specs.declared.walk.WalkNext.{WalkNext}
-use Rattle.name_ops.specs.declared.walk.WalkNext.TheVariants.{Send, Wait, At, Refused}
+use Rattle.name_ops.specs.declared.walk.WalkStep.{WalkStep}
+use Rattle.name_ops.specs.declared.walk.WalkStep.TheVariants.{Send, Wait, At, Refused}
 use Rattle.name_ops.specs.Looking.{look_up, found_by, look_again, Hears}
 
 -- ---- kept names
@@ -70,7 +70,7 @@ abbrev pub next_name : Walk → Option (List ℕ)
 next_name w = name_at w.path w.spot.left
 
 -- Where a name is left, it is asked for as soon as there is room.
-abbrev pub asks : Option (List ℕ) → Bool → Walk → WalkNext
+abbrev pub asks : Option (List ℕ) → Bool → Walk → WalkStep
 asks None room w = At w.spot.dir
 asks (Some name) room w = if room then Send (look_up w.spot.dir name) else Wait
 
@@ -79,7 +79,7 @@ asked_after None room w = w
 asked_after (Some name) room w = if room then record w { asked = true } else w
 
 -- through kept names, and then the call
-abbrev pub on_next : Walk → Turn → attrs.Attrs → names.Entries → WalkNext
+abbrev pub on_next : Walk → Turn → attrs.Attrs → names.Entries → WalkStep
 on_next w turn known kept = asks (next_name (walked w turn.now known kept)) turn.room (walked w turn.now known kept)
 
 abbrev pub on_after : Walk → Turn → attrs.Attrs → names.Entries → Walk
@@ -90,7 +90,7 @@ on_names w turn known kept = (passed_all w turn.now known kept).names
 
 -- ---- a step that no reply made possible
 
-abbrev pub go_next : Walk → Turn → Shelf → WalkNext
+abbrev pub go_next : Walk → Turn → Shelf → WalkStep
 go_next w turn shelf = if w.asked then Wait else on_next w turn shelf.attrs shelf.names
 
 abbrev pub go_after : Walk → Turn → Shelf → Walk
@@ -113,7 +113,7 @@ abbrev pub arrived : Walk → List ℕ → Walk
 arrived w found = record w { spot = reached found w.spot; asked = false }
 
 -- Where the reply leads, once it was learnt of.
-abbrev pub told_next : Walk → Result (List ℕ) Fault → Turn → Shelf → WalkNext
+abbrev pub told_next : Walk → Result (List ℕ) Fault → Turn → Shelf → WalkStep
 told_next w (Ok found) turn shelf = on_next (arrived w found) turn shelf.attrs shelf.names
 told_next w (Err fault) turn shelf = Refused fault
 
@@ -126,7 +126,7 @@ told_shelf w (Ok found) turn shelf = record shelf { names = on_names (arrived w 
 told_shelf w (Err fault) turn shelf = shelf
 
 -- The same LOOKUP is made again where the server is busy.
-abbrev pub followed_next : Bool → Walk → List ℕ → Result (List ℕ) Fault → Turn → Shelf → WalkNext
+abbrev pub followed_next : Bool → Walk → List ℕ → Result (List ℕ) Fault → Turn → Shelf → WalkStep
 followed_next busy w name told turn shelf = if busy then Send (look_up w.spot.dir name) else told_next w told turn shelf
 
 abbrev pub followed_walk : Bool → Walk → Result (List ℕ) Fault → Turn → Shelf → Walk
@@ -136,7 +136,7 @@ abbrev pub followed_shelf : Bool → Walk → Result (List ℕ) Fault → Turn �
 followed_shelf busy w told turn shelf = if busy then shelf else told_shelf w told turn shelf
 
 -- The reply to the LOOKUP of a name is learnt of, and then followed.
-pub record Looks (w : Walk) (name : List ℕ) (sent turn : Turn) (came : Result Reply Fault) (old : Shelf) (next : WalkNext) (new : Walk)
+pub record Looks (w : Walk) (name : List ℕ) (sent turn : Turn) (came : Result Reply Fault) (old : Shelf) (next : WalkStep) (new : Walk)
     (after : Shelf) : Type 0 where
   pub heard : Shelf
   pub hears : Hears w.spot.dir name sent turn came old heard
@@ -145,12 +145,12 @@ pub record Looks (w : Walk) (name : List ℕ) (sent turn : Turn) (came : Result 
   pub shelf_is : after ≡ followed_shelf (look_again sent turn came old) w (found_by came) turn heard
 
 -- nothing happens
-pub record Waits (w : Walk) (old : Shelf) (next : WalkNext) (new : Walk) (after : Shelf) : Type 0 where
+pub record Waits (w : Walk) (old : Shelf) (next : WalkStep) (new : Walk) (after : Shelf) : Type 0 where
   pub next_is : next ≡ Wait
   pub walk_is : new ≡ w
   pub shelf_is : after ≡ old
 
 -- What comes to a walk that asked for nothing means nothing.
-abbrev pub Takes : Option (List ℕ) → Walk → Turn → Turn → Result Reply Fault → Shelf → WalkNext → Walk → Shelf → Type 0
+abbrev pub Takes : Option (List ℕ) → Walk → Turn → Turn → Result Reply Fault → Shelf → WalkStep → Walk → Shelf → Type 0
 Takes (Some name) w sent turn came old next new after = Looks w name sent turn came old next new after
 Takes None w sent turn came old next new after = Waits w old next new after

@@ -7,8 +7,8 @@ ghost use Rattle.name_ops.specs.Showing.{TakesShow, Shows};
 ghost use Rattle.name_ops.specs.Visiting.{next_by, visit_of, visit_next, visit_after, visit_shelf};
 
 use crate::showing::show;
-use crate::visit::{Visit, VisitNext};
-use client_shelf::{Came, Next, Shelf, Turn};
+use crate::visit::{Visit, VisitStep};
+use client_shelf::{Came, Shelf, Step, Turn};
 use nfs_file_calls::{FileCall, FileReply};
 use nfs_types::{Attr, Handle};
 use world_model::{Answer, Call, Fault, Path, Value};
@@ -34,7 +34,7 @@ impl Access {
     }
 
     /// The first step.
-    pub fn start(&mut self, turn: Turn, shelf: &mut Shelf) -> Next
+    pub fn start(&mut self, turn: Turn, shelf: &mut Shelf) -> Step
         ensures next { result ≡ next_by (access_call self.old.bits) (visit_next self.old.visit turn shelf.old) }
         ensures machine { self.new ≡ record self.old { visit = visit_after self.old.visit turn shelf.old } }
         ensures shelf { shelf.new ≡ visit_shelf self.old.visit turn shelf.old }
@@ -43,7 +43,7 @@ impl Access {
     }
 
     /// A step that no reply made possible.
-    pub fn resume(&mut self, turn: Turn, shelf: &mut Shelf) -> Next
+    pub fn resume(&mut self, turn: Turn, shelf: &mut Shelf) -> Step
         ensures next { result ≡ next_by (access_call self.old.bits) (visit_next self.old.visit turn shelf.old) }
         ensures machine { self.new ≡ record self.old { visit = visit_after self.old.visit turn shelf.old } }
         ensures shelf { shelf.new ≡ visit_shelf self.old.visit turn shelf.old }
@@ -53,7 +53,7 @@ impl Access {
     }
 
     /// The step at what came of its call, which the step with the turn `sent` made.
-    pub fn took(&mut self, sent: Turn, came: &Came<'_>, turn: Turn, shelf: &mut Shelf) -> Next
+    pub fn took(&mut self, sent: Turn, came: &Came<'_>, turn: Turn, shelf: &mut Shelf) -> Step
         ensures step { TakesShow self.old.visit.asked (access_call self.old.bits) (access_attr (reply_of came.now)) (access_told (reply_of came.now)) self.old.visit sent turn (reply_of came.now) shelf.old result self.new.visit shelf.new }
         ensures machine { self.new ≡ record self.old { visit = self.new.visit } }
     {
@@ -65,7 +65,7 @@ impl Access {
     }
 
     /// Takes the reply to its ACCESS.
-    fn take(&self, sent: Turn, came: &Came<'_>, turn: Turn, shelf: &mut Shelf) -> Next
+    fn take(&self, sent: Turn, came: &Came<'_>, turn: Turn, shelf: &mut Shelf) -> Step
         ensures { Shows self.now.visit.walk.spot.dir (access_attr (reply_of came.now)) (access_told (reply_of came.now)) (access_call self.now.bits self.now.visit.walk.spot.dir) sent turn shelf.old result shelf.new }
     {
         let object = self.visit.walk.spot.dir;
@@ -75,14 +75,14 @@ impl Access {
     }
 
     /// A step of the visit as one of the operation.
-    fn next_of(&self, step: VisitNext) -> Next
+    fn next_of(&self, step: VisitStep) -> Step
         ensures { result ≡ next_by (access_call self.now.bits) step }
     {
         match step {
-            VisitNext::Look(call) => Next::Send(call),
-            VisitNext::Wait => Next::Wait,
-            VisitNext::Ask(object) => Next::Send(ask_access(object, self.bits)),
-            VisitNext::Refused(fault) => Next::Done(Answer::Refused(fault)),
+            VisitStep::Look(call) => Step::Send(call),
+            VisitStep::Wait => Step::Wait,
+            VisitStep::Ask(object) => Step::Send(ask_access(object, self.bits)),
+            VisitStep::Refused(fault) => Step::Done(Answer::Refused(fault)),
         }
     }
 }

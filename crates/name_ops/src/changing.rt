@@ -9,7 +9,7 @@ use crate::told::Told;
 use attr_cache::AttrCache;
 use client_shelf::busy::again;
 use client_shelf::learning::{learn, renew};
-use client_shelf::{Next, Shelf, Turn};
+use client_shelf::{Shelf, Step, Turn};
 use name_cache::NameCache;
 use nfs_types::{Attr, Handle, SetAttr, SetTime};
 use world_model::Call;
@@ -45,23 +45,23 @@ pub(crate) fn go_again(
     sent: Turn,
     turn: Turn,
     shelf: &mut Shelf,
-) -> Next
+) -> Step
     ensures { Changes dir.now call told.now sent turn shelf.old result shelf.new }
 {
     if change(dir, told, sent, turn, shelf) {
-        Next::Send(call)
+        Step::Send(call)
     } else {
-        Next::Done(told.answer())
+        Step::Done(told.answer())
     }
 }
 
 /// What follows a reply that leads to no further call: the answer.
-pub(crate) fn end(dir: &Handle, told: &Told, sent: Turn, turn: Turn, shelf: &mut Shelf) -> Next
+pub(crate) fn end(dir: &Handle, told: &Told, sent: Turn, turn: Turn, shelf: &mut Shelf) -> Step
     requires idle { told_busy told.now.refusal ≡ false }
     ensures { EndsChange dir.now told.now sent turn shelf.old result shelf.new }
 {
     change(dir, told, sent, turn, shelf);
-    Next::Done(told.answer())
+    Step::Done(told.answer())
 }
 
 /// What a new object is made with: a mode, and nothing else.

@@ -10,8 +10,8 @@ use crate::changing::go_again;
 use crate::make_dir::{made_told, make_dir};
 use crate::remove_dir::{remove_dir, removed_told};
 use crate::told::Told;
-use crate::visit::{Visit, VisitNext};
-use client_shelf::{Came, Next, Shelf, Turn};
+use crate::visit::{Visit, VisitStep};
+use client_shelf::{Came, Shelf, Step, Turn};
 use nfs_types::{Handle, Name};
 use world_model::{Answer, Call, Path};
 
@@ -48,7 +48,7 @@ impl DirChange {
     }
 
     /// The first step.
-    pub fn start(&mut self, turn: Turn, shelf: &mut Shelf) -> Next
+    pub fn start(&mut self, turn: Turn, shelf: &mut Shelf) -> Step
         ensures next { result ≡ next_by (deed_call self.old.deed self.old.name) (visit_next self.old.visit turn shelf.old) }
         ensures machine { self.new ≡ record self.old { visit = visit_after self.old.visit turn shelf.old } }
         ensures shelf { shelf.new ≡ visit_shelf self.old.visit turn shelf.old }
@@ -57,7 +57,7 @@ impl DirChange {
     }
 
     /// A step that no reply made possible.
-    pub fn resume(&mut self, turn: Turn, shelf: &mut Shelf) -> Next
+    pub fn resume(&mut self, turn: Turn, shelf: &mut Shelf) -> Step
         ensures next { result ≡ next_by (deed_call self.old.deed self.old.name) (visit_next self.old.visit turn shelf.old) }
         ensures machine { self.new ≡ record self.old { visit = visit_after self.old.visit turn shelf.old } }
         ensures shelf { shelf.new ≡ visit_shelf self.old.visit turn shelf.old }
@@ -67,7 +67,7 @@ impl DirChange {
     }
 
     /// The step at what came of its call, which the step with the turn `sent` made.
-    pub fn took(&mut self, sent: Turn, came: &Came<'_>, turn: Turn, shelf: &mut Shelf) -> Next
+    pub fn took(&mut self, sent: Turn, came: &Came<'_>, turn: Turn, shelf: &mut Shelf) -> Step
         ensures step { TakesChange self.old.visit.asked (deed_call self.old.deed self.old.name) (deed_told self.old.deed (reply_of came.now)) self.old.visit sent turn (reply_of came.now) shelf.old result self.new.visit shelf.new }
         ensures machine { self.new ≡ record self.old { visit = self.new.visit } }
     {
@@ -79,7 +79,7 @@ impl DirChange {
     }
 
     /// Takes the reply to its call.
-    fn take(&self, sent: Turn, came: &Came<'_>, turn: Turn, shelf: &mut Shelf) -> Next
+    fn take(&self, sent: Turn, came: &Came<'_>, turn: Turn, shelf: &mut Shelf) -> Step
         ensures { Changes self.now.visit.walk.spot.dir (deed_call self.now.deed self.now.name self.now.visit.walk.spot.dir) (deed_told self.now.deed (reply_of came.now)) sent turn shelf.old result shelf.new }
     {
         let dir = self.visit.walk.spot.dir;
@@ -88,14 +88,14 @@ impl DirChange {
     }
 
     /// A step of the visit as one of the operation.
-    fn next_of(&self, step: VisitNext) -> Next
+    fn next_of(&self, step: VisitStep) -> Step
         ensures { result ≡ next_by (deed_call self.now.deed self.now.name) step }
     {
         match step {
-            VisitNext::Look(call) => Next::Send(call),
-            VisitNext::Wait => Next::Wait,
-            VisitNext::Ask(dir) => Next::Send(self.call(dir)),
-            VisitNext::Refused(fault) => Next::Done(Answer::Refused(fault)),
+            VisitStep::Look(call) => Step::Send(call),
+            VisitStep::Wait => Step::Wait,
+            VisitStep::Ask(dir) => Step::Send(self.call(dir)),
+            VisitStep::Refused(fault) => Step::Done(Answer::Refused(fault)),
         }
     }
 

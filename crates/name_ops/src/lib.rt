@@ -31,12 +31,12 @@ pub use laws::{
 pub use link::Link;
 pub use list_dir::{ListDir, PageStart};
 pub use moving::Moved;
-pub use pair::{Pair, PairNext};
+pub use pair::{Pair, PairStep};
 pub use read_link::ReadLink;
 pub use remove_file::{Deed, RemoveFile};
 pub use rename::Rename;
 pub use stat::Stat;
 pub use sym_link::SymLink;
 pub use told::Told;
-pub use visit::{Visit, VisitNext};
-pub use walk::{Spot, Walk, WalkNext};
+pub use visit::{Visit, VisitStep};
+pub use walk::{Spot, Walk, WalkStep};

@@ -7,9 +7,9 @@ ghost use Rattle.name_ops.specs.Link.{link_call, linked, linked_told, TakesLink}
 ghost use Rattle.name_ops.specs.Pairs.{pair_of, next_by, pair_next, pair_after, pair_shelf};
 
 use crate::changing::go_again;
-use crate::pair::{Pair, PairNext};
+use crate::pair::{Pair, PairStep};
 use crate::told::Told;
-use client_shelf::{Came, Next, Shelf, Turn};
+use client_shelf::{Came, Shelf, Step, Turn};
 use nfs_dir_calls::{DirCall, DirReply};
 use nfs_types::{Attr, Handle, Name, Wcc};
 use world_model::{Answer, Call, Fault, Path};
@@ -35,7 +35,7 @@ impl Link {
     }
 
     /// The first step.
-    pub fn start(&mut self, turn: Turn, shelf: &mut Shelf) -> Next
+    pub fn start(&mut self, turn: Turn, shelf: &mut Shelf) -> Step
         ensures next { result ≡ next_by (link_call self.old.name) (pair_next self.old.pair turn shelf.old) }
         ensures machine { self.new ≡ record self.old { pair = pair_after self.old.pair turn shelf.old } }
         ensures shelf { shelf.new ≡ pair_shelf self.old.pair turn shelf.old }
@@ -44,7 +44,7 @@ impl Link {
     }
 
     /// A step that no reply made possible.
-    pub fn resume(&mut self, turn: Turn, shelf: &mut Shelf) -> Next
+    pub fn resume(&mut self, turn: Turn, shelf: &mut Shelf) -> Step
         ensures next { result ≡ next_by (link_call self.old.name) (pair_next self.old.pair turn shelf.old) }
         ensures machine { self.new ≡ record self.old { pair = pair_after self.old.pair turn shelf.old } }
         ensures shelf { shelf.new ≡ pair_shelf self.old.pair turn shelf.old }
@@ -54,7 +54,7 @@ impl Link {
     }
 
     /// The step at what came of its call, which the step with the turn `sent` made.
-    pub fn took(&mut self, sent: Turn, came: &Came<'_>, turn: Turn, shelf: &mut Shelf) -> Next
+    pub fn took(&mut self, sent: Turn, came: &Came<'_>, turn: Turn, shelf: &mut Shelf) -> Step
         ensures step { TakesLink self.old.pair.asked self.old sent turn (reply_of came.now) shelf.old result self.new.pair shelf.new }
         ensures machine { self.new ≡ record self.old { pair = self.new.pair } }
     {
@@ -66,7 +66,7 @@ impl Link {
     }
 
     /// Takes the reply to its LINK.
-    fn take(&self, sent: Turn, came: &Came<'_>, turn: Turn, shelf: &mut Shelf) -> Next
+    fn take(&self, sent: Turn, came: &Came<'_>, turn: Turn, shelf: &mut Shelf) -> Step
         ensures { Changes self.now.pair.second.spot.dir (link_call self.now.name self.now.pair.first.spot.dir self.now.pair.second.spot.dir) (linked_told self.now.pair.first.spot.dir (reply_of came.now)) sent turn shelf.old result shelf.new }
     {
         let file = self.pair.first.spot.dir;
@@ -77,14 +77,14 @@ impl Link {
     }
 
     /// A step of the walks as one of the operation.
-    fn next_of(&self, step: PairNext) -> Next
+    fn next_of(&self, step: PairStep) -> Step
         ensures { result ≡ next_by (link_call self.now.name) step }
     {
         match step {
-            PairNext::Look(call) => Next::Send(call),
-            PairNext::Wait => Next::Wait,
-            PairNext::Ask(file, dir) => Next::Send(link_call(file, dir, self.name)),
-            PairNext::Refused(fault) => Next::Done(Answer::Refused(fault)),
+            PairStep::Look(call) => Step::Send(call),
+            PairStep::Wait => Step::Wait,
+            PairStep::Ask(file, dir) => Step::Send(link_call(file, dir, self.name)),
+            PairStep::Refused(fault) => Step::Done(Answer::Refused(fault)),
         }
     }
 }

@@ -6,11 +6,11 @@ ghost use Rattle.client_shelf.specs.Coming.{reply_of};
 ghost use Rattle.name_ops.specs.ListDir.{first_page, list_of, page_call, page_attr, page_heard, refusal_of, more_next, more_after, Ends, GoesOn, TakesPage, refused_next, Follows, ListsPage, TakesList};
 ghost use Rattle.name_ops.specs.Visiting.{next_by, visit_next, visit_after, visit_shelf};
 
-use crate::visit::{Visit, VisitNext};
+use crate::visit::{Visit, VisitStep};
 use client_shelf::busy::{again, is_busy};
 use client_shelf::learning::learn;
-use client_shelf::{Came, Next, Shelf, Turn};
-use dir_list::{ListFault, Listing, Step};
+use client_shelf::{Came, Shelf, Step, Turn};
+use dir_list::{ListFault, ListStep, Listing};
 use nfs_dir_calls::{DirCall, DirReply, PlusPage};
 use nfs_types::{Attr, Handle, Verf};
 use std::alloc::Global;
@@ -69,7 +69,7 @@ impl ListDir {
     }
 
     /// The first step.
-    pub fn start(&mut self, turn: Turn, shelf: &mut Shelf) -> Next
+    pub fn start(&mut self, turn: Turn, shelf: &mut Shelf) -> Step
         ensures next { result ≡ next_by (page_call self.old.place) (visit_next self.old.visit turn shelf.old) }
         ensures machine { self.new ≡ record self.old { visit = visit_after self.old.visit turn shelf.old } }
         ensures shelf { shelf.new ≡ visit_shelf self.old.visit turn shelf.old }
@@ -78,7 +78,7 @@ impl ListDir {
     }
 
     /// A step that no reply made possible.
-    pub fn resume(&mut self, turn: Turn, shelf: &mut Shelf) -> Next
+    pub fn resume(&mut self, turn: Turn, shelf: &mut Shelf) -> Step
         ensures next { result ≡ next_by (page_call self.old.place) (visit_next self.old.visit turn shelf.old) }
         ensures machine { self.new ≡ record self.old { visit = visit_after self.old.visit turn shelf.old } }
         ensures shelf { shelf.new ≡ visit_shelf self.old.visit turn shelf.old }
@@ -95,7 +95,7 @@ impl ListDir {
         came: &Came<'_>,
         turn: Turn,
         shelf: &mut Shelf,
-    ) -> Next
+    ) -> Step
         ensures { TakesList self.old.visit.asked self.old sent turn (reply_of came.now) shelf.old result self.new shelf.new }
     {
         if self.visit.asked {
@@ -113,7 +113,7 @@ impl ListDir {
         came: &Came<'_>,
         turn: Turn,
         shelf: &mut Shelf,
-    ) -> Next
+    ) -> Step
         ensures { ListsPage self.old sent turn (reply_of came.now) shelf.old result self.new shelf.new }
     {
         let dir = self.visit.walk.spot.dir;
@@ -130,7 +130,7 @@ impl ListDir {
         heard: Result<PageHeard<'_>, Fault>,
         is_again: bool,
         room: bool,
-    ) -> Next
+    ) -> Step
         ensures { Follows heard.entry is_again room self.old result self.new }
     {
         match heard {
@@ -140,67 +140,67 @@ impl ListDir {
     }
 
     /// The same call again, or the refusal.
-    fn refuse(&self, is_again: bool, fault: Fault) -> Next
+    fn refuse(&self, is_again: bool, fault: Fault) -> Step
         ensures { result ≡ refused_next is_again fault self.now }
     {
         if is_again {
-            Next::Send(ask_page(self.place, self.visit.walk.spot.dir))
+            Step::Send(ask_page(self.place, self.visit.walk.spot.dir))
         } else {
-            Next::Done(Answer::Refused(fault))
+            Step::Done(Answer::Refused(fault))
         }
     }
 
     /// The names of a page join those of the pages before it.
-    fn take_page(&mut self, alloc: Global, heard: PageHeard<'_>, room: bool) -> Next
+    fn take_page(&mut self, alloc: Global, heard: PageHeard<'_>, room: bool) -> Step
         ensures { TakesPage heard.entry room self.old result self.new }
     {
         match self.listing.page(heard.page, heard.verf, heard.eof) {
             Ok(step) => self.go_on(alloc, step, room),
-            Err(fault) => Next::Done(Answer::Refused(refusal_of(fault))),
+            Err(fault) => Step::Done(Answer::Refused(refusal_of(fault))),
         }
     }
 
     /// Asks for the next page, or ends.
-    fn go_on(&mut self, alloc: Global, step: Step, room: bool) -> Next
+    fn go_on(&mut self, alloc: Global, step: ListStep, room: bool) -> Step
         ensures { GoesOn step room self.old result self.new }
     {
         match step {
-            Step::More { cookie, verf } => self.ask_more(PageStart { cookie, verf }, room),
-            Step::End => self.end(alloc),
+            ListStep::More { cookie, verf } => self.ask_more(PageStart { cookie, verf }, room),
+            ListStep::End => self.end(alloc),
         }
     }
 
     /// Asks for the page that begins there, as soon as there is room.
-    fn ask_more(&mut self, place: PageStart, room: bool) -> Next
+    fn ask_more(&mut self, place: PageStart, room: bool) -> Step
         ensures next { result ≡ more_next place room self.old }
         ensures machine { self.new ≡ more_after place room self.old }
     {
         self.place = place;
         self.visit.asked = room;
         if room {
-            Next::Send(ask_page(place, self.visit.walk.spot.dir))
+            Step::Send(ask_page(place, self.visit.walk.spot.dir))
         } else {
-            Next::Wait
+            Step::Wait
         }
     }
 
     /// The names are the answer.
-    fn end(&mut self, alloc: Global) -> Next
+    fn end(&mut self, alloc: Global) -> Step
         ensures { Ends self.old result self.new }
     {
         let listing = std::mem::replace(&mut self.listing, Listing::new(alloc));
-        Next::Done(Answer::Done(Value::Names(listing.finish())))
+        Step::Done(Answer::Done(Value::Names(listing.finish())))
     }
 
     /// A step of the visit as one of the operation.
-    fn next_of(&self, step: VisitNext) -> Next
+    fn next_of(&self, step: VisitStep) -> Step
         ensures { result ≡ next_by (page_call self.now.place) step }
     {
         match step {
-            VisitNext::Look(call) => Next::Send(call),
-            VisitNext::Wait => Next::Wait,
-            VisitNext::Ask(dir) => Next::Send(ask_page(self.place, dir)),
-            VisitNext::Refused(fault) => Next::Done(Answer::Refused(fault)),
+            VisitStep::Look(call) => Step::Send(call),
+            VisitStep::Wait => Step::Wait,
+            VisitStep::Ask(dir) => Step::Send(ask_page(self.place, dir)),
+            VisitStep::Refused(fault) => Step::Done(Answer::Refused(fault)),
         }
     }
 }

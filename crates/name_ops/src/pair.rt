@@ -4,14 +4,14 @@ ghost use Rattle.std.specs.Prelude.{◌≡◌, false};
 ghost use Rattle.client_shelf.specs.Coming.{reply_of};
 ghost use Rattle.name_ops.specs.Pairs.{pair_of, asks_next, asks_after, led_second, second_kept, second_next, second_after, second_shelf, led_first, first_kept, first_shelf, on_next, on_after, on_shelf, pair_next, pair_after, pair_shelf, TakesFirst, TakesSecond, PairTakes};
 
-use crate::walk::{Walk, WalkNext};
+use crate::walk::{Walk, WalkStep};
 use client_shelf::{Came, Shelf, Turn};
 use nfs_types::Handle;
 use world_model::{Call, Fault, Path};
 
 /// What a step of two walks comes to.
 #[derive(Debug, Drop)]
-pub enum PairNext {
+pub enum PairStep {
     /// It asks for this call of a walk.
     Look(Call),
     /// It waits for a reply or for room.
@@ -46,13 +46,13 @@ impl Pair {
     }
 
     /// A step that no reply made possible, the first one among them.
-    pub(crate) fn go(&mut self, turn: Turn, shelf: &mut Shelf) -> PairNext
+    pub(crate) fn go(&mut self, turn: Turn, shelf: &mut Shelf) -> PairStep
         ensures next { result ≡ pair_next self.old turn shelf.old }
         ensures machine { self.new ≡ pair_after self.old turn shelf.old }
         ensures shelf { shelf.new ≡ pair_shelf self.old turn shelf.old }
     {
         if self.asked || self.second.asked {
-            return PairNext::Wait;
+            return PairStep::Wait;
         }
         self.walk_on(turn, shelf)
     }
@@ -64,7 +64,7 @@ impl Pair {
         came: &Came<'_>,
         turn: Turn,
         shelf: &mut Shelf,
-    ) -> PairNext
+    ) -> PairStep
         ensures { PairTakes self.old.first.asked self.old sent turn (reply_of came.now) shelf.old result self.new shelf.new }
     {
         if self.first.asked {
@@ -75,7 +75,7 @@ impl Pair {
     }
 
     /// The first walk takes what came of its call.
-    fn take_first(&mut self, sent: Turn, came: &Came<'_>, turn: Turn, shelf: &mut Shelf) -> PairNext
+    fn take_first(&mut self, sent: Turn, came: &Came<'_>, turn: Turn, shelf: &mut Shelf) -> PairStep
         ensures { TakesFirst self.old sent turn (reply_of came.now) shelf.old result self.new shelf.new }
     {
         let step = self.first.took(sent, came, turn, shelf);
@@ -89,7 +89,7 @@ impl Pair {
         came: &Came<'_>,
         turn: Turn,
         shelf: &mut Shelf,
-    ) -> PairNext
+    ) -> PairStep
         ensures { TakesSecond self.old sent turn (reply_of came.now) shelf.old result self.new shelf.new }
     {
         let step = self.second.took(sent, came, turn, shelf);
@@ -98,7 +98,7 @@ impl Pair {
     }
 
     /// The first walk goes on.
-    fn walk_on(&mut self, turn: Turn, shelf: &mut Shelf) -> PairNext
+    fn walk_on(&mut self, turn: Turn, shelf: &mut Shelf) -> PairStep
         ensures next { result ≡ on_next self.old turn shelf.old }
         ensures machine { self.new ≡ on_after self.old turn shelf.old }
         ensures shelf { shelf.new ≡ on_shelf self.old turn shelf.old }
@@ -108,21 +108,21 @@ impl Pair {
     }
 
     /// It does as its first walk does, and goes on with the second one from its end.
-    fn follow_first(&mut self, step: WalkNext, turn: Turn, shelf: &mut Shelf) -> PairNext
+    fn follow_first(&mut self, step: WalkStep, turn: Turn, shelf: &mut Shelf) -> PairStep
         ensures next { result ≡ led_first step self.old turn shelf.old }
         ensures machine { self.new ≡ first_kept step self.old turn shelf.old }
         ensures shelf { shelf.new ≡ first_shelf step self.old turn shelf.old }
     {
         match step {
-            WalkNext::Send(call) => PairNext::Look(call),
-            WalkNext::Wait => PairNext::Wait,
-            WalkNext::At(first) => self.walk_second(first, turn, shelf),
-            WalkNext::Refused(fault) => PairNext::Refused(fault),
+            WalkStep::Send(call) => PairStep::Look(call),
+            WalkStep::Wait => PairStep::Wait,
+            WalkStep::At(first) => self.walk_second(first, turn, shelf),
+            WalkStep::Refused(fault) => PairStep::Refused(fault),
         }
     }
 
     /// The second walk goes on.
-    fn walk_second(&mut self, first: Handle, turn: Turn, shelf: &mut Shelf) -> PairNext
+    fn walk_second(&mut self, first: Handle, turn: Turn, shelf: &mut Shelf) -> PairStep
         ensures next { result ≡ second_next first self.old turn shelf.old }
         ensures machine { self.new ≡ second_after self.old turn shelf.old }
         ensures shelf { shelf.new ≡ second_shelf self.old turn shelf.old }
@@ -132,28 +132,28 @@ impl Pair {
     }
 
     /// It does as its second walk does, until that has come to its end.
-    fn follow_second(&mut self, first: Handle, step: WalkNext, room: bool) -> PairNext
+    fn follow_second(&mut self, first: Handle, step: WalkStep, room: bool) -> PairStep
         ensures next { result ≡ led_second first step room }
         ensures machine { self.new ≡ second_kept step room self.old }
     {
         match step {
-            WalkNext::Send(call) => PairNext::Look(call),
-            WalkNext::Wait => PairNext::Wait,
-            WalkNext::At(second) => self.ask(first, second, room),
-            WalkNext::Refused(fault) => PairNext::Refused(fault),
+            WalkStep::Send(call) => PairStep::Look(call),
+            WalkStep::Wait => PairStep::Wait,
+            WalkStep::At(second) => self.ask(first, second, room),
+            WalkStep::Refused(fault) => PairStep::Refused(fault),
         }
     }
 
     /// At the objects it asks for the call as soon as there is room.
-    fn ask(&mut self, first: Handle, second: Handle, room: bool) -> PairNext
+    fn ask(&mut self, first: Handle, second: Handle, room: bool) -> PairStep
         ensures next { result ≡ asks_next first second room }
         ensures machine { self.new ≡ asks_after room self.old }
     {
         if room {
             self.asked = true;
-            PairNext::Ask(first, second)
+            PairStep::Ask(first, second)
         } else {
-            PairNext::Wait
+            PairStep::Wait
         }
     }
 }

@@ -6,8 +6,8 @@ ghost use Rattle.name_ops.specs.ReadLink.{text_call, text_attr, Copies, TellsTex
 ghost use Rattle.name_ops.specs.Visiting.{next_by, visit_of, visit_next, visit_after, visit_shelf};
 
 use crate::showing::show;
-use crate::visit::{Visit, VisitNext};
-use client_shelf::{Came, Next, Shelf, Turn};
+use crate::visit::{Visit, VisitStep};
+use client_shelf::{Came, Shelf, Step, Turn};
 use nfs_dir_calls::{DirCall, DirReply};
 use nfs_types::{Attr, Handle};
 use std::alloc::Global;
@@ -32,7 +32,7 @@ impl ReadLink {
     }
 
     /// The first step.
-    pub fn start(&mut self, turn: Turn, shelf: &mut Shelf) -> Next
+    pub fn start(&mut self, turn: Turn, shelf: &mut Shelf) -> Step
         ensures next { result ≡ next_by text_call (visit_next self.old.visit turn shelf.old) }
         ensures machine { self.new ≡ record self.old { visit = visit_after self.old.visit turn shelf.old } }
         ensures shelf { shelf.new ≡ visit_shelf self.old.visit turn shelf.old }
@@ -41,7 +41,7 @@ impl ReadLink {
     }
 
     /// A step that no reply made possible.
-    pub fn resume(&mut self, turn: Turn, shelf: &mut Shelf) -> Next
+    pub fn resume(&mut self, turn: Turn, shelf: &mut Shelf) -> Step
         ensures next { result ≡ next_by text_call (visit_next self.old.visit turn shelf.old) }
         ensures machine { self.new ≡ record self.old { visit = visit_after self.old.visit turn shelf.old } }
         ensures shelf { shelf.new ≡ visit_shelf self.old.visit turn shelf.old }
@@ -58,7 +58,7 @@ impl ReadLink {
         came: &Came<'_>,
         turn: Turn,
         shelf: &mut Shelf,
-    ) -> Next
+    ) -> Step
         ensures step { TakesText self.old.visit.asked self.old.visit sent turn (reply_of came.now) shelf.old result self.new.visit shelf.new }
         ensures machine { self.new ≡ record self.old { visit = self.new.visit } }
     {
@@ -77,7 +77,7 @@ impl ReadLink {
         came: &Came<'_>,
         turn: Turn,
         shelf: &mut Shelf,
-    ) -> Next
+    ) -> Step
         ensures { ShowsText self.now.visit.walk.spot.dir sent turn (reply_of came.now) shelf.old result shelf.new }
     {
         let link = self.visit.walk.spot.dir;
@@ -87,14 +87,14 @@ impl ReadLink {
     }
 
     /// A step of the visit as one of the operation.
-    fn next_of(&self, step: VisitNext) -> Next
+    fn next_of(&self, step: VisitStep) -> Step
         ensures { result ≡ next_by text_call step }
     {
         match step {
-            VisitNext::Look(call) => Next::Send(call),
-            VisitNext::Wait => Next::Wait,
-            VisitNext::Ask(object) => Next::Send(ask_text(object)),
-            VisitNext::Refused(fault) => Next::Done(Answer::Refused(fault)),
+            VisitStep::Look(call) => Step::Send(call),
+            VisitStep::Wait => Step::Wait,
+            VisitStep::Ask(object) => Step::Send(ask_text(object)),
+            VisitStep::Refused(fault) => Step::Done(Answer::Refused(fault)),
         }
     }
 }

@@ -11,8 +11,8 @@ use crate::changing::go_again;
 use crate::looking::{found_by, hear, look_up};
 use crate::moving::{move_call, move_names, moved_told};
 use crate::told::Told;
-use crate::walk::{Walk, WalkNext};
-use client_shelf::{Came, Next, Shelf, Turn};
+use crate::walk::{Walk, WalkStep};
+use client_shelf::{Came, Shelf, Step, Turn};
 use nfs_dir_calls::{DirCall, DirReply};
 use nfs_types::{Handle, Name};
 use open_files::OpenFiles;
@@ -60,24 +60,24 @@ impl RemoveFile {
     }
 
     /// The first step.
-    pub fn start(&mut self, turn: Turn, shelf: &mut Shelf) -> Next
+    pub fn start(&mut self, turn: Turn, shelf: &mut Shelf) -> Step
         ensures { Resumes self.old.asked self.old turn shelf.old result self.new shelf.new }
     {
         self.resume(turn, shelf)
     }
 
     /// A step that no reply made possible.
-    pub fn resume(&mut self, turn: Turn, shelf: &mut Shelf) -> Next
+    pub fn resume(&mut self, turn: Turn, shelf: &mut Shelf) -> Step
         ensures { Resumes self.old.asked self.old turn shelf.old result self.new shelf.new }
     {
         if self.asked {
-            return Next::Wait;
+            return Step::Wait;
         }
         self.go(turn, shelf)
     }
 
     /// The step at what came of its call, which the step with the turn `sent` made.
-    pub fn took(&mut self, sent: Turn, came: &Came<'_>, turn: Turn, shelf: &mut Shelf) -> Next
+    pub fn took(&mut self, sent: Turn, came: &Came<'_>, turn: Turn, shelf: &mut Shelf) -> Step
         ensures { Takes self.old.deed self.old sent turn (reply_of came.now) shelf.old result self.new shelf.new }
     {
         let deed = self.deed;
@@ -88,7 +88,7 @@ impl RemoveFile {
     }
 
     /// It goes on: to the directory, or with what it asks for there.
-    fn go(&mut self, turn: Turn, shelf: &mut Shelf) -> Next
+    fn go(&mut self, turn: Turn, shelf: &mut Shelf) -> Step
         ensures { Goes self.old.deed self.old turn shelf.old result self.new shelf.new }
     {
         let deed = self.deed;
@@ -99,7 +99,7 @@ impl RemoveFile {
     }
 
     /// Its walk goes on.
-    fn walk_on(&mut self, turn: Turn, shelf: &mut Shelf) -> Next
+    fn walk_on(&mut self, turn: Turn, shelf: &mut Shelf) -> Step
         ensures { WalksOn self.old turn shelf.old result self.new shelf.new }
     {
         let step = self.walk.go(turn, shelf);
@@ -107,7 +107,7 @@ impl RemoveFile {
     }
 
     /// Its walk takes what came of its call.
-    fn take_walk(&mut self, sent: Turn, came: &Came<'_>, turn: Turn, shelf: &mut Shelf) -> Next
+    fn take_walk(&mut self, sent: Turn, came: &Came<'_>, turn: Turn, shelf: &mut Shelf) -> Step
         ensures { TakesWalk self.old sent turn (reply_of came.now) shelf.old result self.new shelf.new }
     {
         let step = self.walk.took(sent, came, turn, shelf);
@@ -115,19 +115,19 @@ impl RemoveFile {
     }
 
     /// It does as its walk does, until that has come to its end. Then it looks up the name where any file is open.
-    fn follow(&mut self, step: WalkNext, room: bool, opens: &OpenFiles) -> Next
+    fn follow(&mut self, step: WalkStep, room: bool, opens: &OpenFiles) -> Step
         ensures { Follows step room self.old opens.now result self.new }
     {
         match step {
-            WalkNext::Send(call) => Next::Send(call),
-            WalkNext::Wait => Next::Wait,
-            WalkNext::At(_) => self.begin(room, opens),
-            WalkNext::Refused(fault) => Next::Done(Answer::Refused(fault)),
+            WalkStep::Send(call) => Step::Send(call),
+            WalkStep::Wait => Step::Wait,
+            WalkStep::At(_) => self.begin(room, opens),
+            WalkStep::Refused(fault) => Step::Done(Answer::Refused(fault)),
         }
     }
 
     /// The first call in the directory.
-    fn begin(&mut self, room: bool, opens: &OpenFiles) -> Next
+    fn begin(&mut self, room: bool, opens: &OpenFiles) -> Step
         ensures { Begins room self.old opens.now result self.new }
     {
         let any = opens.any();
@@ -135,7 +135,7 @@ impl RemoveFile {
     }
 
     /// Asks for a call, as soon as there is room.
-    fn ask(&mut self, deed: Deed, room: bool) -> Next
+    fn ask(&mut self, deed: Deed, room: bool) -> Step
         ensures next { result ≡ asked_next self.old deed room }
         ensures machine { self.new ≡ asked_after self.old deed room }
     {
@@ -145,13 +145,13 @@ impl RemoveFile {
     }
 
     /// The call of a deed, where there is room.
-    fn next_call(&self, deed: &Deed, room: bool) -> Next
+    fn next_call(&self, deed: &Deed, room: bool) -> Step
         ensures { result ≡ asked_next self.now deed.now room }
     {
         if room {
-            Next::Send(self.call(deed))
+            Step::Send(self.call(deed))
         } else {
-            Next::Wait
+            Step::Wait
         }
     }
 
@@ -179,11 +179,11 @@ impl RemoveFile {
         came: &Came<'_>,
         turn: Turn,
         shelf: &mut Shelf,
-    ) -> Next
+    ) -> Step
         ensures { TakesIf self.old.asked deed self.old sent turn (reply_of came.now) shelf.old result self.new shelf.new }
     {
         if !self.asked {
-            return Next::Wait;
+            return Step::Wait;
         }
         self.take(deed, sent, came, turn, shelf)
     }
@@ -196,7 +196,7 @@ impl RemoveFile {
         came: &Came<'_>,
         turn: Turn,
         shelf: &mut Shelf,
-    ) -> Next
+    ) -> Step
         ensures { TakesDeed deed self.old sent turn (reply_of came.now) shelf.old result self.new shelf.new }
     {
         match deed {
@@ -208,7 +208,7 @@ impl RemoveFile {
     }
 
     /// Takes the reply to the LOOKUP of the name.
-    fn take_look(&mut self, sent: Turn, came: &Came<'_>, turn: Turn, shelf: &mut Shelf) -> Next
+    fn take_look(&mut self, sent: Turn, came: &Came<'_>, turn: Turn, shelf: &mut Shelf) -> Step
         ensures { TakesLook self.old sent turn (reply_of came.now) shelf.old result self.new shelf.new }
     {
         let dir = self.walk.spot.dir;
@@ -225,20 +225,20 @@ impl RemoveFile {
         told: Result<Handle, Fault>,
         room: bool,
         shelf: &mut Shelf,
-    ) -> Next
+    ) -> Step
         ensures { FollowsLook busy told self.old room shelf.old result self.new shelf.new }
     {
         if busy {
-            return Next::Send(self.call(&Deed::Look));
+            return Step::Send(self.call(&Deed::Look));
         }
         match told {
             Ok(file) => self.find(file, room, shelf),
-            Err(fault) => Next::Done(Answer::Refused(fault)),
+            Err(fault) => Step::Done(Answer::Refused(fault)),
         }
     }
 
     /// The file was found: one that is open gets a `.nfs` name.
-    fn find(&mut self, file: Handle, room: bool, shelf: &mut Shelf) -> Next
+    fn find(&mut self, file: Handle, room: bool, shelf: &mut Shelf) -> Step
         ensures { Finds file self.old room shelf.old result self.new shelf.new }
     {
         let is_open = shelf.opens.is_open(&file);
@@ -255,7 +255,7 @@ impl RemoveFile {
         came: &Came<'_>,
         turn: Turn,
         shelf: &mut Shelf,
-    ) -> Next
+    ) -> Step
         ensures { TakesSeek file to self.old sent turn (reply_of came.now) shelf.old result self.new shelf.new }
     {
         let dir = self.walk.spot.dir;
@@ -273,11 +273,11 @@ impl RemoveFile {
         told: Result<Handle, Fault>,
         room: bool,
         shelf: &mut Shelf,
-    ) -> Next
+    ) -> Step
         ensures { FollowsSeek busy told file to self.old room shelf.old result self.new shelf.new }
     {
         if busy {
-            return Next::Send(self.call(&Deed::Seek(file, to)));
+            return Step::Send(self.call(&Deed::Seek(file, to)));
         }
         match told {
             Ok(_) => {
@@ -289,14 +289,14 @@ impl RemoveFile {
     }
 
     /// Nothing was found: the name is taken where nothing has it.
-    fn miss(&mut self, fault: Fault, file: Handle, to: Name, room: bool) -> Next
+    fn miss(&mut self, fault: Fault, file: Handle, to: Name, room: bool) -> Step
         ensures next { result ≡ missed_next (is_missing fault) fault file to self.old room }
         ensures machine { self.new ≡ missed_after (is_missing fault) file to self.old room }
     {
         if is_missing(fault) {
             self.ask(Deed::Move(file, to), room)
         } else {
-            Next::Done(Answer::Refused(fault))
+            Step::Done(Answer::Refused(fault))
         }
     }
 
@@ -309,7 +309,7 @@ impl RemoveFile {
         came: &Came<'_>,
         turn: Turn,
         shelf: &mut Shelf,
-    ) -> Next
+    ) -> Step
         ensures { TakesMove file to self.now sent turn (reply_of came.now) shelf.old result shelf.new }
     {
         let dir = self.walk.spot.dir;
@@ -326,20 +326,20 @@ impl RemoveFile {
         file: Handle,
         to: Name,
         silly: &mut Silly,
-    ) -> Next
+    ) -> Step
         ensures { EndsMove busy refusal file to self.now silly.old result silly.new }
     {
         if busy {
-            return Next::Send(self.call(&Deed::Move(file, to)));
+            return Step::Send(self.call(&Deed::Move(file, to)));
         }
         match refusal {
             None => keep_place(file, self.walk.spot.dir, to, silly),
-            Some(fault) => Next::Done(Answer::Refused(fault)),
+            Some(fault) => Step::Done(Answer::Refused(fault)),
         }
     }
 
     /// Takes the reply to the REMOVE.
-    fn take_removal(&self, sent: Turn, came: &Came<'_>, turn: Turn, shelf: &mut Shelf) -> Next
+    fn take_removal(&self, sent: Turn, came: &Came<'_>, turn: Turn, shelf: &mut Shelf) -> Step
         ensures { Changes self.now.walk.spot.dir (call_of self.now Remove) (removed_told (reply_of came.now)) sent turn shelf.old result shelf.new }
     {
         let dir = self.walk.spot.dir;
@@ -388,12 +388,12 @@ fn is_missing(fault: Fault) -> bool
 }
 
 /// Keeps where the file is to be removed at its last close.
-fn keep_place(file: Handle, dir: Handle, to: Name, silly: &mut Silly) -> Next
+fn keep_place(file: Handle, dir: Handle, to: Name, silly: &mut Silly) -> Step
     ensures { Keeps file dir to silly.old result silly.new }
 {
     match silly.put(&file, &dir, &to) {
-        Ok(()) => Next::Done(Answer::Done(Value::Nothing)),
-        Err(Memory) => Next::Done(Answer::Refused(Fault::Memory)),
+        Ok(()) => Step::Done(Answer::Done(Value::Nothing)),
+        Err(Memory) => Step::Done(Answer::Refused(Fault::Memory)),
     }
 }
 

@@ -7,8 +7,8 @@ ghost use Rattle.name_ops.specs.Pairs.{pair_of, next_by, pair_next, pair_after, 
 ghost use Rattle.name_ops.specs.Rename.{rename_call, Renames, TakesRename};
 
 use crate::moving::{move_call, move_names, moved_told};
-use crate::pair::{Pair, PairNext};
-use client_shelf::{Came, Next, Shelf, Turn};
+use crate::pair::{Pair, PairStep};
+use client_shelf::{Came, Shelf, Step, Turn};
 use nfs_types::{Handle, Name};
 use world_model::{Answer, Path};
 
@@ -36,7 +36,7 @@ impl Rename {
     }
 
     /// The first step.
-    pub fn start(&mut self, turn: Turn, shelf: &mut Shelf) -> Next
+    pub fn start(&mut self, turn: Turn, shelf: &mut Shelf) -> Step
         ensures next { result ≡ next_by (rename_call self.old.from self.old.to) (pair_next self.old.pair turn shelf.old) }
         ensures machine { self.new ≡ record self.old { pair = pair_after self.old.pair turn shelf.old } }
         ensures shelf { shelf.new ≡ pair_shelf self.old.pair turn shelf.old }
@@ -45,7 +45,7 @@ impl Rename {
     }
 
     /// A step that no reply made possible.
-    pub fn resume(&mut self, turn: Turn, shelf: &mut Shelf) -> Next
+    pub fn resume(&mut self, turn: Turn, shelf: &mut Shelf) -> Step
         ensures next { result ≡ next_by (rename_call self.old.from self.old.to) (pair_next self.old.pair turn shelf.old) }
         ensures machine { self.new ≡ record self.old { pair = pair_after self.old.pair turn shelf.old } }
         ensures shelf { shelf.new ≡ pair_shelf self.old.pair turn shelf.old }
@@ -55,7 +55,7 @@ impl Rename {
     }
 
     /// The step at what came of its call, which the step with the turn `sent` made.
-    pub fn took(&mut self, sent: Turn, came: &Came<'_>, turn: Turn, shelf: &mut Shelf) -> Next
+    pub fn took(&mut self, sent: Turn, came: &Came<'_>, turn: Turn, shelf: &mut Shelf) -> Step
         ensures step { TakesRename self.old.pair.asked self.old sent turn (reply_of came.now) shelf.old result self.new.pair shelf.new }
         ensures machine { self.new ≡ record self.old { pair = self.new.pair } }
     {
@@ -67,27 +67,27 @@ impl Rename {
     }
 
     /// Takes the reply to its RENAME.
-    fn take(&self, sent: Turn, came: &Came<'_>, turn: Turn, shelf: &mut Shelf) -> Next
+    fn take(&self, sent: Turn, came: &Came<'_>, turn: Turn, shelf: &mut Shelf) -> Step
         ensures { Renames self.now sent turn (moved_told (reply_of came.now)) shelf.old result shelf.new }
     {
         let from = self.pair.first.spot.dir;
         let to = self.pair.second.spot.dir;
         let told = moved_told(came);
         if move_names(&from, &to, &told, sent, turn, shelf) {
-            return Next::Send(move_call(from, self.from, to, self.to));
+            return Step::Send(move_call(from, self.from, to, self.to));
         }
-        Next::Done(told.answer())
+        Step::Done(told.answer())
     }
 
     /// A step of the walks as one of the operation.
-    fn next_of(&self, step: PairNext) -> Next
+    fn next_of(&self, step: PairStep) -> Step
         ensures { result ≡ next_by (rename_call self.now.from self.now.to) step }
     {
         match step {
-            PairNext::Look(call) => Next::Send(call),
-            PairNext::Wait => Next::Wait,
-            PairNext::Ask(from, to) => Next::Send(move_call(from, self.from, to, self.to)),
-            PairNext::Refused(fault) => Next::Done(Answer::Refused(fault)),
+            PairStep::Look(call) => Step::Send(call),
+            PairStep::Wait => Step::Wait,
+            PairStep::Ask(from, to) => Step::Send(move_call(from, self.from, to, self.to)),
+            PairStep::Refused(fault) => Step::Done(Answer::Refused(fault)),
         }
     }
 }

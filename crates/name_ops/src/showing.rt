@@ -6,7 +6,7 @@ ghost use Rattle.name_ops.specs.Showing.{Shows, shown_answer};
 
 use client_shelf::busy::{again, is_busy};
 use client_shelf::learning::learn;
-use client_shelf::{Next, Shelf, Turn};
+use client_shelf::{Shelf, Step, Turn};
 use nfs_types::{Attr, Handle};
 use world_model::{Answer, Call, Fault, Value};
 
@@ -20,14 +20,14 @@ pub(crate) fn show(
     sent: Turn,
     turn: Turn,
     shelf: &mut Shelf,
-) -> Next
+) -> Step
     ensures { Shows object.now attr.now told call sent turn shelf.old result shelf.new }
 {
     learn(&mut shelf.attrs, object, attr, sent.now);
     if again(value_busy(&told), sent, turn, &mut shelf.repeats) {
-        return Next::Send(call);
+        return Step::Send(call);
     }
-    Next::Done(shown_answer(told))
+    Step::Done(shown_answer(told))
 }
 
 /// Whether it was refused because the server is busy.

@@ -6,9 +6,9 @@ ghost use Rattle.name_ops.specs.Showing.{Shows};
 ghost use Rattle.name_ops.specs.Stat.{get_attr, got_attr, got_told, ask_next, ask_after, follow_next, follow_after, stat_next, stat_after, stat_shelf, StatTakes};
 
 use crate::showing::show;
-use crate::walk::{Walk, WalkNext};
+use crate::walk::{Walk, WalkStep};
 use attr_cache::AttrCache;
-use client_shelf::{Came, Next, Shelf, Turn};
+use client_shelf::{Came, Shelf, Step, Turn};
 use nfs_file_calls::{FileCall, FileReply};
 use nfs_types::{Attr, Handle};
 use world_model::{Answer, Call, Fault, Path, Value};
@@ -34,7 +34,7 @@ impl Stat {
     }
 
     /// The first step.
-    pub fn start(&mut self, turn: Turn, shelf: &mut Shelf) -> Next
+    pub fn start(&mut self, turn: Turn, shelf: &mut Shelf) -> Step
         ensures next { result ≡ stat_next self.old turn shelf.old }
         ensures machine { self.new ≡ stat_after self.old turn shelf.old }
         ensures shelf { shelf.new ≡ stat_shelf self.old turn shelf.old }
@@ -43,20 +43,20 @@ impl Stat {
     }
 
     /// A step that no reply made possible.
-    pub fn resume(&mut self, turn: Turn, shelf: &mut Shelf) -> Next
+    pub fn resume(&mut self, turn: Turn, shelf: &mut Shelf) -> Step
         ensures next { result ≡ stat_next self.old turn shelf.old }
         ensures machine { self.new ≡ stat_after self.old turn shelf.old }
         ensures shelf { shelf.new ≡ stat_shelf self.old turn shelf.old }
     {
         if self.asked {
-            return Next::Wait;
+            return Step::Wait;
         }
         let step = self.walk.go(turn, shelf);
         self.follow(step, turn, &shelf.attrs)
     }
 
     /// The step at what came of its call, which the step with the turn `sent` made.
-    pub fn took(&mut self, sent: Turn, came: &Came<'_>, turn: Turn, shelf: &mut Shelf) -> Next
+    pub fn took(&mut self, sent: Turn, came: &Came<'_>, turn: Turn, shelf: &mut Shelf) -> Step
         ensures { StatTakes self.old.asked self.old sent turn (reply_of came.now) shelf.old result self.new shelf.new }
     {
         if self.asked {
@@ -67,7 +67,7 @@ impl Stat {
     }
 
     /// Takes the reply to its GETATTR.
-    fn take(&self, sent: Turn, came: &Came<'_>, turn: Turn, shelf: &mut Shelf) -> Next
+    fn take(&self, sent: Turn, came: &Came<'_>, turn: Turn, shelf: &mut Shelf) -> Step
         ensures { Shows self.now.walk.spot.dir (got_attr (reply_of came.now)) (got_told (reply_of came.now)) (get_attr self.now.walk.spot.dir) sent turn shelf.old result shelf.new }
     {
         let object = self.walk.spot.dir;
@@ -84,31 +84,31 @@ impl Stat {
     }
 
     /// It does as its walk does, until that has come to its end.
-    fn follow(&mut self, step: WalkNext, turn: Turn, attrs: &AttrCache) -> Next
+    fn follow(&mut self, step: WalkStep, turn: Turn, attrs: &AttrCache) -> Step
         ensures next { result ≡ follow_next step turn attrs.now }
         ensures machine { self.new ≡ follow_after step turn attrs.now self.old }
     {
         match step {
-            WalkNext::Send(call) => Next::Send(call),
-            WalkNext::Wait => Next::Wait,
-            WalkNext::At(object) => self.ask(object, turn.room, attrs.look(&object, turn.now)),
-            WalkNext::Refused(fault) => Next::Done(Answer::Refused(fault)),
+            WalkStep::Send(call) => Step::Send(call),
+            WalkStep::Wait => Step::Wait,
+            WalkStep::At(object) => self.ask(object, turn.room, attrs.look(&object, turn.now)),
+            WalkStep::Refused(fault) => Step::Done(Answer::Refused(fault)),
         }
     }
 
     /// Attributes that are believed are the answer. Others are asked for as soon as there is room.
-    fn ask(&mut self, object: Handle, room: bool, known: Option<Attr>) -> Next
+    fn ask(&mut self, object: Handle, room: bool, known: Option<Attr>) -> Step
         ensures next { result ≡ ask_next known object room }
         ensures machine { self.new ≡ ask_after known room self.old }
     {
         if let Some(attr) = known {
-            return Next::Done(Answer::Done(Value::Attrs(attr)));
+            return Step::Done(Answer::Done(Value::Attrs(attr)));
         }
         if !room {
-            return Next::Wait;
+            return Step::Wait;
         }
         self.asked = true;
-        Next::Send(get_attr(object))
+        Step::Send(get_attr(object))
     }
 }
 

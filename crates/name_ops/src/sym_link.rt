@@ -7,8 +7,8 @@ ghost use Rattle.name_ops.specs.Visiting.{visit_of, visit_next, visit_after, vis
 
 use crate::changing::{end, go_again, mode_set};
 use crate::told::Told;
-use crate::visit::{Visit, VisitNext};
-use client_shelf::{Came, Next, Shelf, Turn};
+use crate::visit::{Visit, VisitStep};
+use client_shelf::{Came, Shelf, Step, Turn};
 use nfs_dir_calls::{DirCall, DirReply};
 use nfs_types::{Handle, Name};
 use std::alloc::Global;
@@ -39,7 +39,7 @@ impl SymLink {
     }
 
     /// The first step.
-    pub fn start(&mut self, alloc: Global, turn: Turn, shelf: &mut Shelf) -> Next
+    pub fn start(&mut self, alloc: Global, turn: Turn, shelf: &mut Shelf) -> Step
         ensures next { CopiesBy (sym_link_call self.old.name self.old.target) (visit_next self.old.visit turn shelf.old) result }
         ensures machine { self.new ≡ record self.old { visit = visit_after self.old.visit turn shelf.old } }
         ensures shelf { shelf.new ≡ visit_shelf self.old.visit turn shelf.old }
@@ -48,7 +48,7 @@ impl SymLink {
     }
 
     /// A step that no reply made possible.
-    pub fn resume(&mut self, alloc: Global, turn: Turn, shelf: &mut Shelf) -> Next
+    pub fn resume(&mut self, alloc: Global, turn: Turn, shelf: &mut Shelf) -> Step
         ensures next { CopiesBy (sym_link_call self.old.name self.old.target) (visit_next self.old.visit turn shelf.old) result }
         ensures machine { self.new ≡ record self.old { visit = visit_after self.old.visit turn shelf.old } }
         ensures shelf { shelf.new ≡ visit_shelf self.old.visit turn shelf.old }
@@ -65,7 +65,7 @@ impl SymLink {
         came: &Came<'_>,
         turn: Turn,
         shelf: &mut Shelf,
-    ) -> Next
+    ) -> Step
         ensures step { TakesSymLink self.old.visit.asked self.old sent turn (reply_of came.now) shelf.old result self.new.visit shelf.new }
         ensures machine { self.new ≡ record self.old { visit = self.new.visit } }
     {
@@ -84,7 +84,7 @@ impl SymLink {
         came: &Came<'_>,
         turn: Turn,
         shelf: &mut Shelf,
-    ) -> Next
+    ) -> Step
         ensures { ChangesByCopy self.now.visit.walk.spot.dir (sym_link_call self.now.name self.now.target self.now.visit.walk.spot.dir) (sym_linked_told (reply_of came.now)) sent turn shelf.old result shelf.new }
     {
         let dir = self.visit.walk.spot.dir;
@@ -99,24 +99,24 @@ impl SymLink {
     }
 
     /// A step of the visit as one of the operation.
-    fn next_of(&self, alloc: Global, step: VisitNext) -> Next
+    fn next_of(&self, alloc: Global, step: VisitStep) -> Step
         ensures { CopiesBy (sym_link_call self.now.name self.now.target) step result }
     {
         match step {
-            VisitNext::Look(call) => Next::Send(call),
-            VisitNext::Wait => Next::Wait,
-            VisitNext::Ask(dir) => self.ask(alloc, dir),
-            VisitNext::Refused(fault) => Next::Done(Answer::Refused(fault)),
+            VisitStep::Look(call) => Step::Send(call),
+            VisitStep::Wait => Step::Wait,
+            VisitStep::Ask(dir) => self.ask(alloc, dir),
+            VisitStep::Refused(fault) => Step::Done(Answer::Refused(fault)),
         }
     }
 
     /// Asks for the call, if there is memory for it.
-    fn ask(&self, alloc: Global, dir: Handle) -> Next
+    fn ask(&self, alloc: Global, dir: Handle) -> Step
         ensures { SendsCopy (sym_link_call self.now.name self.now.target dir) result }
     {
         match self.call(alloc, dir) {
-            Ok(call) => Next::Send(call),
-            Err(Memory) => Next::Done(Answer::Refused(Fault::Memory)),
+            Ok(call) => Step::Send(call),
+            Err(Memory) => Step::Done(Answer::Refused(Fault::Memory)),
         }
     }
 

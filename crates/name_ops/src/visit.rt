@@ -2,17 +2,17 @@
 
 ghost use Rattle.std.specs.Prelude.{◌≡◌, false};
 ghost use Rattle.client_shelf.specs.Coming.{reply_of};
-ghost use Rattle.name_ops.specs.declared.walk.WalkNext.TheVariants.{At as at};
+ghost use Rattle.name_ops.specs.declared.walk.WalkStep.TheVariants.{At as at};
 ghost use Rattle.name_ops.specs.Visiting.{visit_of, follow_next, follow_after, visit_next, visit_after, visit_shelf, VisitTakes};
 
-use crate::walk::{Walk, WalkNext};
+use crate::walk::{Walk, WalkStep};
 use client_shelf::{Came, Shelf, Turn};
 use nfs_types::Handle;
 use world_model::{Call, Fault, Path};
 
 /// What a step of a visit comes to.
 #[derive(Debug, Drop)]
-pub enum VisitNext {
+pub enum VisitStep {
     /// It asks for this call of its walk.
     Look(Call),
     /// It waits for a reply or for room.
@@ -44,13 +44,13 @@ impl Visit {
     }
 
     /// A step that no reply made possible, the first one among them.
-    pub(crate) fn go(&mut self, turn: Turn, shelf: &mut Shelf) -> VisitNext
+    pub(crate) fn go(&mut self, turn: Turn, shelf: &mut Shelf) -> VisitStep
         ensures next { result ≡ visit_next self.old turn shelf.old }
         ensures machine { self.new ≡ visit_after self.old turn shelf.old }
         ensures shelf { shelf.new ≡ visit_shelf self.old turn shelf.old }
     {
         if self.asked {
-            return VisitNext::Wait;
+            return VisitStep::Wait;
         }
         let step = self.walk.go(turn, shelf);
         self.follow(step, turn.room)
@@ -63,7 +63,7 @@ impl Visit {
         came: &Came<'_>,
         turn: Turn,
         shelf: &mut Shelf,
-    ) -> VisitNext
+    ) -> VisitStep
         ensures { VisitTakes self.old sent turn (reply_of came.now) shelf.old result self.new shelf.new }
     {
         let step = self.walk.took(sent, came, turn, shelf);
@@ -71,28 +71,28 @@ impl Visit {
     }
 
     /// It does as its walk does, until that has come to its end.
-    fn follow(&mut self, step: WalkNext, room: bool) -> VisitNext
+    fn follow(&mut self, step: WalkStep, room: bool) -> VisitStep
         ensures next { result ≡ follow_next step room }
         ensures machine { self.new ≡ follow_after step room self.old }
     {
         match step {
-            WalkNext::Send(call) => VisitNext::Look(call),
-            WalkNext::Wait => VisitNext::Wait,
-            WalkNext::At(object) => self.ask(object, room),
-            WalkNext::Refused(fault) => VisitNext::Refused(fault),
+            WalkStep::Send(call) => VisitStep::Look(call),
+            WalkStep::Wait => VisitStep::Wait,
+            WalkStep::At(object) => self.ask(object, room),
+            WalkStep::Refused(fault) => VisitStep::Refused(fault),
         }
     }
 
     /// At the object it asks for the call as soon as there is room.
-    fn ask(&mut self, object: Handle, room: bool) -> VisitNext
+    fn ask(&mut self, object: Handle, room: bool) -> VisitStep
         ensures next { result ≡ follow_next (at object) room }
         ensures machine { self.new ≡ follow_after (at object) room self.old }
     {
         if room {
             self.asked = true;
-            VisitNext::Ask(object)
+            VisitStep::Ask(object)
         } else {
-            VisitNext::Wait
+            VisitStep::Wait
         }
     }
 }

@@ -22,7 +22,7 @@ pub struct Spot {
 
 /// What a step of a walk comes to.
 #[derive(Debug, Drop)]
-pub enum WalkNext {
+pub enum WalkStep {
     /// It asks for this call.
     Send(Call),
     /// It waits for a reply or for room.
@@ -58,25 +58,25 @@ impl Walk {
     }
 
     /// A step that no reply made possible, the first one among them. A walk that has come to its end stays there.
-    pub fn go(&mut self, turn: Turn, shelf: &mut Shelf) -> WalkNext
+    pub fn go(&mut self, turn: Turn, shelf: &mut Shelf) -> WalkStep
         ensures next { result ≡ go_next self.old turn shelf.old }
         ensures machine { self.new ≡ go_after self.old turn shelf.old }
         ensures shelf { shelf.new ≡ record shelf.old { names = go_names self.old turn shelf.old } }
     {
         if self.asked {
-            return WalkNext::Wait;
+            return WalkStep::Wait;
         }
         self.walk_on(turn, &shelf.attrs, &mut shelf.names)
     }
 
     /// The step at what came of its call, which the step with the turn `sent` made. A call that is refused because the
     /// server is busy is made again.
-    pub fn took(&mut self, sent: Turn, came: &Came<'_>, turn: Turn, shelf: &mut Shelf) -> WalkNext
+    pub fn took(&mut self, sent: Turn, came: &Came<'_>, turn: Turn, shelf: &mut Shelf) -> WalkStep
         ensures { Takes (waiting_name self.old) self.old sent turn (reply_of came.now) shelf.old result self.new shelf.new }
     {
         match self.waiting_name() {
             Some(name) => self.take(&name, sent, came, turn, shelf),
-            None => WalkNext::Wait,
+            None => WalkStep::Wait,
         }
     }
 
@@ -88,7 +88,7 @@ impl Walk {
         came: &Came<'_>,
         turn: Turn,
         shelf: &mut Shelf,
-    ) -> WalkNext
+    ) -> WalkStep
         ensures { Looks self.old name.now sent turn (reply_of came.now) shelf.old result self.new shelf.new }
     {
         let told = found_by(came);
@@ -105,13 +105,13 @@ impl Walk {
         told: Result<Handle, Fault>,
         turn: Turn,
         shelf: &mut Shelf,
-    ) -> WalkNext
+    ) -> WalkStep
         ensures next { result ≡ followed_next busy self.old name.now told turn shelf.old }
         ensures machine { self.new ≡ followed_walk busy self.old told turn shelf.old }
         ensures shelf { shelf.new ≡ followed_shelf busy self.old told turn shelf.old }
     {
         if busy {
-            return WalkNext::Send(look_up(self.spot.dir, *name));
+            return WalkStep::Send(look_up(self.spot.dir, *name));
         }
         match told {
             Ok(found) => {
@@ -119,12 +119,12 @@ impl Walk {
                 self.asked = false;
                 self.walk_on(turn, &shelf.attrs, &mut shelf.names)
             }
-            Err(fault) => WalkNext::Refused(fault),
+            Err(fault) => WalkStep::Refused(fault),
         }
     }
 
     /// Goes on through kept names, and asks for the first one that isn't kept.
-    fn walk_on(&mut self, turn: Turn, attrs: &AttrCache, names: &mut NameCache) -> WalkNext
+    fn walk_on(&mut self, turn: Turn, attrs: &AttrCache, names: &mut NameCache) -> WalkStep
         ensures next { result ≡ on_next self.old turn attrs.now names.old }
         ensures machine { self.new ≡ on_after self.old turn attrs.now names.old }
         ensures names { names.new ≡ on_names self.old turn attrs.now names.old }
@@ -134,18 +134,18 @@ impl Walk {
     }
 
     /// Asks for the next name, if one is left and there is room for the call.
-    fn ask(&mut self, room: bool) -> WalkNext
+    fn ask(&mut self, room: bool) -> WalkStep
         ensures next { result ≡ asks (next_name self.old) room self.old }
         ensures machine { self.new ≡ asked_after (next_name self.old) room self.old }
     {
         let Some(name) = name_at(self.path.names(), self.spot.left) else {
-            return WalkNext::At(self.spot.dir);
+            return WalkStep::At(self.spot.dir);
         };
         if !room {
-            return WalkNext::Wait;
+            return WalkStep::Wait;
         }
         self.asked = true;
-        WalkNext::Send(look_up(self.spot.dir, name))
+        WalkStep::Send(look_up(self.spot.dir, name))
     }
 
     /// The name whose LOOKUP has no reply yet.

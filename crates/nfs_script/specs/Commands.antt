@@ -1,5 +1,5 @@
 -- The commands of a script. Words are read from left to right, and the first faulty one decides.
-use Rattle.std.specs.Prelude.{ℕ, List, [], ◌∷◌, codes, Option, Result, Ok, Err, ok_or, if◌then◌else◌}
+use Rattle.std.specs.Prelude.{ℕ, List, [], ◌∷◌, codes, Option, Some, None, Result, Ok, Err, ok_or, if◌then◌else◌}
 use Rattle.std.specs.Str.{bytes_eq}
 use Rattle.nfs_types.specs.declared.mode.Mode.{Mode}
 use Rattle.nfs_types.specs.declared.mode.Mode.TheVariants as modes
@@ -221,3 +221,12 @@ op_of command words =
     (if bytes_eq command (codes "sync") then sync_of words else
     (if bytes_eq command (codes "close") then close_of words else
     (if bytes_eq command (codes "truncate") then truncate_of words else path_op_of command words))))))
+
+abbrev pub asked_for : Result Op Cause → Option Op
+asked_for (Ok op) = Some op
+asked_for (Err cause) = None
+
+-- the operation of words of which the first is the command, where they ask for one
+abbrev pub operation_of : List (List ℕ) → Option Op
+operation_of [] = None
+operation_of (command ∷ words) = asked_for (op_of command words)

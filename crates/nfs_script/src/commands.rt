@@ -1,17 +1,41 @@
 //! The commands of a script.
 
-ghost use Rattle.std.specs.Prelude.{◌≡◌};
+ghost use Rattle.std.specs.Prelude.{◌≡◌, IfOk};
 ghost use Rattle.script_text.specs.Lines.{words};
 ghost use Rattle.nfs_script.specs.Faults.{Gives};
-ghost use Rattle.nfs_script.specs.Commands.{op_of, path_op_of};
+ghost use Rattle.nfs_script.specs.Commands.{asked_for, op_of, operation_of, path_op_of};
 
 use crate::fault::{Cause, LineFault};
 use crate::file_commands::{close, fill, open_file, read, sync, truncate, write};
 use crate::path_commands::{
     access, link, list, make_dir, put, read_link, remove, remove_dir, rename, stat, sym_link,
 };
+use script_text::next_word;
 use std::alloc::Global;
 use world_model::Op;
+use xdr_codec::Memory;
+
+/// The operation that a command and its words ask for, as they stand in a script behind the lane. None exactly where they
+/// ask for none.
+pub fn operation(alloc: Global, line: &[u8]) -> Result<Option<Op>, Memory>
+    ensures { IfOk result (λ op. op ≡ operation_of (words line.now)) }
+{
+    match next_word(line) {
+        Some((command, rest)) => asked_for(alloc, command, rest),
+        None => Ok(None),
+    }
+}
+
+/// The operation of a command and of the words that the line has left, if they ask for one.
+fn asked_for(alloc: Global, command: &[u8], line: &[u8]) -> Result<Option<Op>, Memory>
+    ensures { IfOk result (λ op. op ≡ asked_for (op_of command.now (words line.now))) }
+{
+    match op(alloc, command, line) {
+        Ok(op) => Ok(Some(op)),
+        Err(LineFault::Refused(_)) => Ok(None),
+        Err(LineFault::Memory) => Err(Memory),
+    }
+}
 
 /// The operation of a command and of the words that the line has left.
 pub(crate) fn op(alloc: Global, command: &[u8], line: &[u8]) -> Result<Op, LineFault>

@@ -22,6 +22,7 @@ mod words;
 
 pub use answer_line::line;
 pub use batch_end::done_line;
+pub use commands::operation;
 pub use fault::{ParseFault, ScriptFault};
 pub use made_line::whole_line;
 pub use refused_mount::mount_line;

@@ -66,6 +66,13 @@ impl Script {
         (line.lane, line.line, &line.op)
     }
 
+    /// The script that asks for these operations, in this order. It takes no memory.
+    pub fn of(lines: Vec<ScriptLine>) -> Script
+        ensures { result ≡ lines.items }
+    {
+        Script { lines }
+    }
+
     /// Nothing is asked for.
     fn new(alloc: Global) -> Script
         ensures { result ≡ [] }

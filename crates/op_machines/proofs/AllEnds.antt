@@ -4,8 +4,8 @@ use Rattle.world_model.specs.declared.answer.Fault.{Fault}
 use Rattle.world_model.specs.declared.message.Call.{Call}
 use Rattle.client_shelf.specs.declared.shelf.Shelf.{Shelf}
 use Rattle.client_shelf.specs.declared.turn.Turn.{Turn}
-use Rattle.client_shelf.specs.declared.next.Next.{Next}
-use Rattle.client_shelf.specs.declared.next.Next.TheVariants.{Send, Wait}
+use Rattle.client_shelf.specs.declared.step.Step.{Step}
+use Rattle.client_shelf.specs.declared.step.Step.TheVariants.{Send, Wait}
 use Rattle.op_machines.specs.declared.machine.Machine.{Machine}
 use Rattle.op_machines.specs.declared.machine.Machine.TheVariants.{File, Path, Name}
 use Rattle.op_machines.specs.Endings.{calls_left}
@@ -22,7 +22,7 @@ few-left (File m) = files.few-left m
 few-left (Path m) = paths.few-paths m
 few-left (Name m) = below-two (calls_left (Name m)) (names.few-left m)
 
-pub refusals-end : (wsize : ℕ) (machine : Machine) (turn : Turn) (old : Shelf) (call : Call) (mid : Machine) (between : Shelf) (unmade : Turn) (fault : Fault) (next : Next) (new : Machine) (after : Shelf)
+pub refusals-end : (wsize : ℕ) (machine : Machine) (turn : Turn) (old : Shelf) (call : Call) (mid : Machine) (between : Shelf) (unmade : Turn) (fault : Fault) (next : Step) (new : Machine) (after : Shelf)
     → Resumes wsize machine turn old (Send call) mid between → Takes wsize mid turn unmade (Err fault) between next new after → next ≡ Wait → calls_left new < calls_left machine
 refusals-end wsize (File m) turn old call mid between unmade fault next new after r t waits =
     let own = subst (λ (it : Machine). Takes wsize it turn unmade (Err fault) between next new after) r.machine_is t in

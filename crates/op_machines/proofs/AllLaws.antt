@@ -6,8 +6,8 @@ use Rattle.world_model.specs.declared.message.Reply.{Reply}
 use Rattle.write_back.specs.Files.{Pending}
 use Rattle.client_shelf.specs.declared.shelf.Shelf.{Shelf}
 use Rattle.client_shelf.specs.declared.turn.Turn.{Turn}
-use Rattle.client_shelf.specs.declared.next.Next.{Next}
-use Rattle.client_shelf.specs.declared.next.Next.TheVariants.{Send, Wait}
+use Rattle.client_shelf.specs.declared.step.Step.{Step}
+use Rattle.client_shelf.specs.declared.step.Step.TheVariants.{Send, Wait}
 use Rattle.client_shelf.specs.Spelling.{IsSpellable, AreSpellable}
 use Rattle.file_ops.specs.Ready.{IsReady}
 use Rattle.file_ops.proofs.Numbers.{none-more}
@@ -41,7 +41,7 @@ as-it-is new to is fits = subst Fits (sym is) fits
 
 -- ---- one that waits stays as it is
 
-pub all-still : (wsize : ℕ) (machine : Machine) (turn : Turn) (old : Shelf) (next : Next) (new : Machine) (after : Shelf)
+pub all-still : (wsize : ℕ) (machine : Machine) (turn : Turn) (old : Shelf) (next : Step) (new : Machine) (after : Shelf)
     → turn.room ≡ true → Resumes wsize machine turn old next new after → next ≡ Wait → (new ≡ machine) × (after ≡ old)
 all-still wsize (File m) turn old next new after room r waits =
     let s = still.waits-still wsize m turn old next r.machine after room r.step waits in
@@ -55,17 +55,17 @@ all-still wsize (Name m) turn old next new after room r waits =
 
 -- ---- what it has to write goes on to fit
 
-pub starts-fit : (wsize : ℕ) (machine : Machine) (turn : Turn) (old : Shelf) (next : Next) (new : Machine) (after : Shelf) → Starts wsize machine turn old next new after → Fits machine → Fits new
+pub starts-fit : (wsize : ℕ) (machine : Machine) (turn : Turn) (old : Shelf) (next : Step) (new : Machine) (after : Shelf) → Starts wsize machine turn old next new after → Fits machine → Fits new
 starts-fit wsize (File m) turn old next new after s fits = as-it-is new (File s.machine) s.machine_is (fit.starts-fit wsize m turn old next s.machine after s.step fits)
 starts-fit wsize (Path m) turn old next new after s fits = as-it-is new (Path s.machine) s.machine_is (paths.path-starts-fits wsize m turn old next s.machine after s.step fits)
 starts-fit wsize (Name m) turn old next new after s fits = as-it-is new (Name s.machine) s.machine_is (names.name-goes-fits m turn old next s.machine after s.step fits)
 
-pub resumes-fit : (wsize : ℕ) (machine : Machine) (turn : Turn) (old : Shelf) (next : Next) (new : Machine) (after : Shelf) → Resumes wsize machine turn old next new after → Fits machine → Fits new
+pub resumes-fit : (wsize : ℕ) (machine : Machine) (turn : Turn) (old : Shelf) (next : Step) (new : Machine) (after : Shelf) → Resumes wsize machine turn old next new after → Fits machine → Fits new
 resumes-fit wsize (File m) turn old next new after s fits = as-it-is new (File s.machine) s.machine_is (fit.resumes-fit wsize m turn old next s.machine after s.step fits)
 resumes-fit wsize (Path m) turn old next new after s fits = as-it-is new (Path s.machine) s.machine_is (paths.path-resumes-fits m.arrived wsize m turn old next s.machine after s.step fits)
 resumes-fit wsize (Name m) turn old next new after s fits = as-it-is new (Name s.machine) s.machine_is (names.name-goes-fits m turn old next s.machine after s.step fits)
 
-pub takes-fit : (wsize : ℕ) (machine : Machine) (sent turn : Turn) (came : Result Reply Fault) (old : Shelf) (next : Next) (new : Machine) (after : Shelf)
+pub takes-fit : (wsize : ℕ) (machine : Machine) (sent turn : Turn) (came : Result Reply Fault) (old : Shelf) (next : Step) (new : Machine) (after : Shelf)
     → Takes wsize machine sent turn came old next new after → Fits machine → Fits new
 takes-fit wsize (File m) sent turn came old next new after t fits =
     as-it-is new (File t.machine) t.machine_is (fit.takes-fit wsize m sent turn came old next t.machine after t.step fits)
@@ -79,19 +79,19 @@ takes-fit wsize (Name m) sent turn came old next new after t fits =
 kept-ready : (xid : ℕ) (old new : Shelf) → IsKept old new → IsReady xid old.seq old.back → IsReady (xid + 1) new.seq new.back
 kept-ready xid old new k r = next-ready xid new.seq new.back (names.ready-kept xid old new k r)
 
-pub starts-ready : (wsize : ℕ) (machine : Machine) (turn : Turn) (old : Shelf) (next : Next) (new : Machine) (after : Shelf)
+pub starts-ready : (wsize : ℕ) (machine : Machine) (turn : Turn) (old : Shelf) (next : Step) (new : Machine) (after : Shelf)
     → Starts wsize machine turn old next new after → IsReady turn.xid old.seq old.back → IsReady (turn.xid + 1) after.seq after.back
 starts-ready wsize (File m) turn old next new after s r = ready.starts-ready wsize m turn old next s.machine after s.step r
 starts-ready wsize (Path m) turn old next new after s r = paths.path-starts-ready wsize m turn old next s.machine after s.step r
 starts-ready wsize (Name m) turn old next new after s r = kept-ready turn.xid old after (names.name-goes-kept m turn old next s.machine after s.step) r
 
-pub resumes-ready : (wsize : ℕ) (machine : Machine) (turn : Turn) (old : Shelf) (next : Next) (new : Machine) (after : Shelf)
+pub resumes-ready : (wsize : ℕ) (machine : Machine) (turn : Turn) (old : Shelf) (next : Step) (new : Machine) (after : Shelf)
     → Resumes wsize machine turn old next new after → IsReady turn.xid old.seq old.back → IsReady (turn.xid + 1) after.seq after.back
 resumes-ready wsize (File m) turn old next new after s r = ready.resumes-ready wsize m turn old next s.machine after s.step r
 resumes-ready wsize (Path m) turn old next new after s r = paths.path-resumes-ready m.arrived wsize m turn old next s.machine after s.step r
 resumes-ready wsize (Name m) turn old next new after s r = kept-ready turn.xid old after (names.name-goes-kept m turn old next s.machine after s.step) r
 
-pub takes-ready : (wsize : ℕ) (machine : Machine) (sent turn : Turn) (came : Result Reply Fault) (old : Shelf) (next : Next) (new : Machine) (after : Shelf)
+pub takes-ready : (wsize : ℕ) (machine : Machine) (sent turn : Turn) (came : Result Reply Fault) (old : Shelf) (next : Step) (new : Machine) (after : Shelf)
     → Takes wsize machine sent turn came old next new after → IsReady turn.xid old.seq old.back → IsReady (turn.xid + 1) after.seq after.back
 takes-ready wsize (File m) sent turn came old next new after t r = ready.takes-ready wsize m sent turn came old next t.machine after t.step r
 takes-ready wsize (Path m) sent turn came old next new after t r = paths.path-takes-ready m.arrived wsize m sent turn came old next t.machine after t.step r
@@ -99,19 +99,19 @@ takes-ready wsize (Name m) sent turn came old next new after t r = kept-ready tu
 
 -- ---- a step that asks for no call puts nothing in flight
 
-pub starts-unsent : (xid wsize : ℕ) (machine : Machine) (turn : Turn) (old : Shelf) (next : Next) (new : Machine) (after : Shelf)
+pub starts-unsent : (xid wsize : ℕ) (machine : Machine) (turn : Turn) (old : Shelf) (next : Step) (new : Machine) (after : Shelf)
     → Starts wsize machine turn old next new after → AsksNothing next → IsReady xid old.seq old.back → IsReady xid after.seq after.back
 starts-unsent xid wsize (File m) turn old next new after s none r = unsent.starts-unsent xid wsize m turn old next s.machine after s.step none r
 starts-unsent xid wsize (Path m) turn old next new after s none r = paths.path-starts-unsent xid wsize m turn old next s.machine after s.step none r
 starts-unsent xid wsize (Name m) turn old next new after s none r = names.ready-kept xid old after (names.name-goes-kept m turn old next s.machine after s.step) r
 
-pub resumes-unsent : (xid wsize : ℕ) (machine : Machine) (turn : Turn) (old : Shelf) (next : Next) (new : Machine) (after : Shelf)
+pub resumes-unsent : (xid wsize : ℕ) (machine : Machine) (turn : Turn) (old : Shelf) (next : Step) (new : Machine) (after : Shelf)
     → Resumes wsize machine turn old next new after → AsksNothing next → IsReady xid old.seq old.back → IsReady xid after.seq after.back
 resumes-unsent xid wsize (File m) turn old next new after s none r = unsent.resumes-unsent xid wsize m turn old next s.machine after s.step none r
 resumes-unsent xid wsize (Path m) turn old next new after s none r = paths.path-resumes-unsent m.arrived xid wsize m turn old next s.machine after s.step none r
 resumes-unsent xid wsize (Name m) turn old next new after s none r = names.ready-kept xid old after (names.name-goes-kept m turn old next s.machine after s.step) r
 
-pub takes-unsent : (xid wsize : ℕ) (machine : Machine) (sent turn : Turn) (came : Result Reply Fault) (old : Shelf) (next : Next) (new : Machine) (after : Shelf)
+pub takes-unsent : (xid wsize : ℕ) (machine : Machine) (sent turn : Turn) (came : Result Reply Fault) (old : Shelf) (next : Step) (new : Machine) (after : Shelf)
     → Takes wsize machine sent turn came old next new after → AsksNothing next → IsReady xid old.seq old.back → IsReady xid after.seq after.back
 takes-unsent xid wsize (File m) sent turn came old next new after t none r = unsent.takes-unsent xid wsize m sent turn came old next t.machine after t.step none r
 takes-unsent xid wsize (Path m) sent turn came old next new after t none r = paths.path-takes-unsent m.arrived xid wsize m sent turn came old next t.machine after t.step none r
@@ -119,23 +119,23 @@ takes-unsent xid wsize (Name m) sent turn came old next new after t none r = nam
 
 -- ---- numbers of writes
 
-pub starts-number : (wsize : ℕ) (machine : Machine) (turn : Turn) (old : Shelf) (next : Next) (new : Machine) (after : Shelf) → Starts wsize machine turn old next new after → after.seq ≤ old.seq + 1
+pub starts-number : (wsize : ℕ) (machine : Machine) (turn : Turn) (old : Shelf) (next : Step) (new : Machine) (after : Shelf) → Starts wsize machine turn old next new after → after.seq ≤ old.seq + 1
 starts-number wsize (File m) turn old next new after s = numbers.starts-number wsize m turn old next s.machine after s.step
 starts-number wsize (Path m) turn old next new after s = paths.path-starts-number wsize m turn old next s.machine after s.step
 starts-number wsize (Name m) turn old next new after s = let k = names.name-goes-kept m turn old next s.machine after s.step in none-more after.seq old.seq k.seq
 
-pub resumes-number : (wsize : ℕ) (machine : Machine) (turn : Turn) (old : Shelf) (next : Next) (new : Machine) (after : Shelf) → Resumes wsize machine turn old next new after → after.seq ≡ old.seq
+pub resumes-number : (wsize : ℕ) (machine : Machine) (turn : Turn) (old : Shelf) (next : Step) (new : Machine) (after : Shelf) → Resumes wsize machine turn old next new after → after.seq ≡ old.seq
 resumes-number wsize (File m) turn old next new after s = numbers.resumes-number wsize m turn old next s.machine after s.step
 resumes-number wsize (Path m) turn old next new after s = paths.path-resumes-number m.arrived wsize m turn old next s.machine after s.step
 resumes-number wsize (Name m) turn old next new after s = let k = names.name-goes-kept m turn old next s.machine after s.step in k.seq
 
-pub takes-number : (wsize : ℕ) (machine : Machine) (sent turn : Turn) (came : Result Reply Fault) (old : Shelf) (next : Next) (new : Machine) (after : Shelf)
+pub takes-number : (wsize : ℕ) (machine : Machine) (sent turn : Turn) (came : Result Reply Fault) (old : Shelf) (next : Step) (new : Machine) (after : Shelf)
     → Takes wsize machine sent turn came old next new after → after.seq ≤ old.seq + 1
 takes-number wsize (File m) sent turn came old next new after t = numbers.takes-number wsize m sent turn came old next t.machine after t.step
 takes-number wsize (Path m) sent turn came old next new after t = paths.path-takes-number m.arrived wsize m sent turn came old next t.machine after t.step
 takes-number wsize (Name m) sent turn came old next new after t = let k = names.name-takes-kept m sent turn came old next t.machine after t.step in none-more after.seq old.seq k.seq
 
-pub refusals-number : (wsize : ℕ) (machine : Machine) (sent turn : Turn) (fault : Fault) (old : Shelf) (next : Next) (new : Machine) (after : Shelf)
+pub refusals-number : (wsize : ℕ) (machine : Machine) (sent turn : Turn) (fault : Fault) (old : Shelf) (next : Step) (new : Machine) (after : Shelf)
     → Takes wsize machine sent turn (Err fault) old next new after → after.seq ≡ old.seq
 refusals-number wsize (File m) sent turn fault old next new after t = refusals.refusals-number wsize m sent turn fault old next t.machine after t.step
 refusals-number wsize (Path m) sent turn fault old next new after t = paths.path-refusals-number m.arrived wsize m sent turn fault old next t.machine after t.step
@@ -146,21 +146,21 @@ refusals-number wsize (Name m) sent turn fault old next new after t = let k = na
 has-room : (m : NameMachine) (turn : Turn) (call : Call) → turn.room ≡ false → names.IsFine m turn call → ⊥
 has-room m turn call none fine = let no-way : true ≡ false = sym fine.0 ∙ none in absurd cc
 
-pub starts-quiet : (wsize : ℕ) (machine : Machine) (turn : Turn) (old : Shelf) (next : Next) (new : Machine) (after : Shelf) → turn.room ≡ false
+pub starts-quiet : (wsize : ℕ) (machine : Machine) (turn : Turn) (old : Shelf) (next : Step) (new : Machine) (after : Shelf) → turn.room ≡ false
     → Starts wsize machine turn old next new after → AsksNothing next
 starts-quiet wsize (File m) turn old next new after none s = quiet.starts-quiet wsize m turn old next s.machine after none s.step
 starts-quiet wsize (Path m) turn old next new after none s = paths.path-starts-quiet wsize m turn old next s.machine after none s.step
 starts-quiet wsize (Name m) turn old next new after none s =
     λ call e. has-room m turn call none (asks-call (names.IsFine m turn) next call (names.name-goes-asks m turn old next s.machine after s.step) e)
 
-pub resumes-quiet : (wsize : ℕ) (machine : Machine) (turn : Turn) (old : Shelf) (next : Next) (new : Machine) (after : Shelf) → turn.room ≡ false
+pub resumes-quiet : (wsize : ℕ) (machine : Machine) (turn : Turn) (old : Shelf) (next : Step) (new : Machine) (after : Shelf) → turn.room ≡ false
     → Resumes wsize machine turn old next new after → AsksNothing next
 resumes-quiet wsize (File m) turn old next new after none s = quiet.resumes-quiet wsize m turn old next s.machine after none s.step
 resumes-quiet wsize (Path m) turn old next new after none s = paths.path-resumes-quiet m.arrived wsize m turn old next s.machine after none s.step
 resumes-quiet wsize (Name m) turn old next new after none s =
     λ call e. has-room m turn call none (asks-call (names.IsFine m turn) next call (names.name-goes-asks m turn old next s.machine after s.step) e)
 
-pub takes-quiet : (wsize : ℕ) (machine : Machine) (sent turn : Turn) (came : Result Reply Fault) (old : Shelf) (next : Next) (new : Machine) (after : Shelf) → turn.room ≡ false
+pub takes-quiet : (wsize : ℕ) (machine : Machine) (sent turn : Turn) (came : Result Reply Fault) (old : Shelf) (next : Step) (new : Machine) (after : Shelf) → turn.room ≡ false
     → Takes wsize machine sent turn came old next new after → AsksNothing next
 takes-quiet wsize (File m) sent turn came old next new after none t = quiet.takes-quiet wsize m sent turn came old next t.machine after none t.step
 takes-quiet wsize (Path m) sent turn came old next new after none t = paths.path-takes-quiet m.arrived wsize m sent turn came old next t.machine after none t.step
@@ -175,7 +175,7 @@ kept-spells old new k all = subst (λ (p : Pending). AreSpellable p) (sym k.back
 fine-spells : (m : NameMachine) (turn : Turn) (call : Call) → Fits (Name m) → names.IsFine m turn call → IsSpellable call
 fine-spells m turn call fits fine = fine.1 fits
 
-pub starts-spell : (wsize : ℕ) (machine : Machine) (turn : Turn) (old : Shelf) (next : Next) (new : Machine) (after : Shelf) → wsize ≤ 65536 → Fits machine
+pub starts-spell : (wsize : ℕ) (machine : Machine) (turn : Turn) (old : Shelf) (next : Step) (new : Machine) (after : Shelf) → wsize ≤ 65536 → Fits machine
     → Starts wsize machine turn old next new after → AreSpellable old.back → AreSpellable after.back × AsksSpellable next
 starts-spell wsize (File m) turn old next new after small fits s all = spell.starts-spell wsize m turn old next s.machine after small s.step all
 starts-spell wsize (Path m) turn old next new after small fits s all = paths.path-starts-spell wsize m turn old next s.machine after small s.step all
@@ -184,7 +184,7 @@ starts-spell wsize (Name m) turn old next new after small fits s all = (
   λ call e. fine-spells m turn call fits (asks-call (names.IsFine m turn) next call (names.name-goes-asks m turn old next s.machine after s.step) e),
 )
 
-pub resumes-spell : (wsize : ℕ) (machine : Machine) (turn : Turn) (old : Shelf) (next : Next) (new : Machine) (after : Shelf) → wsize ≤ 65536 → Fits machine
+pub resumes-spell : (wsize : ℕ) (machine : Machine) (turn : Turn) (old : Shelf) (next : Step) (new : Machine) (after : Shelf) → wsize ≤ 65536 → Fits machine
     → Resumes wsize machine turn old next new after → AreSpellable old.back → AreSpellable after.back × AsksSpellable next
 resumes-spell wsize (File m) turn old next new after small fits s all = spell.resumes-spell wsize m turn old next s.machine after small s.step all
 resumes-spell wsize (Path m) turn old next new after small fits s all = paths.path-resumes-spell m.arrived wsize m turn old next s.machine after small s.step all
@@ -193,7 +193,7 @@ resumes-spell wsize (Name m) turn old next new after small fits s all = (
   λ call e. fine-spells m turn call fits (asks-call (names.IsFine m turn) next call (names.name-goes-asks m turn old next s.machine after s.step) e),
 )
 
-pub takes-spell : (wsize : ℕ) (machine : Machine) (sent turn : Turn) (came : Result Reply Fault) (old : Shelf) (next : Next) (new : Machine) (after : Shelf) → wsize ≤ 65536 → Fits machine
+pub takes-spell : (wsize : ℕ) (machine : Machine) (sent turn : Turn) (came : Result Reply Fault) (old : Shelf) (next : Step) (new : Machine) (after : Shelf) → wsize ≤ 65536 → Fits machine
     → Takes wsize machine sent turn came old next new after → AreSpellable old.back → AreSpellable after.back × AsksSpellable next
 takes-spell wsize (File m) sent turn came old next new after small fits t all = spell.takes-spell wsize m sent turn came old next t.machine after small t.step all
 takes-spell wsize (Path m) sent turn came old next new after small fits t all = paths.path-takes-spell m.arrived wsize m sent turn came old next t.machine after small t.step all

@@ -4,8 +4,8 @@ use Rattle.world_model.specs.declared.answer.Fault.{Fault}
 use Rattle.world_model.specs.declared.message.Call.{Call}
 use Rattle.client_shelf.specs.declared.shelf.Shelf.{Shelf}
 use Rattle.client_shelf.specs.declared.turn.Turn.{Turn}
-use Rattle.client_shelf.specs.declared.next.Next.{Next}
-use Rattle.client_shelf.specs.declared.next.Next.TheVariants.{Send, Wait}
+use Rattle.client_shelf.specs.declared.step.Step.{Step}
+use Rattle.client_shelf.specs.declared.step.Step.TheVariants.{Send, Wait}
 use Rattle.file_ops.specs.declared.open_file.OpenFile.{OpenFile}
 use Rattle.file_ops.specs.declared.read_file.ReadFile.{ReadFile}
 use Rattle.file_ops.specs.declared.close_file.CloseFile.{CloseFile}
@@ -70,14 +70,14 @@ none-of-one a b none one = omega (arith, none, one)
 one-of-two : (a b : ℕ) → a ≤ 1 → b ≡ 2 → a < b
 one-of-two a b few two = omega (arith, few, two)
 
-close-left : (at mid : Closing) (wsize : ℕ) (m : CloseFile) (sent turn : Turn) (fault : Fault) (old : Shelf) (next : Next) (state : Closing) (new : Shelf)
+close-left : (at mid : Closing) (wsize : ℕ) (m : CloseFile) (sent turn : Turn) (fault : Fault) (old : Shelf) (next : Step) (state : Closing) (new : Shelf)
     → CloseAsked at mid → closes.Takes mid wsize m sent turn (Err fault) old next state new → next ≡ Wait → close_left state < close_left at
 close-left at mid wsize m sent turn fault old next state new (saves_on saving two is) t waits =
     one-of-two (close_left state) (close_left at) (saves-end wsize m saving sent turn fault old next state new (subst (λ (c : Closing). closes.Takes c wsize m sent turn (Err fault) old next state new) is t) waits) two
 close-left at mid wsize m sent turn fault old next state new (removes removal is) t waits =
     absurd (removes-end wsize m removal sent turn fault old next state new (subst (λ (c : Closing). closes.Takes c wsize m sent turn (Err fault) old next state new) is t) waits)
 
-pub refusals-end : (wsize : ℕ) (machine : Machine) (turn : Turn) (old : Shelf) (call : Call) (mid : Machine) (between : Shelf) (unmade : Turn) (fault : Fault) (next : Next) (new : Machine) (after : Shelf)
+pub refusals-end : (wsize : ℕ) (machine : Machine) (turn : Turn) (old : Shelf) (call : Call) (mid : Machine) (between : Shelf) (unmade : Turn) (fault : Fault) (next : Step) (new : Machine) (after : Shelf)
     → Resumes wsize machine turn old (Send call) mid between → Takes wsize mid turn unmade (Err fault) between next new after → next ≡ Wait → calls_left new < calls_left machine
 refusals-end wsize (machines.Open m) turn old call mid between unmade fault next new after r t waits =
     let own = subst (λ (it : Machine). Takes wsize it turn unmade (Err fault) between next new after) r.machine_is t in

@@ -4,9 +4,9 @@ use Rattle.world_model.specs.declared.answer.Fault.{Fault}
 use Rattle.world_model.specs.declared.message.Reply.{Reply}
 use Rattle.client_shelf.specs.declared.shelf.Shelf.{Shelf}
 use Rattle.client_shelf.specs.declared.turn.Turn.{Turn}
-use Rattle.client_shelf.specs.declared.next.Next.{Next}
-use Rattle.file_ops.specs.declared.opening.OpeningNext.{OpeningNext}
-use Rattle.file_ops.specs.declared.opening.OpeningNext.TheVariants.{Send, Wait, Ended}
+use Rattle.client_shelf.specs.declared.step.Step.{Step}
+use Rattle.file_ops.specs.declared.opening.OpeningStep.{OpeningStep}
+use Rattle.file_ops.specs.declared.opening.OpeningStep.TheVariants.{Send, Wait, Ended}
 use Rattle.file_ops.specs.declared.put_file.PutFile.{PutFile}
 use Rattle.file_ops.specs.declared.put_file.Putting.{Putting}
 use Rattle.file_ops.specs.declared.put_file.Putting.TheVariants.{Idle, Opens, Adds, Saves}
@@ -35,7 +35,7 @@ as-it-is new to is fits = subst Fits (sym is) fits
 
 -- ---- writes
 
-write-starts : (m : WriteFile) (wsize : ℕ) (turn : Turn) (old : Shelf) (next : Next) (new : WriteFile) (after : Shelf) → writes.Starts wsize m turn old next new after → FitsIn m → FitsIn new
+write-starts : (m : WriteFile) (wsize : ℕ) (turn : Turn) (old : Shelf) (next : Step) (new : WriteFile) (after : Shelf) → writes.Starts wsize m turn old next new after → FitsIn m → FitsIn new
 write-starts m wsize turn old next new after s fits = by (file_to_write m.lane m.slot old.opens) s
   where
     by : (found : Result (List ℕ) Fault) → writes.StartsAt found wsize m turn old next new after → FitsIn new
@@ -48,19 +48,19 @@ write-starts m wsize turn old next new after s fits = by (file_to_write m.lane m
 abbrev PutFits : PutFile → Type 0
 PutFits m = FitsIn m.write
 
-put-resumes : (at : Putting) (wsize : ℕ) (m : PutFile) (turn : Turn) (old : Shelf) (next : Next) (new : PutFile) (after : Shelf) → puts.Resumes at wsize m turn old next new after → PutFits m → PutFits new
+put-resumes : (at : Putting) (wsize : ℕ) (m : PutFile) (turn : Turn) (old : Shelf) (next : Step) (new : PutFile) (after : Shelf) → puts.Resumes at wsize m turn old next new after → PutFits m → PutFits new
 put-resumes Idle wsize m turn old next new after r fits = subst PutFits (sym r.machine_is) fits
 put-resumes Opens wsize m turn old next new after r fits = subst PutFits (sym r.1) fits
 put-resumes (Adds file) wsize m turn old next new after r fits = subst PutFits (sym r.goes.machine_is) fits
 put-resumes (Saves saving) wsize m turn old next new after r fits = subst PutFits (sym r.1) fits
 
-put-opened : (step : OpeningNext) (wsize : ℕ) (m : PutFile) (turn : Turn) (old : Shelf) (next : Next) (new : PutFile) (after : Shelf) → puts.AfterOpening step wsize m turn old next new after → PutFits m → PutFits new
+put-opened : (step : OpeningStep) (wsize : ℕ) (m : PutFile) (turn : Turn) (old : Shelf) (next : Step) (new : PutFile) (after : Shelf) → puts.AfterOpening step wsize m turn old next new after → PutFits m → PutFits new
 put-opened (Send call) wsize m turn old next new after f fits = subst PutFits (sym f.1) fits
 put-opened Wait wsize m turn old next new after f fits = subst PutFits (sym f.machine_is) fits
 put-opened (Ended (Ok file)) wsize m turn old next new after f fits = subst PutFits (sym f.goes.machine_is) fits
 put-opened (Ended (Err fault)) wsize m turn old next new after f fits = subst PutFits (sym f.1) fits
 
-put-takes : (at : Putting) (wsize : ℕ) (m : PutFile) (sent turn : Turn) (came : Result Reply Fault) (old : Shelf) (next : Next) (new : PutFile) (after : Shelf)
+put-takes : (at : Putting) (wsize : ℕ) (m : PutFile) (sent turn : Turn) (came : Result Reply Fault) (old : Shelf) (next : Step) (new : PutFile) (after : Shelf)
     → puts.Takes at wsize m sent turn came old next new after → PutFits m → PutFits new
 put-takes Idle wsize m sent turn came old next new after t fits = subst PutFits (sym t.machine_is) fits
 put-takes Opens wsize m sent turn came old next new after t fits =
@@ -70,7 +70,7 @@ put-takes (Saves saving) wsize m sent turn came old next new after t fits = subs
 
 -- ---- any operation
 
-pub starts-fit : (wsize : ℕ) (machine : Machine) (turn : Turn) (old : Shelf) (next : Next) (new : Machine) (after : Shelf) → Starts wsize machine turn old next new after → Fits machine → Fits new
+pub starts-fit : (wsize : ℕ) (machine : Machine) (turn : Turn) (old : Shelf) (next : Step) (new : Machine) (after : Shelf) → Starts wsize machine turn old next new after → Fits machine → Fits new
 starts-fit wsize (machines.Open m) turn old next new after r fits = as-it-is new _ r.machine_is tt
 starts-fit wsize (machines.Read m) turn old next new after r fits = as-it-is new _ r.machine_is tt
 starts-fit wsize (machines.Write m) turn old next new after r fits = as-it-is new _ r.machine_is (write-starts m wsize turn old next r.machine after r.step fits)
@@ -79,7 +79,7 @@ starts-fit wsize (machines.Close m) turn old next new after r fits = as-it-is ne
 starts-fit wsize (machines.Truncate m) turn old next new after r fits = as-it-is new _ r.machine_is tt
 starts-fit wsize (machines.Put m) turn old next new after r fits = as-it-is new _ r.machine_is fits
 
-pub resumes-fit : (wsize : ℕ) (machine : Machine) (turn : Turn) (old : Shelf) (next : Next) (new : Machine) (after : Shelf) → Resumes wsize machine turn old next new after → Fits machine → Fits new
+pub resumes-fit : (wsize : ℕ) (machine : Machine) (turn : Turn) (old : Shelf) (next : Step) (new : Machine) (after : Shelf) → Resumes wsize machine turn old next new after → Fits machine → Fits new
 resumes-fit wsize (machines.Open m) turn old next new after r fits = as-it-is new _ r.machine_is tt
 resumes-fit wsize (machines.Read m) turn old next new after r fits = as-it-is new _ r.machine_is tt
 resumes-fit wsize (machines.Write m) turn old next new after r fits = as-it-is new _ r.machine_is fits
@@ -88,7 +88,7 @@ resumes-fit wsize (machines.Close m) turn old next new after r fits = as-it-is n
 resumes-fit wsize (machines.Truncate m) turn old next new after r fits = as-it-is new _ r.machine_is tt
 resumes-fit wsize (machines.Put m) turn old next new after r fits = as-it-is new _ r.machine_is (put-resumes m.state wsize m turn old next r.machine after r.step fits)
 
-pub takes-fit : (wsize : ℕ) (machine : Machine) (sent turn : Turn) (came : Result Reply Fault) (old : Shelf) (next : Next) (new : Machine) (after : Shelf)
+pub takes-fit : (wsize : ℕ) (machine : Machine) (sent turn : Turn) (came : Result Reply Fault) (old : Shelf) (next : Step) (new : Machine) (after : Shelf)
     → Takes wsize machine sent turn came old next new after → Fits machine → Fits new
 takes-fit wsize (machines.Open m) sent turn came old next new after r fits = as-it-is new _ r.machine_is tt
 takes-fit wsize (machines.Read m) sent turn came old next new after r fits = as-it-is new _ r.machine_is tt

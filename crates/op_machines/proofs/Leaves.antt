@@ -6,7 +6,7 @@ use Rattle.write_back.specs.Files.{Pending}
 use Rattle.attr_cache.specs.Attrs.{Attrs}
 use Rattle.client_shelf.specs.declared.shelf.Shelf.{Shelf}
 use Rattle.client_shelf.specs.declared.turn.Turn.{Turn}
-use Rattle.client_shelf.specs.declared.next.Next.{Next}
+use Rattle.client_shelf.specs.declared.step.Step.{Step}
 use Rattle.file_ops.specs.declared.truncate_file.TruncateFile.{TruncateFile}
 use Rattle.file_ops.specs.declared.truncate_file.Truncating.{Truncating}
 use Rattle.file_ops.specs.declared.truncate_file.Truncating.TheVariants.{Idle, Queued, Asked}
@@ -33,7 +33,7 @@ truncate-seq Idle m came sent turn attrs back old = refl
 truncate-seq (Queued file upto) m came sent turn attrs back old = refl
 truncate-seq (Asked file upto) m came sent turn attrs back old = refl
 
-pub starts-ready : (wsize : ℕ) (machine : Machine) (turn : Turn) (old : Shelf) (next : Next) (new : Machine) (after : Shelf)
+pub starts-ready : (wsize : ℕ) (machine : Machine) (turn : Turn) (old : Shelf) (next : Step) (new : Machine) (after : Shelf)
     → Starts wsize machine turn old next new after → IsReady turn.xid old.seq old.back → IsReady (turn.xid + 1) after.seq after.back
 starts-ready wsize (machines.Open m) turn old next new after s r = same-ready turn.xid old after s.shelf_is r
 starts-ready wsize (machines.Read m) turn old next new after s r = kept-ready turn.xid old (record old { pages = after.pages }) after s.others refl refl r
@@ -43,7 +43,7 @@ starts-ready wsize (machines.Close m) turn old next new after s r = close-starts
 starts-ready wsize (machines.Truncate m) turn old next new after s r = truncate-starts (truncates.found_file m old) m turn.xid old after s.shelf_is r
 starts-ready wsize (machines.Put m) turn old next new after s r = same-ready turn.xid old after s.shelf_is r
 
-pub resumes-ready : (wsize : ℕ) (machine : Machine) (turn : Turn) (old : Shelf) (next : Next) (new : Machine) (after : Shelf)
+pub resumes-ready : (wsize : ℕ) (machine : Machine) (turn : Turn) (old : Shelf) (next : Step) (new : Machine) (after : Shelf)
     → Resumes wsize machine turn old next new after → IsReady turn.xid old.seq old.back → IsReady (turn.xid + 1) after.seq after.back
 resumes-ready wsize (machines.Open m) turn old next new after s r = same-ready turn.xid old after s.shelf_is r
 resumes-ready wsize (machines.Read m) turn old next new after s r = kept-ready turn.xid old (record old { pages = after.pages }) after s.others refl refl r
@@ -53,7 +53,7 @@ resumes-ready wsize (machines.Close m) turn old next new after s r = close-resum
 resumes-ready wsize (machines.Truncate m) turn old next new after s r = same-ready turn.xid old after s.shelf_is r
 resumes-ready wsize (machines.Put m) turn old next new after s r = put-resumes-ready m.state wsize m turn old next s.machine after s.step r
 
-pub takes-ready : (wsize : ℕ) (machine : Machine) (sent turn : Turn) (came : Result Reply Fault) (old : Shelf) (next : Next) (new : Machine) (after : Shelf)
+pub takes-ready : (wsize : ℕ) (machine : Machine) (sent turn : Turn) (came : Result Reply Fault) (old : Shelf) (next : Step) (new : Machine) (after : Shelf)
     → Takes wsize machine sent turn came old next new after → IsReady turn.xid old.seq old.back → IsReady (turn.xid + 1) after.seq after.back
 takes-ready wsize (machines.Open m) sent turn came old next new after s r =
     kept-ready turn.xid old (record old { pages = after.pages; attrs = after.attrs; names = after.names; opens = after.opens; repeats = after.repeats }) after s.others refl refl r

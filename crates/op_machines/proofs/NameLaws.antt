@@ -6,8 +6,8 @@ use Rattle.world_model.specs.declared.message.Reply.{Reply}
 use Rattle.write_back.specs.Files.{Pending}
 use Rattle.client_shelf.specs.declared.shelf.Shelf.{Shelf}
 use Rattle.client_shelf.specs.declared.turn.Turn.{Turn}
-use Rattle.client_shelf.specs.declared.next.Next.{Next}
-use Rattle.client_shelf.specs.declared.next.Next.TheVariants as nexts
+use Rattle.client_shelf.specs.declared.step.Step.{Step}
+use Rattle.client_shelf.specs.declared.step.Step.TheVariants as nexts
 use Rattle.client_shelf.specs.Spelling.{IsSpellable}
 use Rattle.file_ops.specs.Ready.{IsReady}
 use Rattle.name_ops.specs.declared.dir_change.DirDeed.{DirDeed}
@@ -46,15 +46,15 @@ pub ready-kept : (xid : ℕ) (old new : Shelf) → IsKept old new → IsReady xi
 ready-kept xid old new k r =
     subst (λ (n : ℕ). IsReady xid n new.back) (sym k.seq) (subst (λ (p : Pending). IsReady xid old.seq p) (sym k.back) r)
 
-visit-goes-kept : (call : List ℕ → Call) (v : Visit) (with_visit : Visit → NameMachine) (turn : Turn) (old : Shelf) (next : Next) (new : NameMachine) (after : Shelf)
+visit-goes-kept : (call : List ℕ → Call) (v : Visit) (with_visit : Visit → NameMachine) (turn : Turn) (old : Shelf) (next : Step) (new : NameMachine) (after : Shelf)
     → steps.VisitGoes call v with_visit turn old next new after → IsKept old after
 visit-goes-kept call v with_visit turn old next new after g = kept-as old (visiting.visit_shelf v turn old) after g.shelf_is (keeps.visit-kept v turn old)
 
-pair-goes-kept : (call : List ℕ → List ℕ → Call) (p : Pair) (with_pair : Pair → NameMachine) (turn : Turn) (old : Shelf) (next : Next) (new : NameMachine) (after : Shelf)
+pair-goes-kept : (call : List ℕ → List ℕ → Call) (p : Pair) (with_pair : Pair → NameMachine) (turn : Turn) (old : Shelf) (next : Step) (new : NameMachine) (after : Shelf)
     → steps.PairGoes call p with_pair turn old next new after → IsKept old after
 pair-goes-kept call p with_pair turn old next new after g = kept-as old (pairs.pair_shelf p turn old) after g.shelf_is (keeps.pair-kept p turn old)
 
-pub name-goes-kept : (m : NameMachine) (turn : Turn) (old : Shelf) (next : Next) (new : NameMachine) (after : Shelf) → NameGoes m turn old next new after → IsKept old after
+pub name-goes-kept : (m : NameMachine) (turn : Turn) (old : Shelf) (next : Step) (new : NameMachine) (after : Shelf) → NameGoes m turn old next new after → IsKept old after
 name-goes-kept (machines.Change m) turn old next new after g = visit-goes-kept (deed_call m.deed m.name) m.visit (steps.change_with m) turn old next new after g
 name-goes-kept (machines.Stat m) turn old next new after g = kept-as old (stats.stat_shelf m turn old) after g.shelf_is (keeps.stat-kept m turn old)
 name-goes-kept (machines.Access m) turn old next new after g = visit-goes-kept (access_call m.bits) m.visit (steps.access_with m) turn old next new after g
@@ -65,7 +65,7 @@ name-goes-kept (machines.Link m) turn old next new after g = pair-goes-kept (lin
 name-goes-kept (machines.SymLink m) turn old next new after g = kept-as old (visiting.visit_shelf m.visit turn old) after g.shelf_is (keeps.visit-kept m.visit turn old)
 name-goes-kept (machines.List m) turn old next new after g = visit-goes-kept (page_call m.place) m.visit (steps.list_with m) turn old next new after g
 
-pub name-takes-kept : (m : NameMachine) (sent turn : Turn) (came : Result Reply Fault) (old : Shelf) (next : Next) (new : NameMachine) (after : Shelf)
+pub name-takes-kept : (m : NameMachine) (sent turn : Turn) (came : Result Reply Fault) (old : Shelf) (next : Step) (new : NameMachine) (after : Shelf)
     → NameTakes m sent turn came old next new after → IsKept old after
 name-takes-kept (machines.Change m) sent turn came old next new after t =
     keeps.change-takes-kept m.visit.asked (deed_call m.deed m.name) (deed_told m.deed came) m.visit sent turn came old next t.visit after t.step
@@ -81,19 +81,19 @@ name-takes-kept (machines.List m) sent turn came old next new after t = keeps.li
 
 -- ---- one that waits stays as it is
 
-visit-goes-still : (call : List ℕ → Call) (v : Visit) (with_visit : Visit → NameMachine) (turn : Turn) (old : Shelf) (next : Next) (new : NameMachine) (after : Shelf)
+visit-goes-still : (call : List ℕ → Call) (v : Visit) (with_visit : Visit → NameMachine) (turn : Turn) (old : Shelf) (next : Step) (new : NameMachine) (after : Shelf)
     → turn.room ≡ true → steps.VisitGoes call v with_visit turn old next new after → next ≡ nexts.Wait → (new ≡ with_visit v) × (after ≡ old)
 visit-goes-still call v with_visit turn old next new after room g waits =
     let still = visit-still call v turn old room (sym g.next_is ∙ waits) in
     (g.machine_is ∙ ap with_visit still.0, g.shelf_is ∙ still.1)
 
-pair-goes-still : (call : List ℕ → List ℕ → Call) (p : Pair) (with_pair : Pair → NameMachine) (turn : Turn) (old : Shelf) (next : Next) (new : NameMachine) (after : Shelf)
+pair-goes-still : (call : List ℕ → List ℕ → Call) (p : Pair) (with_pair : Pair → NameMachine) (turn : Turn) (old : Shelf) (next : Step) (new : NameMachine) (after : Shelf)
     → turn.room ≡ true → steps.PairGoes call p with_pair turn old next new after → next ≡ nexts.Wait → (new ≡ with_pair p) × (after ≡ old)
 pair-goes-still call p with_pair turn old next new after room g waits =
     let still = pair-still call p turn old room (sym g.next_is ∙ waits) in
     (g.machine_is ∙ ap with_pair still.0, g.shelf_is ∙ still.1)
 
-pub name-still : (m : NameMachine) (turn : Turn) (old : Shelf) (next : Next) (new : NameMachine) (after : Shelf) → turn.room ≡ true → NameGoes m turn old next new after
+pub name-still : (m : NameMachine) (turn : Turn) (old : Shelf) (next : Step) (new : NameMachine) (after : Shelf) → turn.room ≡ true → NameGoes m turn old next new after
     → next ≡ nexts.Wait → (new ≡ m) × (after ≡ old)
 name-still (machines.Change m) turn old next new after room g waits = visit-goes-still (deed_call m.deed m.name) m.visit (steps.change_with m) turn old next new after room g waits
 name-still (machines.Stat m) turn old next new after room g waits =
@@ -116,7 +116,7 @@ name-still (machines.List m) turn old next new after room g waits = visit-goes-s
 as-it-is : (new to : NameMachine) → new ≡ to → NameFits to → NameFits new
 as-it-is new to is fits = subst NameFits (sym is) fits
 
-pub name-goes-fits : (m : NameMachine) (turn : Turn) (old : Shelf) (next : Next) (new : NameMachine) (after : Shelf) → NameGoes m turn old next new after → NameFits m → NameFits new
+pub name-goes-fits : (m : NameMachine) (turn : Turn) (old : Shelf) (next : Step) (new : NameMachine) (after : Shelf) → NameGoes m turn old next new after → NameFits m → NameFits new
 name-goes-fits (machines.Change m) turn old next new after g fits = as-it-is new _ g.machine_is tt
 name-goes-fits (machines.Stat m) turn old next new after g fits = as-it-is new _ g.machine_is tt
 name-goes-fits (machines.Access m) turn old next new after g fits = as-it-is new _ g.machine_is tt
@@ -127,7 +127,7 @@ name-goes-fits (machines.Link m) turn old next new after g fits = as-it-is new _
 name-goes-fits (machines.SymLink m) turn old next new after g fits = as-it-is new _ g.machine_is fits
 name-goes-fits (machines.List m) turn old next new after g fits = as-it-is new _ g.machine_is tt
 
-pub name-takes-fits : (m : NameMachine) (sent turn : Turn) (came : Result Reply Fault) (old : Shelf) (next : Next) (new : NameMachine) (after : Shelf)
+pub name-takes-fits : (m : NameMachine) (sent turn : Turn) (came : Result Reply Fault) (old : Shelf) (next : Step) (new : NameMachine) (after : Shelf)
     → NameTakes m sent turn came old next new after → NameFits m → NameFits new
 name-takes-fits (machines.Change m) sent turn came old next new after t fits = as-it-is new _ t.machine_is tt
 name-takes-fits (machines.Stat m) sent turn came old next new after t fits = as-it-is new _ t.machine_is tt
@@ -157,7 +157,7 @@ removal-spells m (Seek file to) = tt
 removal-spells m (Move file to) = tt
 removal-spells m Remove = tt
 
-pub name-goes-asks : (m : NameMachine) (turn : Turn) (old : Shelf) (next : Next) (new : NameMachine) (after : Shelf) → NameGoes m turn old next new after → Asks (IsFine m turn) next
+pub name-goes-asks : (m : NameMachine) (turn : Turn) (old : Shelf) (next : Step) (new : NameMachine) (after : Shelf) → NameGoes m turn old next new after → Asks (IsFine m turn) next
 name-goes-asks (machines.Change m) turn old next new after g =
     let P = IsFine (machines.Change m) turn in
     let call = deed_call m.deed m.name in
@@ -197,7 +197,7 @@ name-goes-asks (machines.List m) turn old next new after g =
     asks-as P (visiting.next_by call (visiting.visit_next m.visit turn old)) next g.next_is
     (asking.visit-asks P call m.visit turn old (looks (machines.List m) turn) (λ room dir. (room, λ fits. tt)))
 
-pub name-takes-asks : (m : NameMachine) (sent turn : Turn) (came : Result Reply Fault) (old : Shelf) (next : Next) (new : NameMachine) (after : Shelf)
+pub name-takes-asks : (m : NameMachine) (sent turn : Turn) (came : Result Reply Fault) (old : Shelf) (next : Step) (new : NameMachine) (after : Shelf)
     → NameTakes m sent turn came old next new after → Asks (IsFine m turn) next
 name-takes-asks (machines.Change m) sent turn came old next new after t =
     asking.change-takes-asks (IsFine (machines.Change m) turn) m.visit.asked (deed_call m.deed m.name) (deed_told m.deed came) m.visit sent turn came old next t.visit after

@@ -5,10 +5,10 @@ use Rattle.world_model.specs.declared.answer.Answer.TheVariants as answers
 use Rattle.world_model.specs.declared.message.Call.{Call}
 use Rattle.client_shelf.specs.declared.shelf.Shelf.{Shelf}
 use Rattle.client_shelf.specs.declared.turn.Turn.{Turn}
-use Rattle.client_shelf.specs.declared.next.Next.{Next}
-use Rattle.client_shelf.specs.declared.next.Next.TheVariants as nexts
-use Rattle.name_ops.specs.declared.walk.WalkNext.{WalkNext}
-use Rattle.name_ops.specs.declared.walk.WalkNext.TheVariants.{Send, Wait, At, Refused}
+use Rattle.client_shelf.specs.declared.step.Step.{Step}
+use Rattle.client_shelf.specs.declared.step.Step.TheVariants as nexts
+use Rattle.name_ops.specs.declared.walk.WalkStep.{WalkStep}
+use Rattle.name_ops.specs.declared.walk.WalkStep.TheVariants.{Send, Wait, At, Refused}
 use Rattle.name_ops.specs.Walking.{go_next, go_after, go_shelf}
 use Rattle.op_machines.specs.declared.opener.Opener.{Opener}
 use Rattle.op_machines.specs.declared.opener.Opener.TheVariants as openers
@@ -24,7 +24,7 @@ abbrev left : PathMachine → ℕ
 left m = path_left m.arrived m.opener
 
 -- once it is at its directory
-then-less : (wsize : ℕ) (m : PathMachine) (turn : Turn) (old : Shelf) (call : Call) (mid : PathMachine) (between : Shelf) (sent : Turn) (fault : Fault) (next : Next) (new : PathMachine) (after : Shelf)
+then-less : (wsize : ℕ) (m : PathMachine) (turn : Turn) (old : Shelf) (call : Call) (mid : PathMachine) (between : Shelf) (sent : Turn) (fault : Fault) (next : Step) (new : PathMachine) (after : Shelf)
     → m.arrived ≡ true → ThenResumes wsize m turn old (nexts.Send call) mid between → PathTakes mid.arrived wsize mid turn sent (Err fault) between next new after → next ≡ nexts.Wait
     → left new < calls_left (file_of m.opener)
 then-less wsize m turn old call mid between sent fault next new after at r t waits =
@@ -45,7 +45,7 @@ placed-few dir (openers.Put m) = omega arith
 less-then : (a b c : ℕ) → a < b → b ≤ c → a < c
 less-then a b c less few = omega (arith, less, few)
 
-follows-never : (step : WalkNext) (wsize : ℕ) (m : PathMachine) (turn : Turn) (old : Shelf) (next : Next) (new : PathMachine) (after : Shelf) → IsEnded step
+follows-never : (step : WalkStep) (wsize : ℕ) (m : PathMachine) (turn : Turn) (old : Shelf) (next : Step) (new : PathMachine) (after : Shelf) → IsEnded step
     → Follows step wsize m turn old next new after → next ≡ nexts.Wait → ⊥
 follows-never (Send call) wsize m turn old next new after ended f waits = let no-way : nexts.Send call ≡ nexts.Wait = sym f.0 ∙ waits in absurd cc
 follows-never Wait wsize m turn old next new after ended f waits = ended
@@ -53,7 +53,7 @@ follows-never (At dir) wsize m turn old next new after ended f waits = absurd en
 follows-never (Refused fault) wsize m turn old next new after ended f waits = let no-way : nexts.Done (answers.Refused fault) ≡ nexts.Wait = sym f.0 ∙ waits in absurd cc
 
 -- its walk asked
-walk-never-waits : (wsize : ℕ) (m mid : PathMachine) (sent turn : Turn) (fault : Fault) (old : Shelf) (next : Next) (new : PathMachine) (after : Shelf) → mid ≡ m → m.arrived ≡ false → IsOut m.walk
+walk-never-waits : (wsize : ℕ) (m mid : PathMachine) (sent turn : Turn) (fault : Fault) (old : Shelf) (next : Step) (new : PathMachine) (after : Shelf) → mid ≡ m → m.arrived ≡ false → IsOut m.walk
     → PathTakes mid.arrived wsize mid sent turn (Err fault) old next new after → next ≡ nexts.Wait → ⊥
 walk-never-waits wsize m mid sent turn fault old next new after is idle out t waits =
     by (subst (λ (b : Bool). PathTakes b wsize m sent turn (Err fault) old next new after) idle
@@ -64,7 +64,7 @@ walk-never-waits wsize m mid sent turn fault old next new after is idle out t wa
         let ended = walk-ends m.walk sent turn fault old w.step w.walked.walk w.heard out w.takes in
         follows-never w.step wsize w.walked turn w.heard next new after ended w.follows waits
 
-follows-less : (step : WalkNext) (wsize : ℕ) (m : PathMachine) (turn : Turn) (old : Shelf) (call : Call) (mid : PathMachine) (between : Shelf) (sent : Turn) (fault : Fault) (next : Next)
+follows-less : (step : WalkStep) (wsize : ℕ) (m : PathMachine) (turn : Turn) (old : Shelf) (call : Call) (mid : PathMachine) (between : Shelf) (sent : Turn) (fault : Fault) (next : Step)
     (new : PathMachine) (after : Shelf) → m.arrived ≡ false → ((look : Call) → step ≡ Send look → IsOut m.walk) → Follows step wsize m turn old (nexts.Send call) mid between
     → PathTakes mid.arrived wsize mid turn sent (Err fault) between next new after → next ≡ nexts.Wait → left new < 1
 follows-less (Send look) wsize m turn old call mid between sent fault next new after idle out f t waits =
@@ -76,7 +76,7 @@ follows-less (At dir) wsize m turn old call mid between sent fault next new afte
 follows-less (Refused other) wsize m turn old call mid between sent fault next new after idle out f t waits =
     let no-way : nexts.Send call ≡ nexts.Done (answers.Refused other) = f.0 in absurd cc
 
-pub paths-end : (wsize : ℕ) (m : PathMachine) (turn : Turn) (old : Shelf) (call : Call) (mid : PathMachine) (between : Shelf) (sent : Turn) (fault : Fault) (next : Next) (new : PathMachine) (after : Shelf)
+pub paths-end : (wsize : ℕ) (m : PathMachine) (turn : Turn) (old : Shelf) (call : Call) (mid : PathMachine) (between : Shelf) (sent : Turn) (fault : Fault) (next : Step) (new : PathMachine) (after : Shelf)
     → PathResumes m.arrived wsize m turn old (nexts.Send call) mid between → PathTakes mid.arrived wsize mid turn sent (Err fault) between next new after → next ≡ nexts.Wait
     → path_left new.arrived new.opener < path_left m.arrived m.opener
 paths-end wsize m turn old call mid between sent fault next new after r t waits = by m.arrived refl r

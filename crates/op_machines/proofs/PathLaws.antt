@@ -9,18 +9,18 @@ use Rattle.world_model.specs.declared.message.Reply.{Reply}
 use Rattle.write_back.specs.Files.{Pending}
 use Rattle.client_shelf.specs.declared.shelf.Shelf.{Shelf}
 use Rattle.client_shelf.specs.declared.turn.Turn.{Turn}
-use Rattle.client_shelf.specs.declared.next.Next.{Next}
-use Rattle.client_shelf.specs.declared.next.Next.TheVariants as nexts
+use Rattle.client_shelf.specs.declared.step.Step.{Step}
+use Rattle.client_shelf.specs.declared.step.Step.TheVariants as nexts
 use Rattle.client_shelf.specs.Spelling.{IsSpellable, AreSpellable}
-use Rattle.file_ops.specs.declared.opening.OpeningNext.TheVariants as openings
+use Rattle.file_ops.specs.declared.opening.OpeningStep.TheVariants as openings
 use Rattle.file_ops.specs.Opening.{call_of}
 use Rattle.file_ops.specs.OpenFile.{goes_as}
 use Rattle.file_ops.specs.Ready.{IsReady}
 use Rattle.file_ops.proofs.Numbers.{none-more}
 use Rattle.file_ops.proofs.Steps.{next-ready, same-ready}
 use Rattle.name_ops.specs.declared.walk.Walk.{Walk}
-use Rattle.name_ops.specs.declared.walk.WalkNext.{WalkNext}
-use Rattle.name_ops.specs.declared.walk.WalkNext.TheVariants.{Send, Wait, At, Refused}
+use Rattle.name_ops.specs.declared.walk.WalkStep.{WalkStep}
+use Rattle.name_ops.specs.declared.walk.WalkStep.TheVariants.{Send, Wait, At, Refused}
 use Rattle.name_ops.specs.Walking.{go_next, go_after, go_shelf, waiting_name}
 use Rattle.name_ops.proofs.Asking.{Looks, WalkAsks, walk-asks, walk-takes-asks, asks-as, asks-call}
 use Rattle.name_ops.proofs.Keeps.{IsKept, walk-kept, walk-takes-kept}
@@ -72,7 +72,7 @@ goes-sends true call e = refl
 goes-sends false call e = absurd cc
 
 -- with room it asks for its call from the directory
-placed-asks : (dir : List ℕ) (o : Opener) (wsize : ℕ) (turn : Turn) (old : Shelf) (next : Next) (new : FileMachine) (after : Shelf) → turn.room ≡ true
+placed-asks : (dir : List ℕ) (o : Opener) (wsize : ℕ) (turn : Turn) (old : Shelf) (next : Step) (new : FileMachine) (after : Shelf) → turn.room ≡ true
     → steps.Resumes wsize (file_of (placed dir o)) turn old next new after → next ≡ nexts.Wait → ⊥
 placed-asks dir (openers.Open m) wsize turn old next new after room r waits =
     let o = opening_in dir m.opening in
@@ -83,13 +83,13 @@ placed-asks dir (openers.Put m) wsize turn old next new after room r waits =
     let no-way : nexts.Send (call_of o o.step) ≡ nexts.Wait = sym (goes-sends turn.room (call_of o o.step) room) ∙ sym r.step.0 ∙ waits in
     absurd cc
 
-then-still : (wsize : ℕ) (m : PathMachine) (turn : Turn) (old : Shelf) (next : Next) (new : PathMachine) (after : Shelf) → turn.room ≡ true
+then-still : (wsize : ℕ) (m : PathMachine) (turn : Turn) (old : Shelf) (next : Step) (new : PathMachine) (after : Shelf) → turn.room ≡ true
     → ThenResumes wsize m turn old next new after → next ≡ nexts.Wait → (new ≡ m) × (after ≡ old)
 then-still wsize m turn old next new after room r waits =
     let still = waits-still wsize (file_of m.opener) turn old next (file_of r.opener) after room r.step waits in
     (r.machine_is ∙ ap (λ (o : Opener). record m { opener = o }) (same-opener r.opener m.opener still.0), still.1)
 
-walk-follows-still : (step : WalkNext) (wsize : ℕ) (m : PathMachine) (turn : Turn) (old : Shelf) (next : Next) (new : PathMachine) (after : Shelf) → turn.room ≡ true
+walk-follows-still : (step : WalkStep) (wsize : ℕ) (m : PathMachine) (turn : Turn) (old : Shelf) (next : Step) (new : PathMachine) (after : Shelf) → turn.room ≡ true
     → go_next m.walk turn old ≡ step → Follows step wsize (walked m turn old) turn (go_shelf m.walk turn old) next new after → next ≡ nexts.Wait → (new ≡ m) × (after ≡ old)
 walk-follows-still (Send call) wsize m turn old next new after room is f waits = let no-way : nexts.Send call ≡ nexts.Wait = sym f.0 ∙ waits in absurd cc
 walk-follows-still Wait wsize m turn old next new after room is f waits =
@@ -100,7 +100,7 @@ walk-follows-still (At dir) wsize m turn old next new after room is f waits =
 walk-follows-still (Refused fault) wsize m turn old next new after room is f waits =
     let no-way : nexts.Done (answers.Refused fault) ≡ nexts.Wait = sym f.0 ∙ waits in absurd cc
 
-pub path-still : (wsize : ℕ) (m : PathMachine) (turn : Turn) (old : Shelf) (next : Next) (new : PathMachine) (after : Shelf) → turn.room ≡ true
+pub path-still : (wsize : ℕ) (m : PathMachine) (turn : Turn) (old : Shelf) (next : Step) (new : PathMachine) (after : Shelf) → turn.room ≡ true
     → PathResumes m.arrived wsize m turn old next new after → next ≡ nexts.Wait → (new ≡ m) × (after ≡ old)
 path-still wsize m turn old next new after room r waits = by m.arrived r
   where
@@ -121,33 +121,33 @@ begun-fits : (moment : ℕ) (o : Opener) → FileFits (file_of o) → FileFits (
 begun-fits moment (openers.Open m) fits = tt
 begun-fits moment (openers.Put m) fits = fits
 
-then-fits : (wsize : ℕ) (m : PathMachine) (turn : Turn) (old : Shelf) (next : Next) (new : PathMachine) (after : Shelf) → ThenResumes wsize m turn old next new after → HasFit m → HasFit new
+then-fits : (wsize : ℕ) (m : PathMachine) (turn : Turn) (old : Shelf) (next : Step) (new : PathMachine) (after : Shelf) → ThenResumes wsize m turn old next new after → HasFit m → HasFit new
 then-fits wsize m turn old next new after r fits =
     subst HasFit (sym r.machine_is) (resumes-fit wsize (file_of m.opener) turn old next (file_of r.opener) after r.step fits)
 
-follows-fits : (step : WalkNext) (wsize : ℕ) (m : PathMachine) (turn : Turn) (old : Shelf) (next : Next) (new : PathMachine) (after : Shelf)
+follows-fits : (step : WalkStep) (wsize : ℕ) (m : PathMachine) (turn : Turn) (old : Shelf) (next : Step) (new : PathMachine) (after : Shelf)
     → Follows step wsize m turn old next new after → HasFit m → HasFit new
 follows-fits (Send call) wsize m turn old next new after f fits = subst HasFit (sym f.1) fits
 follows-fits Wait wsize m turn old next new after f fits = subst HasFit (sym f.1) fits
 follows-fits (At dir) wsize m turn old next new after f fits = then-fits wsize (arrived_at dir m) turn old next new after f (placed-fits dir m.opener fits)
 follows-fits (Refused fault) wsize m turn old next new after f fits = subst HasFit (sym f.1) fits
 
-pub path-resumes-fits : (arrived : Bool) (wsize : ℕ) (m : PathMachine) (turn : Turn) (old : Shelf) (next : Next) (new : PathMachine) (after : Shelf)
+pub path-resumes-fits : (arrived : Bool) (wsize : ℕ) (m : PathMachine) (turn : Turn) (old : Shelf) (next : Step) (new : PathMachine) (after : Shelf)
     → PathResumes arrived wsize m turn old next new after → HasFit m → HasFit new
 path-resumes-fits true wsize m turn old next new after r fits = then-fits wsize m turn old next new after r fits
 path-resumes-fits false wsize m turn old next new after r fits =
     follows-fits (go_next m.walk turn old) wsize (walked m turn old) turn (go_shelf m.walk turn old) next new after r fits
 
-starts-if-fits : (taken : Bool) (wsize : ℕ) (m : PathMachine) (turn : Turn) (old : Shelf) (next : Next) (new : PathMachine) (after : Shelf)
+starts-if-fits : (taken : Bool) (wsize : ℕ) (m : PathMachine) (turn : Turn) (old : Shelf) (next : Step) (new : PathMachine) (after : Shelf)
     → StartsIf taken wsize m turn old next new after → HasFit m → HasFit new
 starts-if-fits true wsize m turn old next new after s fits = subst HasFit (sym s.1) fits
 starts-if-fits false wsize m turn old next new after s fits =
     path-resumes-fits m.arrived wsize (begun m turn) turn old next new after s (begun-fits (turn.moment - 1) m.opener fits)
 
-pub path-starts-fits : (wsize : ℕ) (m : PathMachine) (turn : Turn) (old : Shelf) (next : Next) (new : PathMachine) (after : Shelf) → PathStarts wsize m turn old next new after → HasFit m → HasFit new
+pub path-starts-fits : (wsize : ℕ) (m : PathMachine) (turn : Turn) (old : Shelf) (next : Step) (new : PathMachine) (after : Shelf) → PathStarts wsize m turn old next new after → HasFit m → HasFit new
 path-starts-fits wsize m turn old next new after s fits = starts-if-fits (slot_taken m.opener old.opens) wsize m turn old next new after s fits
 
-pub path-takes-fits : (arrived : Bool) (wsize : ℕ) (m : PathMachine) (sent turn : Turn) (came : Result Reply Fault) (old : Shelf) (next : Next) (new : PathMachine) (after : Shelf)
+pub path-takes-fits : (arrived : Bool) (wsize : ℕ) (m : PathMachine) (sent turn : Turn) (came : Result Reply Fault) (old : Shelf) (next : Step) (new : PathMachine) (after : Shelf)
     → PathTakes arrived wsize m sent turn came old next new after → HasFit m → HasFit new
 path-takes-fits true wsize m sent turn came old next new after t fits =
     subst HasFit (sym t.machine_is) (takes-fit wsize (file_of m.opener) sent turn came old next (file_of t.opener) after t.step fits)
@@ -156,30 +156,30 @@ path-takes-fits false wsize m sent turn came old next new after t fits =
 
 -- ---- each step leaves what the next one needs
 
-follows-ready : (step : WalkNext) (wsize : ℕ) (m : PathMachine) (turn : Turn) (old : Shelf) (next : Next) (new : PathMachine) (after : Shelf)
+follows-ready : (step : WalkStep) (wsize : ℕ) (m : PathMachine) (turn : Turn) (old : Shelf) (next : Step) (new : PathMachine) (after : Shelf)
     → Follows step wsize m turn old next new after → IsReady turn.xid old.seq old.back → IsReady (turn.xid + 1) after.seq after.back
 follows-ready (Send call) wsize m turn old next new after f r = same-ready turn.xid old after f.2 r
 follows-ready Wait wsize m turn old next new after f r = same-ready turn.xid old after f.2 r
 follows-ready (At dir) wsize m turn old next new after f r = resumes-ready wsize (file_of (placed dir m.opener)) turn old next (file_of f.opener) after f.step r
 follows-ready (Refused fault) wsize m turn old next new after f r = same-ready turn.xid old after f.2 r
 
-pub path-resumes-ready : (arrived : Bool) (wsize : ℕ) (m : PathMachine) (turn : Turn) (old : Shelf) (next : Next) (new : PathMachine) (after : Shelf)
+pub path-resumes-ready : (arrived : Bool) (wsize : ℕ) (m : PathMachine) (turn : Turn) (old : Shelf) (next : Step) (new : PathMachine) (after : Shelf)
     → PathResumes arrived wsize m turn old next new after → IsReady turn.xid old.seq old.back → IsReady (turn.xid + 1) after.seq after.back
 path-resumes-ready true wsize m turn old next new after s r = resumes-ready wsize (file_of m.opener) turn old next (file_of s.opener) after s.step r
 path-resumes-ready false wsize m turn old next new after s r =
     follows-ready (go_next m.walk turn old) wsize (walked m turn old) turn (go_shelf m.walk turn old) next new after s
     (ready-kept turn.xid old (go_shelf m.walk turn old) (walk-kept m.walk turn old) r)
 
-starts-if-ready : (taken : Bool) (wsize : ℕ) (m : PathMachine) (turn : Turn) (old : Shelf) (next : Next) (new : PathMachine) (after : Shelf)
+starts-if-ready : (taken : Bool) (wsize : ℕ) (m : PathMachine) (turn : Turn) (old : Shelf) (next : Step) (new : PathMachine) (after : Shelf)
     → StartsIf taken wsize m turn old next new after → IsReady turn.xid old.seq old.back → IsReady (turn.xid + 1) after.seq after.back
 starts-if-ready true wsize m turn old next new after s r = same-ready turn.xid old after s.2 r
 starts-if-ready false wsize m turn old next new after s r = path-resumes-ready m.arrived wsize (begun m turn) turn old next new after s r
 
-pub path-starts-ready : (wsize : ℕ) (m : PathMachine) (turn : Turn) (old : Shelf) (next : Next) (new : PathMachine) (after : Shelf)
+pub path-starts-ready : (wsize : ℕ) (m : PathMachine) (turn : Turn) (old : Shelf) (next : Step) (new : PathMachine) (after : Shelf)
     → PathStarts wsize m turn old next new after → IsReady turn.xid old.seq old.back → IsReady (turn.xid + 1) after.seq after.back
 path-starts-ready wsize m turn old next new after s r = starts-if-ready (slot_taken m.opener old.opens) wsize m turn old next new after s r
 
-pub path-takes-ready : (arrived : Bool) (wsize : ℕ) (m : PathMachine) (sent turn : Turn) (came : Result Reply Fault) (old : Shelf) (next : Next) (new : PathMachine) (after : Shelf)
+pub path-takes-ready : (arrived : Bool) (wsize : ℕ) (m : PathMachine) (sent turn : Turn) (came : Result Reply Fault) (old : Shelf) (next : Step) (new : PathMachine) (after : Shelf)
     → PathTakes arrived wsize m sent turn came old next new after → IsReady turn.xid old.seq old.back → IsReady (turn.xid + 1) after.seq after.back
 path-takes-ready true wsize m sent turn came old next new after t r = takes-ready wsize (file_of m.opener) sent turn came old next (file_of t.opener) after t.step r
 path-takes-ready false wsize m sent turn came old next new after t r =
@@ -188,30 +188,30 @@ path-takes-ready false wsize m sent turn came old next new after t r =
 
 -- ---- a step that asks for no call puts nothing in flight
 
-follows-unsent : (step : WalkNext) (xid wsize : ℕ) (m : PathMachine) (turn : Turn) (old : Shelf) (next : Next) (new : PathMachine) (after : Shelf)
+follows-unsent : (step : WalkStep) (xid wsize : ℕ) (m : PathMachine) (turn : Turn) (old : Shelf) (next : Step) (new : PathMachine) (after : Shelf)
     → Follows step wsize m turn old next new after → AsksNothing next → IsReady xid old.seq old.back → IsReady xid after.seq after.back
 follows-unsent (Send call) xid wsize m turn old next new after f none r = ready-as xid old after f.2 r
 follows-unsent Wait xid wsize m turn old next new after f none r = ready-as xid old after f.2 r
 follows-unsent (At dir) xid wsize m turn old next new after f none r = resumes-unsent xid wsize (file_of (placed dir m.opener)) turn old next (file_of f.opener) after f.step none r
 follows-unsent (Refused fault) xid wsize m turn old next new after f none r = ready-as xid old after f.2 r
 
-pub path-resumes-unsent : (arrived : Bool) (xid wsize : ℕ) (m : PathMachine) (turn : Turn) (old : Shelf) (next : Next) (new : PathMachine) (after : Shelf)
+pub path-resumes-unsent : (arrived : Bool) (xid wsize : ℕ) (m : PathMachine) (turn : Turn) (old : Shelf) (next : Step) (new : PathMachine) (after : Shelf)
     → PathResumes arrived wsize m turn old next new after → AsksNothing next → IsReady xid old.seq old.back → IsReady xid after.seq after.back
 path-resumes-unsent true xid wsize m turn old next new after s none r = resumes-unsent xid wsize (file_of m.opener) turn old next (file_of s.opener) after s.step none r
 path-resumes-unsent false xid wsize m turn old next new after s none r =
     follows-unsent (go_next m.walk turn old) xid wsize (walked m turn old) turn (go_shelf m.walk turn old) next new after s none
     (ready-kept xid old (go_shelf m.walk turn old) (walk-kept m.walk turn old) r)
 
-starts-if-unsent : (taken : Bool) (xid wsize : ℕ) (m : PathMachine) (turn : Turn) (old : Shelf) (next : Next) (new : PathMachine) (after : Shelf)
+starts-if-unsent : (taken : Bool) (xid wsize : ℕ) (m : PathMachine) (turn : Turn) (old : Shelf) (next : Step) (new : PathMachine) (after : Shelf)
     → StartsIf taken wsize m turn old next new after → AsksNothing next → IsReady xid old.seq old.back → IsReady xid after.seq after.back
 starts-if-unsent true xid wsize m turn old next new after s none r = ready-as xid old after s.2 r
 starts-if-unsent false xid wsize m turn old next new after s none r = path-resumes-unsent m.arrived xid wsize (begun m turn) turn old next new after s none r
 
-pub path-starts-unsent : (xid wsize : ℕ) (m : PathMachine) (turn : Turn) (old : Shelf) (next : Next) (new : PathMachine) (after : Shelf)
+pub path-starts-unsent : (xid wsize : ℕ) (m : PathMachine) (turn : Turn) (old : Shelf) (next : Step) (new : PathMachine) (after : Shelf)
     → PathStarts wsize m turn old next new after → AsksNothing next → IsReady xid old.seq old.back → IsReady xid after.seq after.back
 path-starts-unsent xid wsize m turn old next new after s none r = starts-if-unsent (slot_taken m.opener old.opens) xid wsize m turn old next new after s none r
 
-pub path-takes-unsent : (arrived : Bool) (xid wsize : ℕ) (m : PathMachine) (sent turn : Turn) (came : Result Reply Fault) (old : Shelf) (next : Next) (new : PathMachine) (after : Shelf)
+pub path-takes-unsent : (arrived : Bool) (xid wsize : ℕ) (m : PathMachine) (sent turn : Turn) (came : Result Reply Fault) (old : Shelf) (next : Step) (new : PathMachine) (after : Shelf)
     → PathTakes arrived wsize m sent turn came old next new after → AsksNothing next → IsReady xid old.seq old.back → IsReady xid after.seq after.back
 path-takes-unsent true xid wsize m sent turn came old next new after t none r = takes-unsent xid wsize (file_of m.opener) sent turn came old next (file_of t.opener) after t.step none r
 path-takes-unsent false xid wsize m sent turn came old next new after t none r =
@@ -223,40 +223,40 @@ path-takes-unsent false xid wsize m sent turn came old next new after t none r =
 abbrev seq : Shelf → ℕ
 seq s = s.seq
 
-follows-number : (step : WalkNext) (wsize : ℕ) (m : PathMachine) (turn : Turn) (old : Shelf) (next : Next) (new : PathMachine) (after : Shelf)
+follows-number : (step : WalkStep) (wsize : ℕ) (m : PathMachine) (turn : Turn) (old : Shelf) (next : Step) (new : PathMachine) (after : Shelf)
     → Follows step wsize m turn old next new after → after.seq ≡ old.seq
 follows-number (Send call) wsize m turn old next new after f = ap seq f.2
 follows-number Wait wsize m turn old next new after f = ap seq f.2
 follows-number (At dir) wsize m turn old next new after f = resumes-number wsize (file_of (placed dir m.opener)) turn old next (file_of f.opener) after f.step
 follows-number (Refused fault) wsize m turn old next new after f = ap seq f.2
 
-pub path-resumes-number : (arrived : Bool) (wsize : ℕ) (m : PathMachine) (turn : Turn) (old : Shelf) (next : Next) (new : PathMachine) (after : Shelf)
+pub path-resumes-number : (arrived : Bool) (wsize : ℕ) (m : PathMachine) (turn : Turn) (old : Shelf) (next : Step) (new : PathMachine) (after : Shelf)
     → PathResumes arrived wsize m turn old next new after → after.seq ≡ old.seq
 path-resumes-number true wsize m turn old next new after s = resumes-number wsize (file_of m.opener) turn old next (file_of s.opener) after s.step
 path-resumes-number false wsize m turn old next new after s =
     let walk = walk-kept m.walk turn old in
     follows-number (go_next m.walk turn old) wsize (walked m turn old) turn (go_shelf m.walk turn old) next new after s ∙ walk.seq
 
-starts-if-number : (taken : Bool) (wsize : ℕ) (m : PathMachine) (turn : Turn) (old : Shelf) (next : Next) (new : PathMachine) (after : Shelf)
+starts-if-number : (taken : Bool) (wsize : ℕ) (m : PathMachine) (turn : Turn) (old : Shelf) (next : Step) (new : PathMachine) (after : Shelf)
     → StartsIf taken wsize m turn old next new after → after.seq ≡ old.seq
 starts-if-number true wsize m turn old next new after s = ap seq s.2
 starts-if-number false wsize m turn old next new after s = path-resumes-number m.arrived wsize (begun m turn) turn old next new after s
 
-pub path-starts-number : (wsize : ℕ) (m : PathMachine) (turn : Turn) (old : Shelf) (next : Next) (new : PathMachine) (after : Shelf) → PathStarts wsize m turn old next new after → after.seq ≤ old.seq + 1
+pub path-starts-number : (wsize : ℕ) (m : PathMachine) (turn : Turn) (old : Shelf) (next : Step) (new : PathMachine) (after : Shelf) → PathStarts wsize m turn old next new after → after.seq ≤ old.seq + 1
 path-starts-number wsize m turn old next new after s = none-more after.seq old.seq (starts-if-number (slot_taken m.opener old.opens) wsize m turn old next new after s)
 
-walk-takes-number : (wsize : ℕ) (m : PathMachine) (sent turn : Turn) (came : Result Reply Fault) (old : Shelf) (next : Next) (new : PathMachine) (after : Shelf)
+walk-takes-number : (wsize : ℕ) (m : PathMachine) (sent turn : Turn) (came : Result Reply Fault) (old : Shelf) (next : Step) (new : PathMachine) (after : Shelf)
     → PathTakes false wsize m sent turn came old next new after → after.seq ≡ old.seq
 walk-takes-number wsize m sent turn came old next new after t =
     let walk = walk-takes-kept (waiting_name m.walk) m.walk sent turn came old t.step t.walked.walk t.heard t.takes in
     follows-number t.step wsize t.walked turn t.heard next new after t.follows ∙ walk.seq
 
-pub path-takes-number : (arrived : Bool) (wsize : ℕ) (m : PathMachine) (sent turn : Turn) (came : Result Reply Fault) (old : Shelf) (next : Next) (new : PathMachine) (after : Shelf)
+pub path-takes-number : (arrived : Bool) (wsize : ℕ) (m : PathMachine) (sent turn : Turn) (came : Result Reply Fault) (old : Shelf) (next : Step) (new : PathMachine) (after : Shelf)
     → PathTakes arrived wsize m sent turn came old next new after → after.seq ≤ old.seq + 1
 path-takes-number true wsize m sent turn came old next new after t = takes-number wsize (file_of m.opener) sent turn came old next (file_of t.opener) after t.step
 path-takes-number false wsize m sent turn came old next new after t = none-more after.seq old.seq (walk-takes-number wsize m sent turn came old next new after t)
 
-pub path-refusals-number : (arrived : Bool) (wsize : ℕ) (m : PathMachine) (sent turn : Turn) (fault : Fault) (old : Shelf) (next : Next) (new : PathMachine) (after : Shelf)
+pub path-refusals-number : (arrived : Bool) (wsize : ℕ) (m : PathMachine) (sent turn : Turn) (fault : Fault) (old : Shelf) (next : Step) (new : PathMachine) (after : Shelf)
     → PathTakes arrived wsize m sent turn (Err fault) old next new after → after.seq ≡ old.seq
 path-refusals-number true wsize m sent turn fault old next new after t = refusals-number wsize (file_of m.opener) sent turn fault old next (file_of t.opener) after t.step
 path-refusals-number false wsize m sent turn fault old next new after t = walk-takes-number wsize m sent turn (Err fault) old next new after t
@@ -269,13 +269,13 @@ NoCall call = ⊥
 no-looks : (turn : Turn) → turn.room ≡ false → Looks NoCall turn.room
 no-looks turn none = λ room dir name. let no-way : true ≡ false = sym room ∙ none in absurd cc
 
-asks-nothing : (to next : Next) → next ≡ to → ((call : Call) → to ≡ nexts.Send call → ⊥) → AsksNothing next
+asks-nothing : (to next : Step) → next ≡ to → ((call : Call) → to ≡ nexts.Send call → ⊥) → AsksNothing next
 asks-nothing to next is never = λ call e. never call (sym is ∙ e)
 
 never-waits : (call : Call) → nexts.Wait ≡ nexts.Send call → ⊥
 never-waits call e = absurd cc
 
-follows-quiet : (step : WalkNext) (wsize : ℕ) (m : PathMachine) (turn : Turn) (old : Shelf) (next : Next) (new : PathMachine) (after : Shelf) → turn.room ≡ false
+follows-quiet : (step : WalkStep) (wsize : ℕ) (m : PathMachine) (turn : Turn) (old : Shelf) (next : Step) (new : PathMachine) (after : Shelf) → turn.room ≡ false
     → WalkAsks NoCall step → Follows step wsize m turn old next new after → AsksNothing next
 follows-quiet (Send call) wsize m turn old next new after none a f = absurd a
 follows-quiet Wait wsize m turn old next new after none a f = asks-nothing nexts.Wait next f.0 never-waits
@@ -283,24 +283,24 @@ follows-quiet (At dir) wsize m turn old next new after none a f = resumes-quiet 
 follows-quiet (Refused fault) wsize m turn old next new after none a f =
     asks-nothing (nexts.Done (answers.Refused fault)) next f.0 (λ call e. let no-way : nexts.Done (answers.Refused fault) ≡ nexts.Send call = e in absurd cc)
 
-pub path-resumes-quiet : (arrived : Bool) (wsize : ℕ) (m : PathMachine) (turn : Turn) (old : Shelf) (next : Next) (new : PathMachine) (after : Shelf) → turn.room ≡ false
+pub path-resumes-quiet : (arrived : Bool) (wsize : ℕ) (m : PathMachine) (turn : Turn) (old : Shelf) (next : Step) (new : PathMachine) (after : Shelf) → turn.room ≡ false
     → PathResumes arrived wsize m turn old next new after → AsksNothing next
 path-resumes-quiet true wsize m turn old next new after none s = resumes-quiet wsize (file_of m.opener) turn old next (file_of s.opener) after none s.step
 path-resumes-quiet false wsize m turn old next new after none s =
     follows-quiet (go_next m.walk turn old) wsize (walked m turn old) turn (go_shelf m.walk turn old) next new after none
     (walk-asks NoCall m.walk turn old (no-looks turn none)) s
 
-starts-if-quiet : (taken : Bool) (wsize : ℕ) (m : PathMachine) (turn : Turn) (old : Shelf) (next : Next) (new : PathMachine) (after : Shelf) → turn.room ≡ false
+starts-if-quiet : (taken : Bool) (wsize : ℕ) (m : PathMachine) (turn : Turn) (old : Shelf) (next : Step) (new : PathMachine) (after : Shelf) → turn.room ≡ false
     → StartsIf taken wsize m turn old next new after → AsksNothing next
 starts-if-quiet true wsize m turn old next new after none s =
     asks-nothing (nexts.Done (answers.Refused Slot)) next s.0 (λ call e. let no-way : nexts.Done (answers.Refused Slot) ≡ nexts.Send call = e in absurd cc)
 starts-if-quiet false wsize m turn old next new after none s = path-resumes-quiet m.arrived wsize (begun m turn) turn old next new after none s
 
-pub path-starts-quiet : (wsize : ℕ) (m : PathMachine) (turn : Turn) (old : Shelf) (next : Next) (new : PathMachine) (after : Shelf) → turn.room ≡ false
+pub path-starts-quiet : (wsize : ℕ) (m : PathMachine) (turn : Turn) (old : Shelf) (next : Step) (new : PathMachine) (after : Shelf) → turn.room ≡ false
     → PathStarts wsize m turn old next new after → AsksNothing next
 path-starts-quiet wsize m turn old next new after none s = starts-if-quiet (slot_taken m.opener old.opens) wsize m turn old next new after none s
 
-pub path-takes-quiet : (arrived : Bool) (wsize : ℕ) (m : PathMachine) (sent turn : Turn) (came : Result Reply Fault) (old : Shelf) (next : Next) (new : PathMachine) (after : Shelf)
+pub path-takes-quiet : (arrived : Bool) (wsize : ℕ) (m : PathMachine) (sent turn : Turn) (came : Result Reply Fault) (old : Shelf) (next : Step) (new : PathMachine) (after : Shelf)
     → turn.room ≡ false → PathTakes arrived wsize m sent turn came old next new after → AsksNothing next
 path-takes-quiet true wsize m sent turn came old next new after none t = takes-quiet wsize (file_of m.opener) sent turn came old next (file_of t.opener) after none t.step
 path-takes-quiet false wsize m sent turn came old next new after none t =
@@ -309,17 +309,17 @@ path-takes-quiet false wsize m sent turn came old next new after none t =
 
 -- ---- each call that a step asks for has a spelling
 
-abbrev Spells : Next → Shelf → Type 0
+abbrev Spells : Step → Shelf → Type 0
 Spells next after = AreSpellable after.back × AsksSpellable next
 
 any-looks : (turn : Turn) → Looks IsSpellable turn.room
 any-looks turn = λ room dir name. tt
 
-same-spells : (to next : Next) (old after : Shelf) → next ≡ to → after ≡ old → ((call : Call) → to ≡ nexts.Send call → IsSpellable call) → AreSpellable old.back → Spells next after
+same-spells : (to next : Step) (old after : Shelf) → next ≡ to → after ≡ old → ((call : Call) → to ≡ nexts.Send call → IsSpellable call) → AreSpellable old.back → Spells next after
 same-spells to next old after is same spells all =
     (subst (λ (s : Shelf). AreSpellable s.back) (sym same) all, λ call e. spells call (sym is ∙ e))
 
-follows-spell : (step : WalkNext) (wsize : ℕ) (m : PathMachine) (turn : Turn) (old : Shelf) (next : Next) (new : PathMachine) (after : Shelf) → wsize ≤ 65536
+follows-spell : (step : WalkStep) (wsize : ℕ) (m : PathMachine) (turn : Turn) (old : Shelf) (next : Step) (new : PathMachine) (after : Shelf) → wsize ≤ 65536
     → WalkAsks IsSpellable step → Follows step wsize m turn old next new after → AreSpellable old.back → Spells next after
 follows-spell (Send look) wsize m turn old next new after small a f all =
     same-spells (nexts.Send look) next old after f.0 f.2 (λ call e. asks-call IsSpellable (nexts.Send look) call a e) all
@@ -332,24 +332,24 @@ follows-spell (Refused fault) wsize m turn old next new after small a f all =
 kept-spells : (old new : Shelf) → IsKept old new → AreSpellable old.back → AreSpellable new.back
 kept-spells old new k all = subst (λ (p : Pending). AreSpellable p) (sym k.back) all
 
-pub path-resumes-spell : (arrived : Bool) (wsize : ℕ) (m : PathMachine) (turn : Turn) (old : Shelf) (next : Next) (new : PathMachine) (after : Shelf) → wsize ≤ 65536
+pub path-resumes-spell : (arrived : Bool) (wsize : ℕ) (m : PathMachine) (turn : Turn) (old : Shelf) (next : Step) (new : PathMachine) (after : Shelf) → wsize ≤ 65536
     → PathResumes arrived wsize m turn old next new after → AreSpellable old.back → Spells next after
 path-resumes-spell true wsize m turn old next new after small s all = resumes-spell wsize (file_of m.opener) turn old next (file_of s.opener) after small s.step all
 path-resumes-spell false wsize m turn old next new after small s all =
     follows-spell (go_next m.walk turn old) wsize (walked m turn old) turn (go_shelf m.walk turn old) next new after small
     (walk-asks IsSpellable m.walk turn old (any-looks turn)) s (kept-spells old (go_shelf m.walk turn old) (walk-kept m.walk turn old) all)
 
-starts-if-spell : (taken : Bool) (wsize : ℕ) (m : PathMachine) (turn : Turn) (old : Shelf) (next : Next) (new : PathMachine) (after : Shelf) → wsize ≤ 65536
+starts-if-spell : (taken : Bool) (wsize : ℕ) (m : PathMachine) (turn : Turn) (old : Shelf) (next : Step) (new : PathMachine) (after : Shelf) → wsize ≤ 65536
     → StartsIf taken wsize m turn old next new after → AreSpellable old.back → Spells next after
 starts-if-spell true wsize m turn old next new after small s all =
     same-spells (nexts.Done (answers.Refused Slot)) next old after s.0 s.2 (λ call e. let no-way : nexts.Done (answers.Refused Slot) ≡ nexts.Send call = e in absurd cc) all
 starts-if-spell false wsize m turn old next new after small s all = path-resumes-spell m.arrived wsize (begun m turn) turn old next new after small s all
 
-pub path-starts-spell : (wsize : ℕ) (m : PathMachine) (turn : Turn) (old : Shelf) (next : Next) (new : PathMachine) (after : Shelf) → wsize ≤ 65536
+pub path-starts-spell : (wsize : ℕ) (m : PathMachine) (turn : Turn) (old : Shelf) (next : Step) (new : PathMachine) (after : Shelf) → wsize ≤ 65536
     → PathStarts wsize m turn old next new after → AreSpellable old.back → Spells next after
 path-starts-spell wsize m turn old next new after small s all = starts-if-spell (slot_taken m.opener old.opens) wsize m turn old next new after small s all
 
-pub path-takes-spell : (arrived : Bool) (wsize : ℕ) (m : PathMachine) (sent turn : Turn) (came : Result Reply Fault) (old : Shelf) (next : Next) (new : PathMachine) (after : Shelf)
+pub path-takes-spell : (arrived : Bool) (wsize : ℕ) (m : PathMachine) (sent turn : Turn) (came : Result Reply Fault) (old : Shelf) (next : Step) (new : PathMachine) (after : Shelf)
     → wsize ≤ 65536 → PathTakes arrived wsize m sent turn came old next new after → AreSpellable old.back → Spells next after
 path-takes-spell true wsize m sent turn came old next new after small t all = takes-spell wsize (file_of m.opener) sent turn came old next (file_of t.opener) after small t.step all
 path-takes-spell false wsize m sent turn came old next new after small t all =
@@ -360,7 +360,7 @@ path-takes-spell false wsize m sent turn came old next new after small t all =
 -- ---- a call that couldn't be made leaves nothing in flight
 
 abbrev pub PathLeaves : ℕ → Turn → PathMachine → Shelf → Type 0
-PathLeaves wsize sent p old = (turn : Turn) (fault : Fault) (next : Next) (new : PathMachine) (after : Shelf)
+PathLeaves wsize sent p old = (turn : Turn) (fault : Fault) (next : Step) (new : PathMachine) (after : Shelf)
     → turn.room ≡ false → PathTakes p.arrived wsize p sent turn (Err fault) old next new after → IsReady sent.xid after.seq after.back
 
 -- once it is at its directory its own machine leaves nothing, and before that nothing is in flight
@@ -387,7 +387,7 @@ then-unmade wsize m turn old call new after at s r =
     subst (λ (p : PathMachine). PathLeaves wsize turn p after) (sym s.machine_is)
     (own-leaves wsize turn (record m { opener = s.opener }) after at (resumes-unmade wsize (file_of m.opener) turn old call (file_of s.opener) after s.step r))
 
-follows-unmade : (step : WalkNext) (wsize : ℕ) (m : PathMachine) (turn : Turn) (old : Shelf) (call : Call) (new : PathMachine) (after : Shelf) → m.arrived ≡ false
+follows-unmade : (step : WalkStep) (wsize : ℕ) (m : PathMachine) (turn : Turn) (old : Shelf) (call : Call) (new : PathMachine) (after : Shelf) → m.arrived ≡ false
     → Follows step wsize m turn old (nexts.Send call) new after → IsReady turn.xid old.seq old.back → PathLeaves wsize turn new after
 follows-unmade (Send look) wsize m turn old call new after at f r =
     walk-leaves wsize turn new after (ap (λ (p : PathMachine). p.arrived) f.1 ∙ at) (ready-as turn.xid old after f.2 r)

@@ -3,7 +3,7 @@ use Rattle.std.proofs.Common.{◌≡◌, ℕ, Err, ap, ◌∙◌}
 use Rattle.world_model.specs.declared.answer.Fault.{Fault}
 use Rattle.client_shelf.specs.declared.shelf.Shelf.{Shelf}
 use Rattle.client_shelf.specs.declared.turn.Turn.{Turn}
-use Rattle.client_shelf.specs.declared.next.Next.{Next}
+use Rattle.client_shelf.specs.declared.step.Step.{Step}
 use Rattle.file_ops.proofs.Numbers.{sync-takes, close-takes}
 use Rattle.file_ops.proofs.Unsent.{truncate-seq}
 use Rattle.file_ops.proofs.Refusals.{write-refused, put-refused}
@@ -14,7 +14,7 @@ use Rattle.op_machines.specs.FileSteps.{Takes}
 abbrev seq : Shelf → ℕ
 seq s = s.seq
 
-pub refusals-number : (wsize : ℕ) (machine : Machine) (sent turn : Turn) (fault : Fault) (old : Shelf) (next : Next) (new : Machine) (after : Shelf)
+pub refusals-number : (wsize : ℕ) (machine : Machine) (sent turn : Turn) (fault : Fault) (old : Shelf) (next : Step) (new : Machine) (after : Shelf)
     → Takes wsize machine sent turn (Err fault) old next new after → after.seq ≡ old.seq
 refusals-number wsize (machines.Open m) sent turn fault old next new after s = ap seq s.others
 refusals-number wsize (machines.Read m) sent turn fault old next new after s = ap seq s.others

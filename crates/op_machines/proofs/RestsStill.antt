@@ -2,12 +2,12 @@
 use Rattle.std.proofs.Common.{◌≡◌, ℕ, Bool, true, false, ◌||◌, not, if◌then◌else◌, refl, sym, ap, subst, ◌∙◌}
 use Rattle.client_shelf.specs.declared.shelf.Shelf.{Shelf}
 use Rattle.client_shelf.specs.declared.turn.Turn.{Turn}
-use Rattle.client_shelf.specs.declared.next.Next.TheVariants as nexts
+use Rattle.client_shelf.specs.declared.step.Step.TheVariants as nexts
 use Rattle.file_ops.specs.declared.close_file.CloseFile.{CloseFile}
 use Rattle.file_ops.specs.declared.close_file.Closing.{Closing}
 use Rattle.file_ops.specs.declared.close_file.Closing.TheVariants as closings
 use Rattle.file_ops.specs.declared.opening.Opening.{Opening}
-use Rattle.file_ops.specs.declared.opening.OpeningNext.TheVariants as opening_nexts
+use Rattle.file_ops.specs.declared.opening.OpeningStep.TheVariants as opening_nexts
 use Rattle.file_ops.specs.declared.put_file.PutFile.{PutFile}
 use Rattle.file_ops.specs.declared.put_file.Putting.{Putting}
 use Rattle.file_ops.specs.declared.put_file.Putting.TheVariants as puttings
@@ -20,12 +20,12 @@ use Rattle.file_ops.specs.Opening as openings
 use Rattle.file_ops.specs.PutFile as puts
 use Rattle.file_ops.specs.TruncateFile as truncates
 use Rattle.name_ops.specs.declared.pair.Pair.{Pair}
-use Rattle.name_ops.specs.declared.pair.PairNext.TheVariants as pair_nexts
+use Rattle.name_ops.specs.declared.pair.PairStep.TheVariants as pair_nexts
 use Rattle.name_ops.specs.declared.stat.Stat.{Stat}
 use Rattle.name_ops.specs.declared.visit.Visit.{Visit}
-use Rattle.name_ops.specs.declared.visit.VisitNext.TheVariants as visit_nexts
+use Rattle.name_ops.specs.declared.visit.VisitStep.TheVariants as visit_nexts
 use Rattle.name_ops.specs.declared.walk.Walk.{Walk}
-use Rattle.name_ops.specs.declared.walk.WalkNext.TheVariants as walk_nexts
+use Rattle.name_ops.specs.declared.walk.WalkStep.TheVariants as walk_nexts
 use Rattle.name_ops.specs.DirChange.{deed_call}
 use Rattle.name_ops.specs.Access.{access_call}
 use Rattle.name_ops.specs.Link.{link_call}

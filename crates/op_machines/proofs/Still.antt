@@ -2,8 +2,8 @@
 use Rattle.std.proofs.Common.{◌≡◌, ℕ, true, refl, ap, subst, ◌∙◌}
 use Rattle.client_shelf.specs.declared.shelf.Shelf.{Shelf}
 use Rattle.client_shelf.specs.declared.turn.Turn.{Turn}
-use Rattle.client_shelf.specs.declared.next.Next.{Next}
-use Rattle.client_shelf.specs.declared.next.Next.TheVariants.{Wait}
+use Rattle.client_shelf.specs.declared.step.Step.{Step}
+use Rattle.client_shelf.specs.declared.step.Step.TheVariants.{Wait}
 use Rattle.file_ops.specs.declared.write_file.Writing.{Writing}
 use Rattle.file_ops.specs.declared.sync_file.Syncing.{Syncing}
 use Rattle.file_ops.specs.declared.close_file.Closing.{Closing}
@@ -28,7 +28,7 @@ a_read m = machines.Read m
 abbrev a_put : PutFile → Machine
 a_put m = machines.Put m
 
-pub waits-still : (wsize : ℕ) (machine : Machine) (turn : Turn) (old : Shelf) (next : Next) (new : Machine) (after : Shelf)
+pub waits-still : (wsize : ℕ) (machine : Machine) (turn : Turn) (old : Shelf) (next : Step) (new : Machine) (after : Shelf)
     → turn.room ≡ true → Resumes wsize machine turn old next new after → next ≡ Wait → (new ≡ machine) × (after ≡ old)
 waits-still wsize (machines.Open m) turn old next new after room r waits =
     (r.machine_is ∙ ap an_open (open-still m turn next (gone m turn) r.next_is refl waits), r.shelf_is)

@@ -7,8 +7,8 @@ use Rattle.world_model.specs.declared.message.Reply.{Reply}
 use Rattle.write_back.specs.Files.{Pending}
 use Rattle.client_shelf.specs.declared.shelf.Shelf.{Shelf}
 use Rattle.client_shelf.specs.declared.turn.Turn.{Turn}
-use Rattle.client_shelf.specs.declared.next.Next.{Next}
-use Rattle.client_shelf.specs.declared.next.Next.TheVariants as nexts
+use Rattle.client_shelf.specs.declared.step.Step.{Step}
+use Rattle.client_shelf.specs.declared.step.Step.TheVariants as nexts
 use Rattle.file_ops.specs.declared.saving.Saving.{Saving}
 use Rattle.file_ops.specs.declared.write_file.Writing.{Writing}
 use Rattle.file_ops.specs.declared.write_file.Writing.TheVariants as writing
@@ -113,14 +113,14 @@ has-all P M all (machines.Put m) back h = put-all P M all m.state m.write.state 
 
 -- ---- what is read off a step
 
-pub left-call : (P : Pending → Type 0) (H : Machine → Pending → Type 0) (Q : Call → Type 0) (next : Next) (machine : Machine) (back : Pending)
+pub left-call : (P : Pending → Type 0) (H : Machine → Pending → Type 0) (Q : Call → Type 0) (next : Step) (machine : Machine) (back : Pending)
     → LeftAs P H Q next machine back → (call : Call) → next ≡ nexts.Send call → Q call
 left-call P H Q (nexts.Send sent) machine back l call asks = let same : sent ≡ call = cc in subst Q same l.1
 left-call P H Q nexts.Wait machine back l call asks = absurd cc
 left-call P H Q (nexts.Done answer) machine back l call asks = absurd cc
 
 pub left-back : (P : Pending → Type 0) (M : Saving → Pending → Type 0) (Q : Call → Type 0) → ((s : Saving) (back : Pending) → M s back → P back)
-    → (next : Next) (machine : Machine) (back : Pending) → LeftAs P (Has P M) Q next machine back → P back
+    → (next : Step) (machine : Machine) (back : Pending) → LeftAs P (Has P M) Q next machine back → P back
 left-back P M Q all (nexts.Send call) machine back l = has-all P M all machine back l.0
 left-back P M Q all nexts.Wait machine back l = l
 left-back P M Q all (nexts.Done answer) machine back l = l
@@ -128,14 +128,14 @@ left-back P M Q all (nexts.Done answer) machine back l = l
 -- ---- the steps
 
 module _ (wsize : ℕ) (turn : Turn) (P : Pending → Type 0) (M : Saving → Pending → Type 0) (Q : Call → Type 0) (w : Carries wsize turn P M Q) where
-  as-machine : {S : Type 0} → (H : S → Pending → Type 0) (next : Next) (state : S) (to new : Machine) (back : Pending) → new ≡ to
+  as-machine : {S : Type 0} → (H : S → Pending → Type 0) (next : Step) (state : S) (to new : Machine) (back : Pending) → new ≡ to
       → (H state back → Has P M to back) → LeftAs P H Q next state back → LeftAs P (Has P M) Q next new back
   as-machine H (nexts.Send call) state to new back is has l = (subst (λ (m : Machine). Has P M m back) (sym is) (has l.0), l.1)
   as-machine H nexts.Wait state to new back is has l = l
   as-machine H (nexts.Done answer) state to new back is has l = l
 
   -- of a machine that puts nothing in flight
-  plain-machine : (next : Next) (to new : Machine) (old back : Pending) → new ≡ to → (P back → Has P M to back) → PlainAsks turn next → back ≡ old → P old
+  plain-machine : (next : Step) (to new : Machine) (old back : Pending) → new ≡ to → (P back → Has P M to back) → PlainAsks turn next → back ≡ old → P old
       → LeftAs P (Has P M) Q next new back
   plain-machine next to new old back is has asks same p =
       let here : P back = subst P (sym same) p in
@@ -145,7 +145,7 @@ module _ (wsize : ℕ) (turn : Turn) (P : Pending → Type 0) (M : Saving → Pe
   begun-back (Ok file) m old = refl
   begun-back (Err fault) m old = refl
 
-  pub starts-left : (machine : Machine) (old : Shelf) (next : Next) (new : Machine) (after : Shelf) → Starts wsize machine turn old next new after
+  pub starts-left : (machine : Machine) (old : Shelf) (next : Step) (new : Machine) (after : Shelf) → Starts wsize machine turn old next new after
       → P old.back → LeftAs P (Has P M) Q next new after.back
   starts-left (machines.Open m) old next new after s p = plain-machine next _ new old.back after.back s.machine_is (λ h. h)
       (open-starts m turn old.opens next s.next_is) (ap (λ (x : Shelf). x.back) s.shelf_is) p
@@ -169,7 +169,7 @@ module _ (wsize : ℕ) (turn : Turn) (P : Pending → Type 0) (M : Saving → Pe
       (machines.Put (record m { opening = go_after (puts.opening_at turn m) turn; state = putting.Opens })) old.back after.back s.next_is (ap (λ (x : Shelf). x.back) s.shelf_is)
       (go-asks (puts.opening_at turn m) turn (go_next (puts.opening_at turn m) turn) refl) w.plain p p)
 
-  pub resumes-left : (machine : Machine) (old : Shelf) (next : Next) (new : Machine) (after : Shelf) → Resumes wsize machine turn old next new after
+  pub resumes-left : (machine : Machine) (old : Shelf) (next : Step) (new : Machine) (after : Shelf) → Resumes wsize machine turn old next new after
       → P old.back → LeftAs P (Has P M) Q next new after.back
   resumes-left (machines.Open m) old next new after s p = plain-machine next _ new old.back after.back s.machine_is (λ h. h)
       (open-resumes m turn next s.next_is) (ap (λ (x : Shelf). x.back) s.shelf_is) p
@@ -189,7 +189,7 @@ module _ (wsize : ℕ) (turn : Turn) (P : Pending → Type 0) (M : Saving → Pe
       (put-resumes wsize turn P M Q w m.state m old next s.machine after refl s.step p)
 
   pub takes-left : (sent : Turn) (came : Result Reply Fault) (N : Saving → Pending → Type 0) → CarriesReply wsize sent turn came P N M Q
-      → (machine : Machine) (old : Shelf) (next : Next) (new : Machine) (after : Shelf) → Takes wsize machine sent turn came old next new after
+      → (machine : Machine) (old : Shelf) (next : Step) (new : Machine) (after : Shelf) → Takes wsize machine sent turn came old next new after
       → Has P N machine old.back → LeftAs P (Has P M) Q next new after.back
   takes-left sent came N v (machines.Open m) old next new after s p =
       plain-machine next _ new old.back after.back s.machine_is (λ h. h)

@@ -5,8 +5,8 @@ use Rattle.world_model.specs.declared.answer.Fault.{Fault}
 use Rattle.world_model.specs.declared.message.Call.{Call}
 use Rattle.client_shelf.specs.declared.shelf.Shelf.{Shelf}
 use Rattle.client_shelf.specs.declared.turn.Turn.{Turn}
-use Rattle.client_shelf.specs.declared.next.Next.{Next}
-use Rattle.client_shelf.specs.declared.next.Next.TheVariants.{Send, Wait}
+use Rattle.client_shelf.specs.declared.step.Step.{Step}
+use Rattle.client_shelf.specs.declared.step.Step.TheVariants.{Send, Wait}
 use Rattle.name_ops.specs.declared.remove_file.Deed.{Deed}
 use Rattle.name_ops.specs.declared.remove_file.Deed.TheVariants as deeds
 use Rattle.op_machines.specs.declared.machine.Machine.{Machine}
@@ -41,7 +41,7 @@ calls_left (machines.Name m) = name_left m
 -- It asks for a call, and takes a refusal in its place.
 abbrev pub RefusalsEnd : Type 0
 RefusalsEnd = (wsize : ℕ) (machine : Machine) (turn : Turn) (old : Shelf) (call : Call) (mid : Machine) (between : Shelf) (unmade : Turn)
-    (fault : Fault) (next : Next) (new : Machine) (after : Shelf)
+    (fault : Fault) (next : Step) (new : Machine) (after : Shelf)
     → Resumes wsize machine turn old (Send call) mid between → Takes wsize mid turn unmade (Err fault) between next new after → next ≡ Wait
     → calls_left new < calls_left machine
 

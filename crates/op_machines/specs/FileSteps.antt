@@ -6,7 +6,7 @@ use Rattle.world_model.specs.declared.message.Reply.{Reply}
 use Rattle.write_back.specs.Files.{all_pending}
 use Rattle.client_shelf.specs.declared.shelf.Shelf.{Shelf}
 use Rattle.client_shelf.specs.declared.turn.Turn.{Turn}
-use Rattle.client_shelf.specs.declared.next.Next.{Next}
+use Rattle.client_shelf.specs.declared.step.Step.{Step}
 use Rattle.file_ops.specs.declared.open_file.OpenFile.{OpenFile}
 use Rattle.file_ops.specs.declared.read_file.ReadFile.{ReadFile}
 use Rattle.file_ops.specs.declared.write_file.WriteFile.{WriteFile}
@@ -33,17 +33,17 @@ use Rattle.op_machines.specs.declared.file_machine.FileMachine.TheVariants as ma
 
 -- ---- opens
 
-pub record OpenStarts (m : OpenFile) (turn : Turn) (old : Shelf) (next : Next) (new : FileMachine) (after : Shelf) : Type 0 where
+pub record OpenStarts (m : OpenFile) (turn : Turn) (old : Shelf) (next : Step) (new : FileMachine) (after : Shelf) : Type 0 where
   pub next_is : next ≡ opens.start_next m turn old.opens
   pub machine_is : new ≡ machines.Open (opens.start_after m turn old.opens)
   pub shelf_is : after ≡ old
 
-pub record OpenResumes (m : OpenFile) (turn : Turn) (old : Shelf) (next : Next) (new : FileMachine) (after : Shelf) : Type 0 where
+pub record OpenResumes (m : OpenFile) (turn : Turn) (old : Shelf) (next : Step) (new : FileMachine) (after : Shelf) : Type 0 where
   pub next_is : next ≡ opens.goes_as (go_next m.opening turn)
   pub machine_is : new ≡ machines.Open (opens.gone m turn)
   pub shelf_is : after ≡ old
 
-pub record OpenTakes (m : OpenFile) (sent turn : Turn) (came : Result Reply Fault) (old : Shelf) (next : Next) (new : FileMachine)
+pub record OpenTakes (m : OpenFile) (sent turn : Turn) (came : Result Reply Fault) (old : Shelf) (next : Step) (new : FileMachine)
     (after : Shelf) : Type 0 where
   pub steps : opens.OpenTakes m sent turn came after.attrs old.repeats next old.pages after.pages old.opens after.opens
   pub machine_is : new ≡ machines.Open (opens.took_after (opening_again m.opening sent turn came old.repeats) m turn came after.attrs old.pages)
@@ -54,19 +54,19 @@ pub record OpenTakes (m : OpenFile) (sent turn : Turn) (came : Result Reply Faul
 
 -- ---- reads
 
-pub record ReadStarts (m : ReadFile) (turn : Turn) (old : Shelf) (next : Next) (new : FileMachine) (after : Shelf) : Type 0 where
+pub record ReadStarts (m : ReadFile) (turn : Turn) (old : Shelf) (next : Step) (new : FileMachine) (after : Shelf) : Type 0 where
   pub machine : ReadFile
   pub machine_is : new ≡ machines.Read machine
   pub step : reads.Starts (finite.get old.opens (m.lane, m.slot)) turn m old.pages old.back next machine after.pages
   pub others : after ≡ record old { pages = after.pages }
 
-pub record ReadResumes (m : ReadFile) (turn : Turn) (old : Shelf) (next : Next) (new : FileMachine) (after : Shelf) : Type 0 where
+pub record ReadResumes (m : ReadFile) (turn : Turn) (old : Shelf) (next : Step) (new : FileMachine) (after : Shelf) : Type 0 where
   pub machine : ReadFile
   pub machine_is : new ≡ machines.Read machine
   pub step : reads.ResumesIn m.reading turn.room m old.pages old.back next machine after.pages
   pub others : after ≡ record old { pages = after.pages }
 
-pub record ReadTakes (m : ReadFile) (sent turn : Turn) (came : Result Reply Fault) (old : Shelf) (next : Next) (new : FileMachine)
+pub record ReadTakes (m : ReadFile) (sent turn : Turn) (came : Result Reply Fault) (old : Shelf) (next : Step) (new : FileMachine)
     (after : Shelf) : Type 0 where
   pub machine : ReadFile
   pub machine_is : new ≡ machines.Read machine
@@ -77,17 +77,17 @@ pub record ReadTakes (m : ReadFile) (sent turn : Turn) (came : Result Reply Faul
 
 -- ---- writes and fills
 
-pub record WriteStarts (wsize : ℕ) (m : WriteFile) (turn : Turn) (old : Shelf) (next : Next) (new : FileMachine) (after : Shelf) : Type 0 where
+pub record WriteStarts (wsize : ℕ) (m : WriteFile) (turn : Turn) (old : Shelf) (next : Step) (new : FileMachine) (after : Shelf) : Type 0 where
   pub machine : WriteFile
   pub machine_is : new ≡ machines.Write machine
   pub step : writes.Starts wsize m turn old next machine after
 
-pub record WriteResumes (wsize : ℕ) (m : WriteFile) (turn : Turn) (old : Shelf) (next : Next) (new : FileMachine) (after : Shelf) : Type 0 where
+pub record WriteResumes (wsize : ℕ) (m : WriteFile) (turn : Turn) (old : Shelf) (next : Step) (new : FileMachine) (after : Shelf) : Type 0 where
   pub state : Writing
   pub machine_is : new ≡ machines.Write (record m { state = state })
   pub step : writes.ResumesIn m.state wsize m.lane turn old next state after
 
-pub record WriteTakes (wsize : ℕ) (m : WriteFile) (sent turn : Turn) (came : Result Reply Fault) (old : Shelf) (next : Next) (new : FileMachine)
+pub record WriteTakes (wsize : ℕ) (m : WriteFile) (sent turn : Turn) (came : Result Reply Fault) (old : Shelf) (next : Step) (new : FileMachine)
     (after : Shelf) : Type 0 where
   pub state : Writing
   pub machine_is : new ≡ machines.Write (record m { state = state })
@@ -95,17 +95,17 @@ pub record WriteTakes (wsize : ℕ) (m : WriteFile) (sent turn : Turn) (came : R
 
 -- ---- syncs
 
-pub record SyncStarts (wsize : ℕ) (m : SyncFile) (turn : Turn) (old : Shelf) (next : Next) (new : FileMachine) (after : Shelf) : Type 0 where
+pub record SyncStarts (wsize : ℕ) (m : SyncFile) (turn : Turn) (old : Shelf) (next : Step) (new : FileMachine) (after : Shelf) : Type 0 where
   pub state : Syncing
   pub machine_is : new ≡ machines.Sync (record m { state = state })
   pub step : syncs.Starts wsize m turn old next state after
 
-pub record SyncResumes (wsize : ℕ) (m : SyncFile) (turn : Turn) (old : Shelf) (next : Next) (new : FileMachine) (after : Shelf) : Type 0 where
+pub record SyncResumes (wsize : ℕ) (m : SyncFile) (turn : Turn) (old : Shelf) (next : Step) (new : FileMachine) (after : Shelf) : Type 0 where
   pub state : Syncing
   pub machine_is : new ≡ machines.Sync (record m { state = state })
   pub step : syncs.Resumes m.state wsize m turn old next state after
 
-pub record SyncTakes (wsize : ℕ) (m : SyncFile) (sent turn : Turn) (came : Result Reply Fault) (old : Shelf) (next : Next) (new : FileMachine)
+pub record SyncTakes (wsize : ℕ) (m : SyncFile) (sent turn : Turn) (came : Result Reply Fault) (old : Shelf) (next : Step) (new : FileMachine)
     (after : Shelf) : Type 0 where
   pub state : Syncing
   pub machine_is : new ≡ machines.Sync (record m { state = state })
@@ -113,17 +113,17 @@ pub record SyncTakes (wsize : ℕ) (m : SyncFile) (sent turn : Turn) (came : Res
 
 -- ---- closes
 
-pub record CloseStarts (wsize : ℕ) (m : CloseFile) (turn : Turn) (old : Shelf) (next : Next) (new : FileMachine) (after : Shelf) : Type 0 where
+pub record CloseStarts (wsize : ℕ) (m : CloseFile) (turn : Turn) (old : Shelf) (next : Step) (new : FileMachine) (after : Shelf) : Type 0 where
   pub state : Closing
   pub machine_is : new ≡ machines.Close (record m { state = state })
   pub step : closes.Starts wsize m turn old next state after
 
-pub record CloseResumes (wsize : ℕ) (m : CloseFile) (turn : Turn) (old : Shelf) (next : Next) (new : FileMachine) (after : Shelf) : Type 0 where
+pub record CloseResumes (wsize : ℕ) (m : CloseFile) (turn : Turn) (old : Shelf) (next : Step) (new : FileMachine) (after : Shelf) : Type 0 where
   pub state : Closing
   pub machine_is : new ≡ machines.Close (record m { state = state })
   pub step : closes.Resumes m.state wsize m turn old next state after
 
-pub record CloseTakes (wsize : ℕ) (m : CloseFile) (sent turn : Turn) (came : Result Reply Fault) (old : Shelf) (next : Next) (new : FileMachine)
+pub record CloseTakes (wsize : ℕ) (m : CloseFile) (sent turn : Turn) (came : Result Reply Fault) (old : Shelf) (next : Step) (new : FileMachine)
     (after : Shelf) : Type 0 where
   pub state : Closing
   pub machine_is : new ≡ machines.Close (record m { state = state })
@@ -131,17 +131,17 @@ pub record CloseTakes (wsize : ℕ) (m : CloseFile) (sent turn : Turn) (came : R
 
 -- ---- truncates
 
-pub record TruncateStarts (m : TruncateFile) (turn : Turn) (old : Shelf) (next : Next) (new : FileMachine) (after : Shelf) : Type 0 where
+pub record TruncateStarts (m : TruncateFile) (turn : Turn) (old : Shelf) (next : Step) (new : FileMachine) (after : Shelf) : Type 0 where
   pub next_is : next ≡ truncates.started_next m turn old
   pub machine_is : new ≡ machines.Truncate (record m { state = truncates.started_state m turn old })
   pub shelf_is : after ≡ truncates.started_shelf m old
 
-pub record TruncateResumes (m : TruncateFile) (turn : Turn) (old : Shelf) (next : Next) (new : FileMachine) (after : Shelf) : Type 0 where
+pub record TruncateResumes (m : TruncateFile) (turn : Turn) (old : Shelf) (next : Step) (new : FileMachine) (after : Shelf) : Type 0 where
   pub next_is : next ≡ truncates.resumed_next m.state m turn old
   pub machine_is : new ≡ machines.Truncate (record m { state = truncates.resumed_state m.state m turn old })
   pub shelf_is : after ≡ old
 
-pub record TruncateTakes (m : TruncateFile) (sent turn : Turn) (came : Result Reply Fault) (old : Shelf) (next : Next) (new : FileMachine)
+pub record TruncateTakes (m : TruncateFile) (sent turn : Turn) (came : Result Reply Fault) (old : Shelf) (next : Step) (new : FileMachine)
     (after : Shelf) : Type 0 where
   pub next_is : next ≡ truncates.took_next m.state m came sent turn old.repeats
   pub machine_is : new ≡ machines.Truncate (record m { state = truncates.took_state m.state came sent turn old.repeats })
@@ -152,17 +152,17 @@ pub record TruncateTakes (m : TruncateFile) (sent turn : Turn) (came : Result Re
 
 -- ---- puts
 
-pub record PutStarts (m : PutFile) (turn : Turn) (old : Shelf) (next : Next) (new : FileMachine) (after : Shelf) : Type 0 where
+pub record PutStarts (m : PutFile) (turn : Turn) (old : Shelf) (next : Step) (new : FileMachine) (after : Shelf) : Type 0 where
   pub next_is : next ≡ opens.goes_as (go_next (puts.opening_at turn m) turn)
   pub machine_is : new ≡ machines.Put (record m { opening = go_after (puts.opening_at turn m) turn; state = Opens })
   pub shelf_is : after ≡ old
 
-pub record PutResumes (wsize : ℕ) (m : PutFile) (turn : Turn) (old : Shelf) (next : Next) (new : FileMachine) (after : Shelf) : Type 0 where
+pub record PutResumes (wsize : ℕ) (m : PutFile) (turn : Turn) (old : Shelf) (next : Step) (new : FileMachine) (after : Shelf) : Type 0 where
   pub machine : PutFile
   pub machine_is : new ≡ machines.Put machine
   pub step : puts.Resumes m.state wsize m turn old next machine after
 
-pub record PutTakes (wsize : ℕ) (m : PutFile) (sent turn : Turn) (came : Result Reply Fault) (old : Shelf) (next : Next) (new : FileMachine)
+pub record PutTakes (wsize : ℕ) (m : PutFile) (sent turn : Turn) (came : Result Reply Fault) (old : Shelf) (next : Step) (new : FileMachine)
     (after : Shelf) : Type 0 where
   pub machine : PutFile
   pub machine_is : new ≡ machines.Put machine
@@ -171,7 +171,7 @@ pub record PutTakes (wsize : ℕ) (m : PutFile) (sent turn : Turn) (came : Resul
 -- ---- any of them
 
 -- the first step
-abbrev pub Starts : ℕ → FileMachine → Turn → Shelf → Next → FileMachine → Shelf → Type 0
+abbrev pub Starts : ℕ → FileMachine → Turn → Shelf → Step → FileMachine → Shelf → Type 0
 Starts wsize (machines.Open m) turn old next new after = OpenStarts m turn old next new after
 Starts wsize (machines.Read m) turn old next new after = ReadStarts m turn old next new after
 Starts wsize (machines.Write m) turn old next new after = WriteStarts wsize m turn old next new after
@@ -181,7 +181,7 @@ Starts wsize (machines.Truncate m) turn old next new after = TruncateStarts m tu
 Starts wsize (machines.Put m) turn old next new after = PutStarts m turn old next new after
 
 -- a step that no reply made possible
-abbrev pub Resumes : ℕ → FileMachine → Turn → Shelf → Next → FileMachine → Shelf → Type 0
+abbrev pub Resumes : ℕ → FileMachine → Turn → Shelf → Step → FileMachine → Shelf → Type 0
 Resumes wsize (machines.Open m) turn old next new after = OpenResumes m turn old next new after
 Resumes wsize (machines.Read m) turn old next new after = ReadResumes m turn old next new after
 Resumes wsize (machines.Write m) turn old next new after = WriteResumes wsize m turn old next new after
@@ -191,7 +191,7 @@ Resumes wsize (machines.Truncate m) turn old next new after = TruncateResumes m 
 Resumes wsize (machines.Put m) turn old next new after = PutResumes wsize m turn old next new after
 
 -- the step at what came of the call that the step with the turn `sent` asked for
-abbrev pub Takes : ℕ → FileMachine → Turn → Turn → Result Reply Fault → Shelf → Next → FileMachine → Shelf → Type 0
+abbrev pub Takes : ℕ → FileMachine → Turn → Turn → Result Reply Fault → Shelf → Step → FileMachine → Shelf → Type 0
 Takes wsize (machines.Open m) sent turn came old next new after = OpenTakes m sent turn came old next new after
 Takes wsize (machines.Read m) sent turn came old next new after = ReadTakes m sent turn came old next new after
 Takes wsize (machines.Write m) sent turn came old next new after = WriteTakes wsize m sent turn came old next new after

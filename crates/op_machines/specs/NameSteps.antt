@@ -5,7 +5,7 @@ use Rattle.world_model.specs.declared.message.Call.{Call}
 use Rattle.world_model.specs.declared.message.Reply.{Reply}
 use Rattle.client_shelf.specs.declared.shelf.Shelf.{Shelf}
 use Rattle.client_shelf.specs.declared.turn.Turn.{Turn}
-use Rattle.client_shelf.specs.declared.next.Next.{Next}
+use Rattle.client_shelf.specs.declared.step.Step.{Step}
 use Rattle.name_ops.specs.declared.access.Access.{Access}
 use Rattle.name_ops.specs.declared.dir_change.DirChange.{DirChange}
 use Rattle.name_ops.specs.declared.link.Link.{Link}
@@ -36,32 +36,32 @@ use Rattle.op_machines.specs.declared.name_machine.NameMachine.TheVariants as ma
 -- ---- steps that no reply made possible, the first one among them
 
 -- an operation of one walk and one call
-pub record VisitGoes (call : List ℕ → Call) (v : Visit) (with_visit : Visit → NameMachine) (turn : Turn) (old : Shelf) (next : Next)
+pub record VisitGoes (call : List ℕ → Call) (v : Visit) (with_visit : Visit → NameMachine) (turn : Turn) (old : Shelf) (next : Step)
     (new : NameMachine) (after : Shelf) : Type 0 where
   pub next_is : next ≡ next_by call (visit_next v turn old)
   pub machine_is : new ≡ with_visit (visit_after v turn old)
   pub shelf_is : after ≡ visit_shelf v turn old
 
 -- one whose call carries a copy
-pub record CopyGoes (call : List ℕ → Call) (v : Visit) (with_visit : Visit → NameMachine) (turn : Turn) (old : Shelf) (next : Next)
+pub record CopyGoes (call : List ℕ → Call) (v : Visit) (with_visit : Visit → NameMachine) (turn : Turn) (old : Shelf) (next : Step)
     (new : NameMachine) (after : Shelf) : Type 0 where
   pub next_is : CopiesBy call (visit_next v turn old) next
   pub machine_is : new ≡ with_visit (visit_after v turn old)
   pub shelf_is : after ≡ visit_shelf v turn old
 
 -- one of two walks and one call
-pub record PairGoes (call : List ℕ → List ℕ → Call) (p : Pair) (with_pair : Pair → NameMachine) (turn : Turn) (old : Shelf) (next : Next)
+pub record PairGoes (call : List ℕ → List ℕ → Call) (p : Pair) (with_pair : Pair → NameMachine) (turn : Turn) (old : Shelf) (next : Step)
     (new : NameMachine) (after : Shelf) : Type 0 where
   pub next_is : next ≡ pairs.next_by call (pairs.pair_next p turn old)
   pub machine_is : new ≡ with_pair (pairs.pair_after p turn old)
   pub shelf_is : after ≡ pairs.pair_shelf p turn old
 
-pub record StatGoes (m : Stat) (turn : Turn) (old : Shelf) (next : Next) (new : NameMachine) (after : Shelf) : Type 0 where
+pub record StatGoes (m : Stat) (turn : Turn) (old : Shelf) (next : Step) (new : NameMachine) (after : Shelf) : Type 0 where
   pub next_is : next ≡ stats.stat_next m turn old
   pub machine_is : new ≡ machines.Stat (stats.stat_after m turn old)
   pub shelf_is : after ≡ stats.stat_shelf m turn old
 
-pub record RemoveGoes (m : RemoveFile) (turn : Turn) (old : Shelf) (next : Next) (new : NameMachine) (after : Shelf) : Type 0 where
+pub record RemoveGoes (m : RemoveFile) (turn : Turn) (old : Shelf) (next : Step) (new : NameMachine) (after : Shelf) : Type 0 where
   pub machine : RemoveFile
   pub machine_is : new ≡ machines.Remove machine
   pub step : removals.Resumes m.asked m turn old next machine after
@@ -88,7 +88,7 @@ rename_with m pair = machines.Rename (record m { pair = pair })
 abbrev pub link_with : Link → Pair → NameMachine
 link_with m pair = machines.Link (record m { pair = pair })
 
-abbrev pub NameGoes : NameMachine → Turn → Shelf → Next → NameMachine → Shelf → Type 0
+abbrev pub NameGoes : NameMachine → Turn → Shelf → Step → NameMachine → Shelf → Type 0
 NameGoes (machines.Change m) turn old next new after = VisitGoes (deed_call m.deed m.name) m.visit (change_with m) turn old next new after
 NameGoes (machines.Stat m) turn old next new after = StatGoes m turn old next new after
 NameGoes (machines.Access m) turn old next new after = VisitGoes (access_call m.bits) m.visit (access_with m) turn old next new after
@@ -101,61 +101,61 @@ NameGoes (machines.List m) turn old next new after = VisitGoes (page_call m.plac
 
 -- ---- the step at what came of the call that the step with the turn `sent` asked for
 
-pub record ChangeTakes (m : DirChange) (sent turn : Turn) (came : Result Reply Fault) (old : Shelf) (next : Next) (new : NameMachine)
+pub record ChangeTakes (m : DirChange) (sent turn : Turn) (came : Result Reply Fault) (old : Shelf) (next : Step) (new : NameMachine)
     (after : Shelf) : Type 0 where
   pub visit : Visit
   pub machine_is : new ≡ change_with m visit
   pub step : TakesChange m.visit.asked (deed_call m.deed m.name) (deed_told m.deed came) m.visit sent turn came old next visit after
 
-pub record StatTakes (m : Stat) (sent turn : Turn) (came : Result Reply Fault) (old : Shelf) (next : Next) (new : NameMachine)
+pub record StatTakes (m : Stat) (sent turn : Turn) (came : Result Reply Fault) (old : Shelf) (next : Step) (new : NameMachine)
     (after : Shelf) : Type 0 where
   pub machine : Stat
   pub machine_is : new ≡ machines.Stat machine
   pub step : stats.StatTakes m.asked m sent turn came old next machine after
 
-pub record AccessTakes (m : Access) (sent turn : Turn) (came : Result Reply Fault) (old : Shelf) (next : Next) (new : NameMachine)
+pub record AccessTakes (m : Access) (sent turn : Turn) (came : Result Reply Fault) (old : Shelf) (next : Step) (new : NameMachine)
     (after : Shelf) : Type 0 where
   pub visit : Visit
   pub machine_is : new ≡ access_with m visit
   pub step : TakesShow m.visit.asked (access_call m.bits) (access_attr came) (access_told came) m.visit sent turn came old next visit after
 
-pub record ReadLinkTakes (m : ReadLink) (sent turn : Turn) (came : Result Reply Fault) (old : Shelf) (next : Next) (new : NameMachine)
+pub record ReadLinkTakes (m : ReadLink) (sent turn : Turn) (came : Result Reply Fault) (old : Shelf) (next : Step) (new : NameMachine)
     (after : Shelf) : Type 0 where
   pub visit : Visit
   pub machine_is : new ≡ read_link_with m visit
   pub step : TakesText m.visit.asked m.visit sent turn came old next visit after
 
-pub record RemoveTakes (m : RemoveFile) (sent turn : Turn) (came : Result Reply Fault) (old : Shelf) (next : Next) (new : NameMachine)
+pub record RemoveTakes (m : RemoveFile) (sent turn : Turn) (came : Result Reply Fault) (old : Shelf) (next : Step) (new : NameMachine)
     (after : Shelf) : Type 0 where
   pub machine : RemoveFile
   pub machine_is : new ≡ machines.Remove machine
   pub step : removals.Takes m.deed m sent turn came old next machine after
 
-pub record RenameTakes (m : Rename) (sent turn : Turn) (came : Result Reply Fault) (old : Shelf) (next : Next) (new : NameMachine)
+pub record RenameTakes (m : Rename) (sent turn : Turn) (came : Result Reply Fault) (old : Shelf) (next : Step) (new : NameMachine)
     (after : Shelf) : Type 0 where
   pub pair : Pair
   pub machine_is : new ≡ rename_with m pair
   pub step : TakesRename m.pair.asked m sent turn came old next pair after
 
-pub record LinkTakes (m : Link) (sent turn : Turn) (came : Result Reply Fault) (old : Shelf) (next : Next) (new : NameMachine)
+pub record LinkTakes (m : Link) (sent turn : Turn) (came : Result Reply Fault) (old : Shelf) (next : Step) (new : NameMachine)
     (after : Shelf) : Type 0 where
   pub pair : Pair
   pub machine_is : new ≡ link_with m pair
   pub step : TakesLink m.pair.asked m sent turn came old next pair after
 
-pub record SymLinkTakes (m : SymLink) (sent turn : Turn) (came : Result Reply Fault) (old : Shelf) (next : Next) (new : NameMachine)
+pub record SymLinkTakes (m : SymLink) (sent turn : Turn) (came : Result Reply Fault) (old : Shelf) (next : Step) (new : NameMachine)
     (after : Shelf) : Type 0 where
   pub visit : Visit
   pub machine_is : new ≡ sym_link_with m visit
   pub step : TakesSymLink m.visit.asked m sent turn came old next visit after
 
-pub record ListTakes (m : ListDir) (sent turn : Turn) (came : Result Reply Fault) (old : Shelf) (next : Next) (new : NameMachine)
+pub record ListTakes (m : ListDir) (sent turn : Turn) (came : Result Reply Fault) (old : Shelf) (next : Step) (new : NameMachine)
     (after : Shelf) : Type 0 where
   pub machine : ListDir
   pub machine_is : new ≡ machines.List machine
   pub step : TakesList m.visit.asked m sent turn came old next machine after
 
-abbrev pub NameTakes : NameMachine → Turn → Turn → Result Reply Fault → Shelf → Next → NameMachine → Shelf → Type 0
+abbrev pub NameTakes : NameMachine → Turn → Turn → Result Reply Fault → Shelf → Step → NameMachine → Shelf → Type 0
 NameTakes (machines.Change m) sent turn came old next new after = ChangeTakes m sent turn came old next new after
 NameTakes (machines.Stat m) sent turn came old next new after = StatTakes m sent turn came old next new after
 NameTakes (machines.Access m) sent turn came old next new after = AccessTakes m sent turn came old next new after

@@ -5,7 +5,7 @@ ghost use Rattle.op_machines.specs.FileFits.{FileFits};
 ghost use Rattle.op_machines.specs.MayStep.{MayStep};
 ghost use Rattle.op_machines.specs.FileSteps.{Starts, Resumes, Takes};
 
-use client_shelf::{Came, Next, Shelf, Turn};
+use client_shelf::{Came, Shelf, Step, Turn};
 use file_ops::{CloseFile, OpenFile, PutFile, ReadFile, SyncFile, TruncateFile, WriteFile};
 use std::alloc::Global;
 
@@ -30,7 +30,7 @@ pub enum FileMachine {
 
 impl FileMachine {
     /// The first step.
-    pub fn start(&mut self, alloc: Global, wsize: u32, turn: Turn, shelf: &mut Shelf) -> Next
+    pub fn start(&mut self, alloc: Global, wsize: u32, turn: Turn, shelf: &mut Shelf) -> Step
         requires fits { FileFits self.old }
         requires may { MayStep wsize turn shelf.old }
         ensures { Starts wsize self.old turn shelf.old result self.new shelf.new }
@@ -47,7 +47,7 @@ impl FileMachine {
     }
 
     /// A step that no reply made possible.
-    pub fn resume(&mut self, alloc: Global, wsize: u32, turn: Turn, shelf: &mut Shelf) -> Next
+    pub fn resume(&mut self, alloc: Global, wsize: u32, turn: Turn, shelf: &mut Shelf) -> Step
         requires may { MayStep wsize turn shelf.old }
         ensures { Resumes wsize self.old turn shelf.old result self.new shelf.new }
     {
@@ -71,7 +71,7 @@ impl FileMachine {
         came: &Came<'_>,
         turn: Turn,
         shelf: &mut Shelf,
-    ) -> Next
+    ) -> Step
         requires fits { FileFits self.old }
         requires may { MayStep wsize turn shelf.old }
         ensures { Takes wsize self.old sent turn (reply_of came.now) shelf.old result self.new shelf.new }

@@ -8,7 +8,7 @@ ghost use Rattle.op_machines.specs.Steps.{Starts, Resumes, Takes};
 use crate::file_machine::FileMachine;
 use crate::name_machine::NameMachine;
 use crate::path_machine::PathMachine;
-use client_shelf::{Came, Next, Shelf, Turn};
+use client_shelf::{Came, Shelf, Step, Turn};
 use std::alloc::Global;
 
 /// An operation that is under way.
@@ -24,7 +24,7 @@ pub enum Machine {
 
 impl Machine {
     /// The first step.
-    pub fn start(&mut self, alloc: Global, wsize: u32, turn: Turn, shelf: &mut Shelf) -> Next
+    pub fn start(&mut self, alloc: Global, wsize: u32, turn: Turn, shelf: &mut Shelf) -> Step
         requires fits { Fits self.old }
         requires may { MayStep wsize turn shelf.old }
         ensures { Starts wsize self.old turn shelf.old result self.new shelf.new }
@@ -37,7 +37,7 @@ impl Machine {
     }
 
     /// A step that no reply made possible.
-    pub fn resume(&mut self, alloc: Global, wsize: u32, turn: Turn, shelf: &mut Shelf) -> Next
+    pub fn resume(&mut self, alloc: Global, wsize: u32, turn: Turn, shelf: &mut Shelf) -> Step
         requires may { MayStep wsize turn shelf.old }
         ensures { Resumes wsize self.old turn shelf.old result self.new shelf.new }
     {
@@ -57,7 +57,7 @@ impl Machine {
         came: &Came<'_>,
         turn: Turn,
         shelf: &mut Shelf,
-    ) -> Next
+    ) -> Step
         requires fits { Fits self.old }
         requires may { MayStep wsize turn shelf.old }
         ensures { Takes wsize self.old sent turn (reply_of came.now) shelf.old result self.new shelf.new }

@@ -3,7 +3,7 @@
 ghost use Rattle.client_shelf.specs.Coming.{reply_of};
 ghost use Rattle.op_machines.specs.NameSteps.{NameGoes, NameTakes};
 
-use client_shelf::{Came, Next, Shelf, Turn};
+use client_shelf::{Came, Shelf, Step, Turn};
 use name_ops::{Access, DirChange, Link, ListDir, ReadLink, RemoveFile, Rename, Stat, SymLink};
 use std::alloc::Global;
 
@@ -32,7 +32,7 @@ pub enum NameMachine {
 
 impl NameMachine {
     /// A step that no reply made possible, the first one among them.
-    pub fn go(&mut self, alloc: Global, turn: Turn, shelf: &mut Shelf) -> Next
+    pub fn go(&mut self, alloc: Global, turn: Turn, shelf: &mut Shelf) -> Step
         ensures { NameGoes self.old turn shelf.old result self.new shelf.new }
     {
         match self {
@@ -56,7 +56,7 @@ impl NameMachine {
         came: &Came<'_>,
         turn: Turn,
         shelf: &mut Shelf,
-    ) -> Next
+    ) -> Step
         ensures { NameTakes self.old sent turn (reply_of came.now) shelf.old result self.new shelf.new }
     {
         match self {

@@ -7,7 +7,7 @@ ghost use Rattle.op_machines.specs.FileSteps.{Resumes, Takes};
 ghost use Rattle.op_machines.specs.MayStep.{MayStep};
 ghost use Rattle.op_machines.specs.Openers.{file_of, slot_taken, begun_at, opening_in, placed};
 
-use client_shelf::{Came, Next, Shelf, Turn};
+use client_shelf::{Came, Shelf, Step, Turn};
 use file_ops::{OpenFile, Opening, PutFile, Putting};
 use nfs_types::Handle;
 use open_files::OpenFiles;
@@ -63,7 +63,7 @@ impl Opener {
         wsize: u32,
         turn: Turn,
         shelf: &mut Shelf,
-    ) -> Next
+    ) -> Step
         requires may { MayStep wsize turn shelf.old }
         ensures { Resumes wsize (file_of self.old) turn shelf.old result (file_of self.new) shelf.new }
     {
@@ -82,7 +82,7 @@ impl Opener {
         came: &Came<'_>,
         turn: Turn,
         shelf: &mut Shelf,
-    ) -> Next
+    ) -> Step
         requires fits { FileFits (file_of self.old) }
         requires may { MayStep wsize turn shelf.old }
         ensures { Takes wsize (file_of self.old) sent turn (reply_of came.now) shelf.old result (file_of self.new) shelf.new }

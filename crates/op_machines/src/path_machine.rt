@@ -8,8 +8,8 @@ ghost use Rattle.op_machines.specs.Openers.{file_of, placed};
 ghost use Rattle.op_machines.specs.PathSteps.{ThenResumes, Follows, PathResumes, StartsIf, PathStarts, PathTakes};
 
 use crate::opener::Opener;
-use client_shelf::{Came, Next, Shelf, Turn};
-use name_ops::{Walk, WalkNext};
+use client_shelf::{Came, Shelf, Step, Turn};
+use name_ops::{Walk, WalkStep};
 use nfs_types::Handle;
 use std::alloc::Global;
 use world_model::{Answer, Fault};
@@ -27,7 +27,7 @@ pub struct PathMachine {
 
 impl PathMachine {
     /// The first step. An open whose slot holds an open is refused.
-    pub fn start(&mut self, alloc: Global, wsize: u32, turn: Turn, shelf: &mut Shelf) -> Next
+    pub fn start(&mut self, alloc: Global, wsize: u32, turn: Turn, shelf: &mut Shelf) -> Step
         requires may { MayStep wsize turn shelf.old }
         ensures { PathStarts wsize self.old turn shelf.old result self.new shelf.new }
     {
@@ -43,19 +43,19 @@ impl PathMachine {
         wsize: u32,
         turn: Turn,
         shelf: &mut Shelf,
-    ) -> Next
+    ) -> Step
         requires may { MayStep wsize turn shelf.old }
         ensures { StartsIf is_taken wsize self.old turn shelf.old result self.new shelf.new }
     {
         if is_taken {
-            return Next::Done(Answer::Refused(Fault::Slot));
+            return Step::Done(Answer::Refused(Fault::Slot));
         }
         self.opener.begin_at(turn.moment - 1);
         self.resume(alloc, wsize, turn, shelf)
     }
 
     /// A step that no reply made possible.
-    pub fn resume(&mut self, alloc: Global, wsize: u32, turn: Turn, shelf: &mut Shelf) -> Next
+    pub fn resume(&mut self, alloc: Global, wsize: u32, turn: Turn, shelf: &mut Shelf) -> Step
         requires may { MayStep wsize turn shelf.old }
         ensures { PathResumes self.old.arrived wsize self.old turn shelf.old result self.new shelf.new }
     {
@@ -75,7 +75,7 @@ impl PathMachine {
         came: &Came<'_>,
         turn: Turn,
         shelf: &mut Shelf,
-    ) -> Next
+    ) -> Step
         requires fits { FileFits (file_of self.old.opener) }
         requires may { MayStep wsize turn shelf.old }
         ensures { PathTakes self.old.arrived wsize self.old sent turn (reply_of came.now) shelf.old result self.new shelf.new }
@@ -90,20 +90,20 @@ impl PathMachine {
     /// It does as its walk does, until that has come to its end.
     fn follow(
         &mut self,
-        step: WalkNext,
+        step: WalkStep,
         alloc: Global,
         wsize: u32,
         turn: Turn,
         shelf: &mut Shelf,
-    ) -> Next
+    ) -> Step
         requires may { MayStep wsize turn shelf.old }
         ensures { Follows step wsize self.old turn shelf.old result self.new shelf.new }
     {
         match step {
-            WalkNext::Send(call) => Next::Send(call),
-            WalkNext::Wait => Next::Wait,
-            WalkNext::At(dir) => self.arrive(&dir, alloc, wsize, turn, shelf),
-            WalkNext::Refused(fault) => Next::Done(Answer::Refused(fault)),
+            WalkStep::Send(call) => Step::Send(call),
+            WalkStep::Wait => Step::Wait,
+            WalkStep::At(dir) => self.arrive(&dir, alloc, wsize, turn, shelf),
+            WalkStep::Refused(fault) => Step::Done(Answer::Refused(fault)),
         }
     }
 
@@ -115,7 +115,7 @@ impl PathMachine {
         wsize: u32,
         turn: Turn,
         shelf: &mut Shelf,
-    ) -> Next
+    ) -> Step
         requires may { MayStep wsize turn shelf.old }
         ensures { ThenResumes wsize (record self.old { opener = placed dir.now self.old.opener; arrived = true }) turn shelf.old result self.new shelf.new }
     {
@@ -125,7 +125,7 @@ impl PathMachine {
     }
 
     /// Its own machine goes on.
-    fn go_on(&mut self, alloc: Global, wsize: u32, turn: Turn, shelf: &mut Shelf) -> Next
+    fn go_on(&mut self, alloc: Global, wsize: u32, turn: Turn, shelf: &mut Shelf) -> Step
         requires may { MayStep wsize turn shelf.old }
         ensures { ThenResumes wsize self.old turn shelf.old result self.new shelf.new }
     {

@@ -14,5 +14,5 @@ pub use lines::{
     first_line, four_words, is_skipped, is_utf8, next_word, one_word, three_words, two_words,
 };
 pub use numbers::{long_number, number};
-pub use paths::{path, target};
+pub use paths::{decoded, path, target};
 pub use payloads::{byte, contents, payload};

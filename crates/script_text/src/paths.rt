@@ -116,7 +116,7 @@ fn is_target(bytes: &[u8]) -> bool
 
 /// The bytes of a text in which `%` and two hex digits stand for one. None exactly where a `%` isn't followed by two hex
 /// digits.
-fn decoded(alloc: Global, text: &[u8]) -> Result<Option<Vec<u8>>, Memory>
+pub fn decoded(alloc: Global, text: &[u8]) -> Result<Option<Vec<u8>>, Memory>
     ensures { IfOk result (λ bytes. option_map (λ b. b.items) bytes ≡ decoded text.now) }
 {
     let mut bytes = Vec::new(alloc);

@@ -5,8 +5,8 @@ use Rattle.std.proofs.lemmas.Bool.{eqb-true, ltb-false, and_parts}
 use Rattle.world_model.specs.declared.answer.Answer.TheVariants as answers
 use Rattle.world_model.specs.declared.answer.Fault.{Fault}
 use Rattle.world_model.specs.declared.answer.Fault.TheVariants.{Memory}
-use Rattle.client_shelf.specs.declared.next.Next.{Next}
-use Rattle.client_shelf.specs.declared.next.Next.TheVariants.{Send, Wait, Done}
+use Rattle.client_shelf.specs.declared.step.Step.{Step}
+use Rattle.client_shelf.specs.declared.step.Step.TheVariants.{Send, Wait, Done}
 use Rattle.write_back.specs.Segments.{Segment, Segments, covers}
 use Rattle.write_back.specs.Pieces.{Sent, FilePending, flown_in}
 use Rattle.write_back.specs.Choice.{chosen, piece_of}
@@ -39,7 +39,7 @@ leads-leaves to saved next s new after l left =
     subst (λ n. Leaves (sync_next n) s new after) (sym l.gives_next) (subst (λ (z : Saving). Leaves (sync_next to) s z after) (sym l.keeps) left)
 
 -- the same of a save of the same file up to the same number
-pub leaves-as : (next : Next) (s t new : Saving) (after : Pending) → s.file ≡ t.file → s.upto ≡ t.upto → Leaves next s new after → Leaves next t new after
+pub leaves-as : (next : Step) (s t new : Saving) (after : Pending) → s.file ≡ t.file → s.upto ≡ t.upto → Leaves next s new after → Leaves next t new after
 leaves-as (Send call) s t new after file upto l = record { file = l.file ∙ file; upto = l.upto ∙ upto; so = l.so }
 leaves-as Wait s t new after file upto l = record { file = l.file ∙ file; upto = l.upto ∙ upto; so = l.so }
 leaves-as (Done (answers.Done value)) s t new after file upto l = record {

@@ -6,8 +6,8 @@ use Rattle.world_model.specs.declared.answer.Fault.{Fault}
 use Rattle.world_model.specs.declared.answer.Answer.TheVariants as answers
 use Rattle.world_model.specs.declared.message.Call.{Call}
 use Rattle.world_model.specs.declared.message.Reply.{Reply}
-use Rattle.client_shelf.specs.declared.next.Next.{Next}
-use Rattle.client_shelf.specs.declared.next.Next.TheVariants as nexts
+use Rattle.client_shelf.specs.declared.step.Step.{Step}
+use Rattle.client_shelf.specs.declared.step.Step.TheVariants as nexts
 use Rattle.client_shelf.specs.declared.shelf.Shelf.{Shelf}
 use Rattle.client_shelf.specs.declared.turn.Turn.{Turn}
 use Rattle.client_shelf.specs.LaneFiles.{is_first}
@@ -17,8 +17,8 @@ use Rattle.write_back.specs.Segments.{covers}
 use Rattle.write_back.specs.Sound.{IsSound, most_pending}
 use Rattle.write_back.proofs.Keeping.{sound-nothing}
 use Rattle.write_back.proofs.WritesByFile.{same-or}
-use Rattle.file_ops.specs.declared.opening.OpeningNext.{OpeningNext}
-use Rattle.file_ops.specs.declared.opening.OpeningNext.TheVariants as openings
+use Rattle.file_ops.specs.declared.opening.OpeningStep.{OpeningStep}
+use Rattle.file_ops.specs.declared.opening.OpeningStep.TheVariants as openings
 use Rattle.file_ops.specs.declared.put_file.PutFile.{PutFile}
 use Rattle.file_ops.specs.declared.put_file.Putting.{Putting}
 use Rattle.file_ops.specs.declared.put_file.Putting.TheVariants as putting
@@ -54,18 +54,18 @@ module _ (offset : ℕ) (bytes : List ℕ) (Wrote : List ℕ → ℕ → List �
   abbrev At : Putting → Pending → Type 0
   At state back = PutAt offset bytes Wrote Finished state back
 
-  abbrev Leaving : Next → Putting → Pending → Type 0
+  abbrev Leaving : Step → Putting → Pending → Type 0
   Leaving next state back = PutLeaves offset bytes Wrote Finished next state back
 
   abbrev EachOf : List ℕ → ℕ → Pending → Type 0
   EachOf file upto back = (place : ℕ) → covers offset (length bytes) place ≡ true → Account place (slice_index bytes (place - offset)) upto (Wrote file place) (Finished file place) (of_file file back)
 
-  leaving-is : (next to : Next) (state was : Putting) (new mid : Shelf) → next ≡ to → state ≡ was → new ≡ mid → Leaving to was mid.back → Leaving next state new.back
+  leaving-is : (next to : Step) (state was : Putting) (new mid : Shelf) → next ≡ to → state ≡ was → new ≡ mid → Leaving to was mid.back → Leaving next state new.back
   leaving-is next to state was new mid n s m l =
       subst (λ z. Leaving z state new.back) (sym n) (subst (λ z. Leaving to z new.back) (sym s) (subst (λ (z : Shelf). Leaving to was z.back) (sym m) l))
 
   -- its save goes on, or has ended
-  follows-leaves : (gives : _) (lane : ℕ) (s saved : Saving) (mid : Shelf) (next : Next) (state : Putting) (new : Shelf) → EachSound mid.back → EachOf s.file s.upto mid.back
+  follows-leaves : (gives : _) (lane : ℕ) (s saved : Saving) (mid : Shelf) (next : Step) (state : Putting) (new : Shelf) → EachSound mid.back → EachOf s.file s.upto mid.back
       → Leaves (sync_next gives) s saved mid.back → puts.Follows gives lane saved mid next state new → Leaving next state new.back
   follows-leaves gives lane s saved mid next state new sound each leaves follows =
       by-step (λ g. Leaves (sync_next g) s saved mid.back → puts.Follows g lane saved mid next state new → Leaving next state new.back)
@@ -89,7 +89,7 @@ module _ (offset : ℕ) (bytes : List ℕ) (Wrote : List ℕ → ℕ → List �
       ended (Err fault) l f = subst (λ z. Leaving z state new.back) (sym f.next_is) tt
 
   module _ (wsize lane : ℕ) (turn : Turn) (some : 1 ≤ wsize) where
-    saves-on : (s : Saving) (old : Shelf) (next : Next) (state : Putting) (new : Shelf) → ((file : List ℕ) → IsFree turn.xid file old.back) → PutSaves offset bytes Wrote Finished s old.back
+    saves-on : (s : Saving) (old : Shelf) (next : Step) (state : Putting) (new : Shelf) → ((file : List ℕ) → IsFree turn.xid file old.back) → PutSaves offset bytes Wrote Finished s old.back
         → puts.GoesOn wsize lane turn s old next state new → Leaving next state new.back
     saves-on s old next state new free has g =
         follows-leaves g.gives lane s g.saved g.gone next state new
@@ -97,13 +97,13 @@ module _ (offset : ℕ) (bytes : List ℕ) (Wrote : List ℕ → ℕ → List �
         (λ place inside. goes-known s.file place (slice_index bytes (place - offset)) s.upto (Wrote s.file place) (Finished s.file place) wsize turn.xid turn.room false s old.back g.gives g.saved g.gone.back has.sound (has.bytes_are place inside) g.goes)
         (goes-leaves wsize turn.xid turn.room false s old.back g.gives g.saved g.gone.back some (has.sound s.file) has.way g.goes) g.follows
 
-    queues-if : (b : Bool) (s : Saving) (old : Shelf) (next : Next) (state : Putting) (new : Shelf) → ((file : List ℕ) → IsFree turn.xid file old.back) → PutSaves offset bytes Wrote Finished s old.back
+    queues-if : (b : Bool) (s : Saving) (old : Shelf) (next : Step) (state : Putting) (new : Shelf) → ((file : List ℕ) → IsFree turn.xid file old.back) → PutSaves offset bytes Wrote Finished s old.back
         → puts.QueuesIf b wsize lane turn s old next state new → Leaving next state new.back
     queues-if true s old next state new free has g = saves-on s old next state new free has g
     queues-if false s old next state new free has w = leaving-is next nexts.Wait state (putting.Saves s) new old w.next_is w.state_is w.shelf_is has
 
     -- its save takes what came
-    pub takes-save : (sent : Turn) (came : Result Reply Fault) (s : Saving) (old : Shelf) (next : Next) (state : Putting) (new : Shelf) → ((file : List ℕ) → IsFree turn.xid file old.back)
+    pub takes-save : (sent : Turn) (came : Result Reply Fault) (s : Saving) (old : Shelf) (next : Step) (state : Putting) (new : Shelf) → ((file : List ℕ) → IsFree turn.xid file old.back)
         → PutSaves offset bytes Wrote Finished s old.back → IsAwaited s sent.xid old.back
         → ((place : ℕ) → covers offset (length bytes) place ≡ true → ByWrite place (slice_index bytes (place - offset)) (Wrote s.file place) (Finished s.file place) s.file old.back sent.xid s.file came)
         → ((place : ℕ) → covers offset (length bytes) place ≡ true → ByCommit (Wrote s.file place) (Finished s.file place) s.file s.file came) → puts.TakesOne wsize lane sent turn came s old next state new → Leaving next state new.back
@@ -142,14 +142,14 @@ module _ (offset : ℕ) (bytes : List ℕ) (Wrote : List ℕ → ℕ → List �
           by (inr apart) = ap (λ (of : FilePending). of.pieces) (on.others to apart ∙ empty to)
 
       -- a write that was refused refuses the put
-      refused-put : (told : Next) (fault : Fault) (mid : Shelf) (next : Next) (state : Putting) (new : Shelf) → told ≡ nexts.Done (answers.Refused fault) → puts.AfterWrite told wsize lane file turn mid next state new
+      refused-put : (told : Step) (fault : Fault) (mid : Shelf) (next : Step) (state : Putting) (new : Shelf) → told ≡ nexts.Done (answers.Refused fault) → puts.AfterWrite told wsize lane file turn mid next state new
           → Leaving next state new.back
       refused-put told fault mid next state new is after =
           let ends = subst (λ z. puts.AfterWrite z wsize lane file turn mid next state new) is after in
           subst (λ z. Leaving z state new.back) (sym ends.next_is) tt
 
       -- the room for its bytes, and what follows
-      comes-in : (b : Bool) (told : Next) (written : Writing) (mid : Shelf) (next : Next) (state : Putting) (new : Shelf) → is_full bytes old.back ≡ b
+      comes-in : (b : Bool) (told : Step) (written : Writing) (mid : Shelf) (next : Step) (state : Putting) (new : Shelf) → is_full bytes old.back ≡ b
           → writes.WritesIf b wsize lane file offset bytes turn (puts.put_at lane file old) told written mid
           → puts.AfterWrite told wsize lane file turn mid next state new → Leaving next state new.back
       comes-in true told written mid next state new full (inl oldest) after =
@@ -174,14 +174,14 @@ module _ (Wrote : List ℕ → ℕ → List ℕ → Type 0) (Finished : List ℕ
   abbrev pub Has : PutFile → Putting → Pending → Type 0
   Has m state back = PutAt m.write.offset (writes.made_bytes m.write.text) Wrote Finished state back
 
-  abbrev pub LeavesPut : PutFile → Next → Putting → Pending → Type 0
+  abbrev pub LeavesPut : PutFile → Step → Putting → Pending → Type 0
   LeavesPut m next state back = PutLeaves m.write.offset (writes.made_bytes m.write.text) Wrote Finished next state back
 
-  put-is : (m : PutFile) (next to : Next) (state was : Putting) (new mid : Shelf) → next ≡ to → state ≡ was → new ≡ mid → LeavesPut m to was mid.back → LeavesPut m next state new.back
+  put-is : (m : PutFile) (next to : Step) (state was : Putting) (new mid : Shelf) → next ≡ to → state ≡ was → new ≡ mid → LeavesPut m to was mid.back → LeavesPut m next state new.back
   put-is m next to state was new mid n s b l = leaving-is m.write.offset (writes.made_bytes m.write.text) Wrote Finished next to state was new mid n s b l
 
   -- what follows a step of its opening
-  opened : (step : OpeningNext) (m : PutFile) (old : Shelf) (next : Next) (new : PutFile) (after : Shelf) → m.state ≡ putting.Opens → IsNothing old.back → MayAdd m old
+  opened : (step : OpeningStep) (m : PutFile) (old : Shelf) (next : Step) (new : PutFile) (after : Shelf) → m.state ≡ putting.Opens → IsNothing old.back → MayAdd m old
       → puts.AfterOpening step wsize m turn old next new after → LeavesPut m next new.state after.back
   opened (openings.Send call) m old next new after opens empty may f =
       put-is m next (nexts.Send call) new.state putting.Opens after old f.0 (ap (λ (z : PutFile). z.state) f.1 ∙ opens) f.2 empty
@@ -192,13 +192,13 @@ module _ (Wrote : List ℕ → ℕ → List ℕ → Type 0) (Finished : List ℕ
       f.told f.written f.mid next new.state after refl f.writes f.goes.follows
   opened (openings.Ended (Err fault)) m old next new after opens empty may f = subst (λ z. LeavesPut m z new.state after.back) (sym f.0) tt
 
-  goes-opening : (b : Bool) (call : Call) (m : PutFile) (old : Shelf) (next : Next) (state : Putting) (new : Shelf) → IsNothing old.back
+  goes-opening : (b : Bool) (call : Call) (m : PutFile) (old : Shelf) (next : Step) (state : Putting) (new : Shelf) → IsNothing old.back
       → next ≡ goes_as (if b then openings.Wait else openings.Send call) → state ≡ putting.Opens → new ≡ old → LeavesPut m next state new.back
   goes-opening true call m old next state new empty n s b = put-is m next nexts.Wait state putting.Opens new old n s b empty
   goes-opening false call m old next state new empty n s b = put-is m next (nexts.Send call) state putting.Opens new old n s b empty
 
   -- a step without a reply
-  pub put-resumes : (state : Putting) (m : PutFile) (old : Shelf) (next : Next) (new : PutFile) (after : Shelf) → m.state ≡ state → ((file : List ℕ) → IsFree turn.xid file old.back) → Has m state old.back
+  pub put-resumes : (state : Putting) (m : PutFile) (old : Shelf) (next : Step) (new : PutFile) (after : Shelf) → m.state ≡ state → ((file : List ℕ) → IsFree turn.xid file old.back) → Has m state old.back
       → puts.Resumes state wsize m turn old next new after → LeavesPut m next new.state after.back
   put-resumes putting.Idle m old next new after is free has r =
       put-is m next nexts.Wait new.state putting.Idle after old r.next_is (ap (λ (z : PutFile). z.state) r.machine_is ∙ is) r.shelf_is has
@@ -220,7 +220,7 @@ module _ (Wrote : List ℕ → ℕ → List ℕ → Type 0) (Finished : List ℕ
       × ((place : ℕ) → covers m.write.offset (length (writes.made_bytes m.write.text)) place ≡ true → ByCommit (Wrote s.file place) (Finished s.file place) s.file s.file came)
 
   -- a step with what came of its call
-  pub put-takes : (state : Putting) (m : PutFile) (sent : Turn) (came : Result Reply Fault) (old : Shelf) (next : Next) (new : PutFile) (after : Shelf) → m.state ≡ state
+  pub put-takes : (state : Putting) (m : PutFile) (sent : Turn) (came : Result Reply Fault) (old : Shelf) (next : Step) (new : PutFile) (after : Shelf) → m.state ≡ state
       → ((file : List ℕ) → IsFree turn.xid file old.back) → MayAdd m old → Has m state old.back → SaveKnown state m sent came old.back
       → puts.Takes state wsize m sent turn came old next new after → LeavesPut m next new.state after.back
   put-takes putting.Idle m sent came old next new after is free may has known t =

@@ -1,8 +1,8 @@
 -- What becomes of the bytes of a put beside which nothing is pending (RFC 1813, sections 3.3.7 and 3.3.21).
 use Rattle.std.specs.Prelude.{◌≡◌, ◌-◌, ℕ, true, List, length, slice_index}
 use Rattle.world_model.specs.declared.answer.Answer.TheVariants as answers
-use Rattle.client_shelf.specs.declared.next.Next.{Next}
-use Rattle.client_shelf.specs.declared.next.Next.TheVariants.{Send, Wait, Done}
+use Rattle.client_shelf.specs.declared.step.Step.{Step}
+use Rattle.client_shelf.specs.declared.step.Step.TheVariants.{Send, Wait, Done}
 use Rattle.write_back.specs.Files.{Pending, of_file, IsNothing}
 use Rattle.write_back.specs.Segments.{covers}
 use Rattle.file_ops.specs.declared.put_file.Putting.{Putting}
@@ -28,7 +28,7 @@ module _ (offset : ℕ) (bytes : List ℕ) (Wrote : List ℕ → ℕ → List �
   PutAt (putting.Saves saving) back = PutSaves saving back
 
   -- it ends well only where each of its bytes left what is pending of its file for a reason
-  abbrev pub PutLeaves : Next → Putting → Pending → Type 0
+  abbrev pub PutLeaves : Step → Putting → Pending → Type 0
   PutLeaves (Send call) state back = PutAt state back
   PutLeaves Wait state back = PutAt state back
   PutLeaves (Done (answers.Done value)) state back = (file : List ℕ) × ((place : ℕ) → covers offset (length bytes) place ≡ true → Finished file place)

@@ -2,8 +2,8 @@
 use Rattle.std.specs.Prelude.{◌≡◌, ◌<◌, ◌≤◌, ℕ, true, List, [], ◌∷◌, length, Option, Some, None, IsSome, ⊤}
 use Rattle.world_model.specs.declared.answer.Answer.TheVariants as answers
 use Rattle.world_model.specs.declared.answer.Fault.{Fault}
-use Rattle.client_shelf.specs.declared.next.Next.{Next}
-use Rattle.client_shelf.specs.declared.next.Next.TheVariants.{Send, Wait, Done}
+use Rattle.client_shelf.specs.declared.step.Step.{Step}
+use Rattle.client_shelf.specs.declared.step.Step.TheVariants.{Send, Wait, Done}
 use Rattle.write_back.specs.declared.state.State.{State}
 use Rattle.write_back.specs.declared.state.State.TheVariants.{Waiting, InFlight, Acked}
 use Rattle.write_back.specs.declared.state.Ready.TheVariants.{Again}
@@ -76,7 +76,7 @@ pub record IsSaved (s : Saving) (after : Pending) : Type 0 where
   pub clear : IsClearUpTo s.upto (of_file s.file after)
 
 -- what a step leaves: it asks for a call or waits, or has ended well or with a fault
-abbrev pub Leaves : Next → Saving → Saving → Pending → Type 0
+abbrev pub Leaves : Step → Saving → Saving → Pending → Type 0
 Leaves (Send call) s new after = GoesOn s new after
 Leaves Wait s new after = GoesOn s new after
 Leaves (Done (answers.Done value)) s new after = IsSaved s after

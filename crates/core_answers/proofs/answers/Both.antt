@@ -1,18 +1,18 @@
 -- Two relations that say for which calls the operations wait hold together.
-use Rattle.core_answers.proofs.Prelude.{ℕ, Call, Next, Machine, in_flight, ExpectLaws, AskedOf, KeptOf}
-use Rattle.client_shelf.specs.declared.next.Next.TheVariants as nexts
+use Rattle.core_answers.proofs.Prelude.{ℕ, Call, Step, Machine, in_flight, ExpectLaws, AskedOf, KeptOf}
+use Rattle.client_shelf.specs.declared.step.Step.TheVariants as nexts
 use Rattle.core_facts.proofs.Expecting.{Expects, expects-starts, expects-resumes, expects-takes}
 
 module _ (E F : Machine → Call → Type 0) where
   abbrev pub Both : Machine → Call → Type 0
   Both m call = E m call × F m call
 
-  asked-both : (next : Next) (new : Machine) → AskedOf E next new → AskedOf F next new → AskedOf Both next new
+  asked-both : (next : Step) (new : Machine) → AskedOf E next new → AskedOf F next new → AskedOf Both next new
   asked-both (nexts.Send call) new a b = (a, b)
   asked-both nexts.Wait new a b = tt
   asked-both (nexts.Done answer) new a b = tt
 
-  kept-both : (others : ℕ) (old : Machine) (next : Next) (new : Machine) → KeptOf E others old next new → KeptOf F others old next new → KeptOf Both others old next new
+  kept-both : (others : ℕ) (old : Machine) (next : Step) (new : Machine) → KeptOf E others old next new → KeptOf F others old next new → KeptOf Both others old next new
   kept-both others old (nexts.Send call) new a b = λ some c e. (a some c e.0, b some c e.1)
   kept-both others old nexts.Wait new a b = λ some c e. (a some c e.0, b some c e.1)
   kept-both others old (nexts.Done answer) new a b = tt

@@ -1,7 +1,7 @@
 -- The call for which a truncate waits is the SETATTR of the size of its file.
-use Rattle.core_answers.proofs.Prelude.{◌≡◌, ◌≤◌, ◌+◌, ℕ, Bool, true, false, List, Result, Ok, Err, inl, inr, refl, sym, ap, subst, ◌∙◌, arith, if◌then◌else◌, Fault, Call, Reply, Wcc, Next, Shelf, Turn, TruncateFile, Truncating, joined, FileMachine, Machine, Starts, Resumes, Takes, of_truncating, in_flight, ExpectLaws, AskedOf, KeptOf}
+use Rattle.core_answers.proofs.Prelude.{◌≡◌, ◌≤◌, ◌+◌, ℕ, Bool, true, false, List, Result, Ok, Err, inl, inr, refl, sym, ap, subst, ◌∙◌, arith, if◌then◌else◌, Fault, Call, Reply, Wcc, Step, Shelf, Turn, TruncateFile, Truncating, joined, FileMachine, Machine, Starts, Resumes, Takes, of_truncating, in_flight, ExpectLaws, AskedOf, KeptOf}
 use Rattle.core_facts.specs.InFlight.{of_file}
-use Rattle.client_shelf.specs.declared.next.Next.TheVariants as nexts
+use Rattle.client_shelf.specs.declared.step.Step.TheVariants as nexts
 use Rattle.file_ops.specs.declared.truncate_file.Truncating.TheVariants as truncating
 use Rattle.file_ops.specs.TruncateFile as truncates
 use Rattle.op_machines.specs.declared.file_machine.FileMachine.TheVariants as files
@@ -34,8 +34,8 @@ Cuts (machines.Name m) call = Unit {0}
 abbrev CutMachine : TruncateFile → Call → Type 0
 CutMachine m call = CutAwaits m.state m.size call
 
-asked-as : (to next : Next) (new : TruncateFile) → next ≡ to → AskedOf CutMachine to new → AskedOf CutMachine next new
-asked-as to next new is a = subst (λ (n : Next). AskedOf CutMachine n new) (sym is) a
+asked-as : (to next : Step) (new : TruncateFile) → next ≡ to → AskedOf CutMachine to new → AskedOf CutMachine next new
+asked-as to next new is a = subst (λ (n : Step). AskedOf CutMachine n new) (sym is) a
 
 queued-asks : (m : TruncateFile) (file : List ℕ) (upto : ℕ) (turn : Turn) (shelf : Shelf)
     → AskedOf CutMachine (truncates.queued_next m file turn shelf) (record m { state = truncates.queued_state m file upto turn shelf })
@@ -72,7 +72,7 @@ took-asks (truncating.Asked file upto) m came sent turn repeats = by (truncates.
     by false = told-asks (truncates.size_told came) (record m { state = truncating.Idle })
 
 -- where its call has no reply it stays as it is
-resumed-stays : (m : TruncateFile) (turn : Turn) (old : Shelf) (next : Next) → KeptOf CutMachine (of_truncating m.state) m next (record m { state = truncates.resumed_state m.state m turn old })
+resumed-stays : (m : TruncateFile) (turn : Turn) (old : Shelf) (next : Step) → KeptOf CutMachine (of_truncating m.state) m next (record m { state = truncates.resumed_state m.state m turn old })
 resumed-stays m turn old next = by m.state refl
   where
     new : TruncateFile
@@ -92,29 +92,29 @@ one-cut (truncating.Asked file upto) = omega arith
 
 -- ---- any operation
 
-as-file : (next : Next) (m : TruncateFile) → AskedOf CutMachine next m → AskedOf FileCuts next (files.Truncate m)
+as-file : (next : Step) (m : TruncateFile) → AskedOf CutMachine next m → AskedOf FileCuts next (files.Truncate m)
 as-file (nexts.Send call) m a = a
 as-file nexts.Wait m a = tt
 as-file (nexts.Done answer) m a = tt
 
-kept-file : (others : ℕ) (old : TruncateFile) (next : Next) (new : TruncateFile) → KeptOf CutMachine others old next new → KeptOf FileCuts others (files.Truncate old) next (files.Truncate new)
+kept-file : (others : ℕ) (old : TruncateFile) (next : Step) (new : TruncateFile) → KeptOf CutMachine others old next new → KeptOf FileCuts others (files.Truncate old) next (files.Truncate new)
 kept-file others old (nexts.Send call) new k = k
 kept-file others old nexts.Wait new k = k
 kept-file others old (nexts.Done answer) new k = tt
 
-file-asks : (next : Next) (to new : FileMachine) → new ≡ to → AskedOf FileCuts next to → AskedOf FileCuts next new
+file-asks : (next : Step) (to new : FileMachine) → new ≡ to → AskedOf FileCuts next to → AskedOf FileCuts next new
 file-asks next to new is a = subst (λ (k : FileMachine). AskedOf FileCuts next k) (sym is) a
 
-file-kept : (others : ℕ) (old to : FileMachine) (next : Next) (new : FileMachine) → new ≡ to → KeptOf FileCuts others old next to → KeptOf FileCuts others old next new
+file-kept : (others : ℕ) (old to : FileMachine) (next : Step) (new : FileMachine) → new ≡ to → KeptOf FileCuts others old next to → KeptOf FileCuts others old next new
 file-kept others old to next new is k = subst (λ (n : FileMachine). KeptOf FileCuts others old next n) (sym is) k
 
 -- one of which nothing is said
-any-asks : (next : Next) (new : FileMachine) → ((c : Call) → FileCuts new c) → AskedOf FileCuts next new
+any-asks : (next : Step) (new : FileMachine) → ((c : Call) → FileCuts new c) → AskedOf FileCuts next new
 any-asks (nexts.Send call) new any = any call
 any-asks nexts.Wait new any = tt
 any-asks (nexts.Done answer) new any = tt
 
-any-kept : (others : ℕ) (old : FileMachine) (next : Next) (new : FileMachine) → ((c : Call) → FileCuts new c) → KeptOf FileCuts others old next new
+any-kept : (others : ℕ) (old : FileMachine) (next : Step) (new : FileMachine) → ((c : Call) → FileCuts new c) → KeptOf FileCuts others old next new
 any-kept others old (nexts.Send call) new any = λ some c e. any c
 any-kept others old nexts.Wait new any = λ some c e. any c
 any-kept others old (nexts.Done answer) new any = tt
@@ -123,19 +123,19 @@ file-any : (new to : FileMachine) → new ≡ to → ((c : Call) → FileCuts to
 file-any new to is any = subst (λ (n : FileMachine). (c : Call) → FileCuts n c) (sym is) any
 
 -- a step that leads to a machine of which nothing is said, or one of a truncate
-data Leads (others : ℕ) (old : FileMachine) (next : Next) (new : FileMachine) : Type 0 where
+data Leads (others : ℕ) (old : FileMachine) (next : Step) (new : FileMachine) : Type 0 where
   other : ((c : Call) → FileCuts new c) → Leads others old next new
   cuts : AskedOf FileCuts next new → KeptOf FileCuts others old next new → Leads others old next new
 
-leads-asked : (others : ℕ) (old : FileMachine) (next : Next) (new : FileMachine) → Leads others old next new → AskedOf FileCuts next new
+leads-asked : (others : ℕ) (old : FileMachine) (next : Step) (new : FileMachine) → Leads others old next new → AskedOf FileCuts next new
 leads-asked others old next new (other any) = any-asks next new any
 leads-asked others old next new (cuts a k) = a
 
-leads-kept : (others : ℕ) (old : FileMachine) (next : Next) (new : FileMachine) → Leads others old next new → KeptOf FileCuts others old next new
+leads-kept : (others : ℕ) (old : FileMachine) (next : Step) (new : FileMachine) → Leads others old next new → KeptOf FileCuts others old next new
 leads-kept others old next new (other any) = any-kept others old next new any
 leads-kept others old next new (cuts a k) = k
 
-file-starts : (m : FileMachine) (wsize : ℕ) (turn : Turn) (old : Shelf) (next : Next) (new : FileMachine) (after : Shelf) → steps.Starts wsize m turn old next new after → AskedOf FileCuts next new
+file-starts : (m : FileMachine) (wsize : ℕ) (turn : Turn) (old : Shelf) (next : Step) (new : FileMachine) (after : Shelf) → steps.Starts wsize m turn old next new after → AskedOf FileCuts next new
 file-starts (files.Open m) wsize turn old next new after s = any-asks next new (file-any new _ s.machine_is (λ c. tt))
 file-starts (files.Read m) wsize turn old next new after s = any-asks next new (file-any new (files.Read s.machine) s.machine_is (λ c. tt))
 file-starts (files.Write m) wsize turn old next new after s = any-asks next new (file-any new (files.Write s.machine) s.machine_is (λ c. tt))
@@ -147,7 +147,7 @@ file-starts (files.Truncate m) wsize turn old next new after s =
     file-asks next (files.Truncate to) new s.machine_is
     (as-file next to (asked-as (truncates.started_next m turn old) next to s.next_is (begun-asks (truncates.found_file m old) m turn old)))
 
-file-resumes : (m : FileMachine) (wsize : ℕ) (turn : Turn) (old : Shelf) (next : Next) (new : FileMachine) (after : Shelf) → steps.Resumes wsize m turn old next new after
+file-resumes : (m : FileMachine) (wsize : ℕ) (turn : Turn) (old : Shelf) (next : Step) (new : FileMachine) (after : Shelf) → steps.Resumes wsize m turn old next new after
     → Leads (of_file m) m next new
 file-resumes (files.Open m) wsize turn old next new after s = other (file-any new _ s.machine_is (λ c. tt))
 file-resumes (files.Read m) wsize turn old next new after s = other (file-any new (files.Read s.machine) s.machine_is (λ c. tt))
@@ -161,7 +161,7 @@ file-resumes (files.Truncate m) wsize turn old next new after s =
     (file-asks next (files.Truncate to) new s.machine_is (as-file next to (asked-as (truncates.resumed_next m.state m turn old) next to s.next_is (resumed-asks m.state m turn old))))
     (file-kept (of_truncating m.state) (files.Truncate m) (files.Truncate to) next new s.machine_is (kept-file (of_truncating m.state) m next to (resumed-stays m turn old next)))
 
-file-takes : (m : FileMachine) (wsize : ℕ) (sent turn : Turn) (came : Result Reply Fault) (old : Shelf) (next : Next) (new : FileMachine) (after : Shelf) (others : ℕ) → of_file m ≡ others + 1
+file-takes : (m : FileMachine) (wsize : ℕ) (sent turn : Turn) (came : Result Reply Fault) (old : Shelf) (next : Step) (new : FileMachine) (after : Shelf) (others : ℕ) → of_file m ≡ others + 1
     → steps.Takes wsize m sent turn came old next new after → Leads others m next new
 file-takes (files.Open m) wsize sent turn came old next new after others one s = other (file-any new _ s.machine_is (λ c. tt))
 file-takes (files.Read m) wsize sent turn came old next new after others one s = other (file-any new (files.Read s.machine) s.machine_is (λ c. tt))
@@ -178,29 +178,29 @@ file-takes (files.Truncate m) wsize sent turn came old next new after others one
 
 -- ---- the laws
 
-to-machine : (next : Next) (file : FileMachine) (new : Machine) → new ≡ machines.File file → AskedOf FileCuts next file → AskedOf Cuts next new
+to-machine : (next : Step) (file : FileMachine) (new : Machine) → new ≡ machines.File file → AskedOf FileCuts next file → AskedOf Cuts next new
 to-machine next file new is a = subst (λ (k : Machine). AskedOf Cuts next k) (sym is) (by next a)
   where
-    by : (n : Next) → AskedOf FileCuts n file → AskedOf Cuts n (machines.File file)
+    by : (n : Step) → AskedOf FileCuts n file → AskedOf Cuts n (machines.File file)
     by (nexts.Send call) b = b
     by nexts.Wait b = tt
     by (nexts.Done answer) b = tt
 
-to-kept : (others : ℕ) (old : FileMachine) (next : Next) (file : FileMachine) (new : Machine) → new ≡ machines.File file → KeptOf FileCuts others old next file
+to-kept : (others : ℕ) (old : FileMachine) (next : Step) (file : FileMachine) (new : Machine) → new ≡ machines.File file → KeptOf FileCuts others old next file
     → KeptOf Cuts others (machines.File old) next new
 to-kept others old next file new is k = subst (λ (m : Machine). KeptOf Cuts others (machines.File old) next m) (sym is) (by next k)
   where
-    by : (n : Next) → KeptOf FileCuts others old n file → KeptOf Cuts others (machines.File old) n (machines.File file)
+    by : (n : Step) → KeptOf FileCuts others old n file → KeptOf Cuts others (machines.File old) n (machines.File file)
     by (nexts.Send call) b = b
     by nexts.Wait b = b
     by (nexts.Done answer) b = tt
 
-plain-asks : (next : Next) (new : Machine) → ((c : Call) → Cuts new c) → AskedOf Cuts next new
+plain-asks : (next : Step) (new : Machine) → ((c : Call) → Cuts new c) → AskedOf Cuts next new
 plain-asks (nexts.Send call) new any = any call
 plain-asks nexts.Wait new any = tt
 plain-asks (nexts.Done answer) new any = tt
 
-plain-kept : (others : ℕ) (old : Machine) (next : Next) (new : Machine) → ((c : Call) → Cuts new c) → KeptOf Cuts others old next new
+plain-kept : (others : ℕ) (old : Machine) (next : Step) (new : Machine) → ((c : Call) → Cuts new c) → KeptOf Cuts others old next new
 plain-kept others old (nexts.Send call) new any = λ some c e. any c
 plain-kept others old nexts.Wait new any = λ some c e. any c
 plain-kept others old (nexts.Done answer) new any = tt
@@ -208,12 +208,12 @@ plain-kept others old (nexts.Done answer) new any = tt
 plain-any : (new to : Machine) → new ≡ to → ((c : Call) → Cuts to c) → (c : Call) → Cuts new c
 plain-any new to is any = subst (λ (n : Machine). (c : Call) → Cuts n c) (sym is) any
 
-cuts-starts : (m : Machine) (wsize : ℕ) (turn : Turn) (old : Shelf) (next : Next) (new : Machine) (after : Shelf) → Starts wsize m turn old next new after → AskedOf Cuts next new
+cuts-starts : (m : Machine) (wsize : ℕ) (turn : Turn) (old : Shelf) (next : Step) (new : Machine) (after : Shelf) → Starts wsize m turn old next new after → AskedOf Cuts next new
 cuts-starts (machines.File m) wsize turn old next new after s = to-machine next s.machine new s.machine_is (file-starts m wsize turn old next s.machine after s.step)
 cuts-starts (machines.Path m) wsize turn old next new after s = plain-asks next new (plain-any new (machines.Path s.machine) s.machine_is (λ c. tt))
 cuts-starts (machines.Name m) wsize turn old next new after s = plain-asks next new (plain-any new (machines.Name s.machine) s.machine_is (λ c. tt))
 
-cuts-resumes : (m : Machine) (wsize : ℕ) (turn : Turn) (old : Shelf) (next : Next) (new : Machine) (after : Shelf) → Resumes wsize m turn old next new after
+cuts-resumes : (m : Machine) (wsize : ℕ) (turn : Turn) (old : Shelf) (next : Step) (new : Machine) (after : Shelf) → Resumes wsize m turn old next new after
     → AskedOf Cuts next new × KeptOf Cuts (in_flight m) m next new
 cuts-resumes (machines.File m) wsize turn old next new after s =
     let l = file-resumes m wsize turn old next s.machine after s.step in (
@@ -225,7 +225,7 @@ cuts-resumes (machines.Path m) wsize turn old next new after s =
 cuts-resumes (machines.Name m) wsize turn old next new after s =
     let any = plain-any new (machines.Name s.machine) s.machine_is (λ c. tt) in (plain-asks next new any, plain-kept (in_flight (machines.Name m)) (machines.Name m) next new any)
 
-cuts-takes : (m : Machine) (wsize : ℕ) (sent turn : Turn) (came : Result Reply Fault) (old : Shelf) (next : Next) (new : Machine) (after : Shelf) (others : ℕ) → in_flight m ≡ others + 1
+cuts-takes : (m : Machine) (wsize : ℕ) (sent turn : Turn) (came : Result Reply Fault) (old : Shelf) (next : Step) (new : Machine) (after : Shelf) (others : ℕ) → in_flight m ≡ others + 1
     → Takes wsize m sent turn came old next new after → AskedOf Cuts next new × KeptOf Cuts others m next new
 cuts-takes (machines.File m) wsize sent turn came old next new after others one s =
     let l = file-takes m wsize sent turn came old next s.machine after others one s.step in (

@@ -1,5 +1,5 @@
 -- A truncate goes well only with the reply to SETATTR of the size of the file that its slot holds.
-use Rattle.core_answers.proofs.Prelude.{◌≡◌, ℕ, Bool, true, false, List, [], ◌∷◌, ◌++◌, length, Option, Some, None, Result, Ok, Err, refl, sym, ap, subst, ◌∙◌, if◌then◌else◌, Mode, Wcc, FileKept, Opened, Answer, Fault, Value, Entry, Began, Call, Reply, Op, Modes, EndsWith, Next, Shelf, Turn, TruncateFile, Truncating, in_mode, of_open, joined, Mounted, Machine, machine_of, Starts, Resumes, Takes, State, Busy, Over, Setup, begins-unbegun, Held, held-later, always-later, held-begins, Given, is-given, ends-later, ends-until, ThenOf, IsQuiet, AsksFor}
+use Rattle.core_answers.proofs.Prelude.{◌≡◌, ℕ, Bool, true, false, List, [], ◌∷◌, ◌++◌, length, Option, Some, None, Result, Ok, Err, refl, sym, ap, subst, ◌∙◌, if◌then◌else◌, Mode, Wcc, FileKept, Opened, Answer, Fault, Value, Entry, Began, Call, Reply, Op, Modes, EndsWith, Step, Shelf, Turn, TruncateFile, Truncating, in_mode, of_open, joined, Mounted, Machine, machine_of, Starts, Resumes, Takes, State, Busy, Over, Setup, begins-unbegun, Held, held-later, always-later, held-begins, Given, is-given, ends-later, ends-until, ThenOf, IsQuiet, AsksFor}
 use Rattle.std.specs.FinMap as finite
 use Rattle.nfs_types.specs.declared.mode.Mode.TheVariants as modes
 use Rattle.nfs_file_calls.specs.declared.owned.FileKept.TheVariants as kept
@@ -12,7 +12,7 @@ use Rattle.claims.specs.Asks as asks
 use Rattle.claims.specs.OkRows.{OkRow}
 use Rattle.claims.specs.Rights.{can_write}
 use Rattle.claims.specs.Slots.{InSlot}
-use Rattle.client_shelf.specs.declared.next.Next.TheVariants as nexts
+use Rattle.client_shelf.specs.declared.step.Step.TheVariants as nexts
 use Rattle.file_ops.specs.declared.truncate_file.Truncating.TheVariants as truncating
 use Rattle.file_ops.specs.TruncateFile as truncates
 use Rattle.op_machines.specs.declared.file_machine.FileMachine.TheVariants as files
@@ -78,14 +78,14 @@ module _ (m : Modes) (h : List Entry) (x : ℕ) (op : Op) (size : ℕ) where
   CutAnswer (answers.Done value) = CutEnds value
   CutAnswer (answers.Refused fault) = Unit {0}
 
-  abbrev pub Then : Next → Machine → Type 0
+  abbrev pub Then : Step → Machine → Type 0
   Then next new = ThenOf CutRuns CutAnswer next new
 
-  then-to : (to next : Next) (at new : Machine) → next ≡ to → new ≡ at → Then to at → Then next new
-  then-to to next at new is same t = subst (λ (n : Next). Then n new) (sym is) (subst (Then to) (sym same) t)
+  then-to : (to next : Step) (at new : Machine) → next ≡ to → new ≡ at → Then to at → Then next new
+  then-to to next at new is same t = subst (λ (n : Step). Then n new) (sym is) (subst (Then to) (sym same) t)
 
-  refused-then : (fault : Fault) (next : Next) (new : Machine) → next ≡ nexts.Done (answers.Refused fault) → Then next new
-  refused-then fault next new is = subst (λ (n : Next). Then n new) (sym is) tt
+  refused-then : (fault : Fault) (next : Step) (new : Machine) → next ≡ nexts.Done (answers.Refused fault) → Then next new
+  refused-then fault next new is = subst (λ (n : Step). Then n new) (sym is) tt
 
   runs : (held : Held m h x op) (t : TruncateFile) → t.size ≡ size → CutsFile t.state held.o.file → CutRuns (machines.File (files.Truncate t))
   runs held t size_is cuts = record { held = held; t = t; is = refl; size_is = size_is; cuts = cuts }
@@ -135,7 +135,7 @@ module _ (m : Modes) (h : List Entry) (x : ℕ) (op : Op) (size : ℕ) where
 
 -- ---- each step
 
-begins-at : (m : Modes) (h : List Entry) (lane line slot size : ℕ) (at : Option Opened) (wsize : ℕ) (t : TruncateFile) (turn : Turn) (old : Shelf) (next : Next) (new : Machine) → Given m h lane old
+begins-at : (m : Modes) (h : List Entry) (lane line slot size : ℕ) (at : Option Opened) (wsize : ℕ) (t : TruncateFile) (turn : Turn) (old : Shelf) (next : Step) (new : Machine) → Given m h lane old
     → finite.get old.opens (lane, slot) ≡ at → t.size ≡ size → next ≡ truncates.begun_next (of_open at) t turn old
     → new ≡ machines.File (files.Truncate (record t { state = truncates.begun_state (of_open at) t turn old }))
     → Then m (h ++ Began lane line (ops.Truncate slot size) ∷ []) (length h) (ops.Truncate slot size) size next new
@@ -153,14 +153,14 @@ begins-at m h lane line slot size at wsize t turn old next new given there size_
         (machines.File (files.Truncate (record t { state = truncates.begun_state (of_open at) t turn old }))) new is same
         (begun-then m later (length h) (ops.Truncate slot size) size (of_open at) held t turn old found size_is)
 
-cut-begins : (m : Modes) (mounted : Mounted) (h : List Entry) (lane line slot size wsize : ℕ) (turn : Turn) (old : Shelf) (next : Next) (new : Machine) (after : Shelf) → Given m h lane old
+cut-begins : (m : Modes) (mounted : Mounted) (h : List Entry) (lane line slot size wsize : ℕ) (turn : Turn) (old : Shelf) (next : Step) (new : Machine) (after : Shelf) → Given m h lane old
     → Starts wsize (machine_of mounted lane (ops.Truncate slot size)) turn old next new after
     → Then m (h ++ Began lane line (ops.Truncate slot size) ∷ []) (length h) (ops.Truncate slot size) size next new
 cut-begins m mounted h lane line slot size wsize turn old next new after given s =
     begins-at m h lane line slot size (finite.get old.opens (lane, slot)) wsize (record { lane = lane; slot = slot; size = size; state = truncating.Idle }) turn old next new given refl refl
     s.step.next_is (s.machine_is ∙ ap machines.File s.step.machine_is)
 
-cut-goes-on : (m : Modes) (h : List Entry) (x : ℕ) (op : Op) (size : ℕ) (machine : Machine) (wsize : ℕ) (turn : Turn) (old : Shelf) (next : Next) (new : Machine) (after : Shelf)
+cut-goes-on : (m : Modes) (h : List Entry) (x : ℕ) (op : Op) (size : ℕ) (machine : Machine) (wsize : ℕ) (turn : Turn) (old : Shelf) (next : Step) (new : Machine) (after : Shelf)
     → CutRuns m h x op size machine → Resumes wsize machine turn old next new after → Then m h x op size next new
 cut-goes-on m h x op size machine wsize turn old next new after k r = by (subst (λ (n : Machine). Resumes wsize n turn old next new after) k.is r)
   where
@@ -168,7 +168,7 @@ cut-goes-on m h x op size machine wsize turn old next new after k r = by (subst 
     by s = then-to m h x op size (truncates.resumed_next k.t.state k.t turn old) next _ new s.step.next_is (s.machine_is ∙ ap machines.File s.step.machine_is)
         (resumed-then m h x op size k.t.state k.held k.t turn old k.size_is k.cuts)
 
-cut-hears : (m : Modes) (h : List Entry) (x : ℕ) (op : Op) (size : ℕ) (machine : Machine) (wsize : ℕ) (sent turn : Turn) (came : Result Reply Fault) (old : Shelf) (next : Next) (new : Machine)
+cut-hears : (m : Modes) (h : List Entry) (x : ℕ) (op : Op) (size : ℕ) (machine : Machine) (wsize : ℕ) (sent turn : Turn) (came : Result Reply Fault) (old : Shelf) (next : Step) (new : Machine)
     (after : Shelf) (call : Call) → CutRuns m h x op size machine → Cuts machine call → ((reply : Reply) → came ≡ Ok reply → EndsWith h x (length h) call reply)
     → Takes wsize machine sent turn came old next new after → Then m h x op size next new
 cut-hears m h x op size machine wsize sent turn came old next new after call k awaits heard t =
@@ -196,12 +196,12 @@ NoShelf h shelf = Unit {0}
 abbrev NoSeen : List Entry → Turn → Call → Shelf → Type 0
 NoSeen h sent call shelf = Unit {0}
 
-asks-none : (h : List Entry) (x : ℕ) (op : Op) (next : Next) → AsksFor (NoWait h x op) next
+asks-none : (h : List Entry) (x : ℕ) (op : Op) (next : Step) → AsksFor (NoWait h x op) next
 asks-none h x op (nexts.Send call) = tt
 asks-none h x op nexts.Wait = tt
 asks-none h x op (nexts.Done answer) = tt
 
-for-cut : (m : Modes) (h : List Entry) (x : ℕ) (op : Op) (next : Next) (new : Machine) → ((slot size : ℕ) → op ≡ ops.Truncate slot size → Then m h x op size next new)
+for-cut : (m : Modes) (h : List Entry) (x : ℕ) (op : Op) (next : Step) (new : Machine) → ((slot size : ℕ) → op ≡ ops.Truncate slot size → Then m h x op size next new)
     → ThenOf (λ k. Story m h x op (Busy k)) (λ a. Story m h x op (Over a)) next new
 for-cut m h x op (nexts.Send call) new t = t
 for-cut m h x op nexts.Wait new t = t

@@ -1,5 +1,5 @@
 -- A list is refused for too many names only where its pages hold them.
-use Rattle.core_answers.proofs.Prelude.{◌≡◌, ◌<◌, ◌≤◌, ◌+◌, ◌-◌, ℕ, zero, suc, Bool, true, false, List, [], ◌∷◌, ◌++◌, length, take, filter, map, Option, None, Result, Ok, Err, inl, inr, refl, sym, ap, subst, ◌∙◌, arith, if◌then◌else◌, All-nil, filter-append, map-append, length-append, nat_tests, Attr, Verf, DirKept, PlusRow, Step, More, End, ListFault, listing_limit, last_cookie, page_step, Answer, Fault, Entry, Began, Call, Reply, Op, LastCookie, names_of, list_call, page_reply, Asked, Rooted, EndsWith, RefusalRow, Terms, IsDelivered, Asked-grow, Asked-wide, Rooted-wide, length_last, goes_again, fails_busy, Next, Shelf, Turn, ListDir, Visit, VisitNext, Walk, Mounted, Machine, machine_of, Starts, Resumes, Takes, State, Busy, Over, Setup, Awaits, awaits-laws, begins-unbegun, OwnOr, all-starts, all-resumes, all-takes, IsNameTold, NamesTold, names-later, LeadsTo, leads-from, leads-later, IsHeard, heard-tells, then-as, VisitStory, ends-later, ends-until, ThenOf, IsTold, TaleLaws, IsQuiet, AsksFor}
+use Rattle.core_answers.proofs.Prelude.{◌≡◌, ◌<◌, ◌≤◌, ◌+◌, ◌-◌, ℕ, zero, suc, Bool, true, false, List, [], ◌∷◌, ◌++◌, length, take, filter, map, Option, None, Result, Ok, Err, inl, inr, refl, sym, ap, subst, ◌∙◌, arith, if◌then◌else◌, All-nil, filter-append, map-append, length-append, nat_tests, Attr, Verf, DirKept, PlusRow, ListStep, More, End, ListFault, listing_limit, last_cookie, page_step, Answer, Fault, Entry, Began, Call, Reply, Op, LastCookie, names_of, list_call, page_reply, Asked, Rooted, EndsWith, RefusalRow, Terms, IsDelivered, Asked-grow, Asked-wide, Rooted-wide, length_last, goes_again, fails_busy, Step, Shelf, Turn, ListDir, Visit, VisitStep, Walk, Mounted, Machine, machine_of, Starts, Resumes, Takes, State, Busy, Over, Setup, Awaits, awaits-laws, begins-unbegun, OwnOr, all-starts, all-resumes, all-takes, IsNameTold, NamesTold, names-later, LeadsTo, leads-from, leads-later, IsHeard, heard-tells, then-as, VisitStory, ends-later, ends-until, ThenOf, IsTold, TaleLaws, IsQuiet, AsksFor}
 use Rattle.std.proofs.Common.{nat_lt}
 use Rattle.dir_list.specs.Listings.{counts, counted}
 use Rattle.world_model.specs.Chains.{Chain, start, next}
@@ -14,9 +14,9 @@ use Rattle.world_model.specs.declared.message.Reply.TheVariants as replies
 use Rattle.world_model.specs.declared.op.Op.TheVariants as ops
 use Rattle.world_model.specs.Leads as leading
 use Rattle.claims.specs.OkRows.{most_names}
-use Rattle.client_shelf.specs.declared.next.Next.TheVariants as nexts
-use Rattle.name_ops.specs.declared.visit.VisitNext.TheVariants as visits
-use Rattle.name_ops.specs.declared.walk.WalkNext.TheVariants as walks
+use Rattle.client_shelf.specs.declared.step.Step.TheVariants as nexts
+use Rattle.name_ops.specs.declared.visit.VisitStep.TheVariants as visits
+use Rattle.name_ops.specs.declared.walk.WalkStep.TheVariants as walks
 use Rattle.name_ops.specs.ListDir as listing
 use Rattle.name_ops.specs.Visiting as visiting
 use Rattle.name_ops.specs.Walking as walking
@@ -84,7 +84,7 @@ is-more before [] verf false cookie with_ is = absurd (cc)
 is-more before (row ∷ rows) verf eof cookie with_ is = by (nat_lt listing_limit (length before + length (counted (row ∷ rows)))) eof refl is
   where
     by : (b e : Bool) → nat_lt listing_limit (length before + length (counted (row ∷ rows))) ≡ b
-        → ◌≡◌ {A = Result Step ListFault} (if b then Err list_faults.Many else if e then Ok End else Ok (More (last_cookie row rows) verf)) (Ok (More cookie with_))
+        → ◌≡◌ {A = Result ListStep ListFault} (if b then Err list_faults.Many else if e then Ok End else Ok (More (last_cookie row rows) verf)) (Ok (More cookie with_))
         → IsMore before (row ∷ rows) verf cookie with_
     by true e lt same = absurd (cc)
     by false true lt same = absurd (cc)
@@ -102,7 +102,7 @@ is-many before [] verf false is = absurd (cc)
 is-many before (row ∷ rows) verf eof is = by (nat_lt listing_limit (length before + length (counted (row ∷ rows)))) eof refl is
   where
     by : (b e : Bool) → nat_lt listing_limit (length before + length (counted (row ∷ rows))) ≡ b
-        → ◌≡◌ {A = Result Step ListFault} (if b then Err list_faults.Many else if e then Ok End else Ok (More (last_cookie row rows) verf)) (Err list_faults.Many)
+        → ◌≡◌ {A = Result ListStep ListFault} (if b then Err list_faults.Many else if e then Ok End else Ok (More (last_cookie row rows) verf)) (Err list_faults.Many)
         → listing_limit < length before + length (counted (row ∷ rows))
     by true e lt same = grind (arith, nat_tests)
     by false true lt same = absurd (cc)
@@ -208,19 +208,19 @@ module _ (top : List ℕ) (terms : Terms) where
     other : (fault : Fault) → NotMany fault → ManyAnswer h x path (answers.Refused fault)
     other fault n = λ is. absurd (subst NotMany is n)
 
-    abbrev pub Steps : Next → Machine → Type 0
+    abbrev pub Steps : Step → Machine → Type 0
     Steps next_is new = ThenOf (ListRuns top terms h x path) (ManyAnswer h x path) next_is new
 
     -- ---- its walk
 
     -- a step that refuses does so for another reason
-    abbrev OtherNext : Next → Type 0
+    abbrev OtherNext : Step → Type 0
     OtherNext (nexts.Send call) = Unit {0}
     OtherNext nexts.Wait = Unit {0}
     OtherNext (nexts.Done (answers.Done value)) = Unit {0}
     OtherNext (nexts.Done (answers.Refused fault)) = NotMany fault
 
-    other-by : (own : List ℕ → Call) (step : VisitNext) (next_is : Next) → next_is ≡ visiting.next_by own step → FineVisit NotMany step → OtherNext next_is
+    other-by : (own : List ℕ → Call) (step : VisitStep) (next_is : Step) → next_is ≡ visiting.next_by own step → FineVisit NotMany step → OtherNext next_is
     other-by own (visits.Look call) next_is is f = subst OtherNext (sym is) tt
     other-by own visits.Wait next_is is f = subst OtherNext (sym is) tt
     other-by own (visits.Ask object) next_is is f = subst OtherNext (sym is) tt
@@ -229,7 +229,7 @@ module _ (top : List ℕ) (terms : Terms) where
     abbrev Any : Answer → Type 0
     Any answer = Unit {0}
 
-    on-visit : (next_is : Next) (m : ListDir) (visit : Visit) (new : Machine) → new ≡ machines.Name (names.List (record m { visit = visit })) → Stage top terms h x path (record m { visit = visit })
+    on-visit : (next_is : Step) (m : ListDir) (visit : Visit) (new : Machine) → new ≡ machines.Name (names.List (record m { visit = visit })) → Stage top terms h x path (record m { visit = visit })
         → OtherNext next_is → ThenOf (VisitStory top h path) Any next_is visit → Steps next_is new
     on-visit (nexts.Send call) m visit new is s o t = record { m = record m { visit = visit }; is = is; visit = t; stage = s }
     on-visit nexts.Wait m visit new is s o t = record { m = record m { visit = visit }; is = is; visit = t; stage = s }
@@ -249,7 +249,7 @@ module _ (top : List ℕ) (terms : Terms) where
           few = l.few;
         })
 
-    goes : (machine : Machine) (wsize : ℕ) (turn : Turn) (old : Shelf) (next_is : Next) (new : Machine) (after : Shelf) → NamesTold h old.names → ListRuns top terms h x path machine
+    goes : (machine : Machine) (wsize : ℕ) (turn : Turn) (old : Shelf) (next_is : Step) (new : Machine) (after : Shelf) → NamesTold h old.names → ListRuns top terms h x path machine
         → Resumes wsize machine turn old next_is new after → Steps next_is new
     goes machine wsize turn old next_is new after t k r =
         let g = subst (λ (n : Machine). Resumes wsize n turn old next_is new after) k.is r in
@@ -276,7 +276,7 @@ module _ (top : List ℕ) (terms : Terms) where
     abbrev PageTold : Result Reply Fault → ListDir → Type 0
     PageTold came m = (reply : Reply) → came ≡ Ok reply → IsLastReply h x (list_call m.visit.walk.spot.dir m.place.cookie m.place.verf) reply
 
-    more-then : (next_is : Next) (room : Bool) (m : ListDir) (place : _) (visit : VisitStory top h path m.visit) → (done : walking.next_name m.visit.walk ≡ None)
+    more-then : (next_is : Step) (room : Bool) (m : ListDir) (place : _) (visit : VisitStory top h path m.visit) → (done : walking.next_name m.visit.walk ≡ None)
         → IsListing top terms h x path (record m { place = place }) → (to : ListDir) → to ≡ listing.more_after place room m → next_is ≡ listing.more_next place room m
         → Steps next_is (machines.Name (names.List to))
     more-then next_is room m place visit done l to is at =
@@ -318,7 +318,7 @@ module _ (top : List ℕ) (terms : Terms) where
           (let both = length-append m.listing (counted page) in omega (arith, both, many)));
     }
 
-    page-then : (step : Result Step ListFault) (heard : _) (came : Result Reply Fault) (room : Bool) (m : ListDir) (next_is : Next) (to : ListDir) → VisitStory top h path m.visit
+    page-then : (step : Result ListStep ListFault) (heard : _) (came : Result Reply Fault) (room : Bool) (m : ListDir) (next_is : Step) (to : ListDir) → VisitStory top h path m.visit
         → IsListing top terms h x path m → LeadsTo top h path m.visit.walk.spot.dir → PageTold came m → listing.TakesStep step heard room m next_is to
         → IsPage came heard.verf heard.page heard.eof → page_step m.listing heard.page heard.verf heard.eof ≡ step → Steps next_is (machines.Name (names.List to))
     page-then (Ok (More cookie verf)) heard came room m next_is to visit l leads told t page is =
@@ -345,7 +345,7 @@ module _ (top : List ℕ) (terms : Terms) where
     page-then (Err list_faults.Memory) heard came room m next_is to visit l leads told t page is =
         then-as (ListRuns top terms h x path) (ManyAnswer h x path) (nexts.Done (answers.Refused faults.Memory)) next_is (machines.Name (names.List to)) t.0 (other faults.Memory tt)
 
-    list-then : (told : Result _ Fault) (again : Bool) (came : Result Reply Fault) (room : Bool) (m : ListDir) (next_is : Next) (to : ListDir) → VisitStory top h path m.visit
+    list-then : (told : Result _ Fault) (again : Bool) (came : Result Reply Fault) (room : Bool) (m : ListDir) (next_is : Step) (to : ListDir) → VisitStory top h path m.visit
         → IsListing top terms h x path m → LeadsTo top h path m.visit.walk.spot.dir → PageTold came m → ((f : Fault) → came ≡ Err f → NotMany f) → listing.page_heard came ≡ told
         → Stage top terms h x path m → listing.Follows told again room m next_is to → Steps next_is (machines.Name (names.List to))
     list-then (Ok heard) again came room m next_is to visit l leads told fine is s (inl f) =
@@ -359,7 +359,7 @@ module _ (top : List ℕ) (terms : Terms) where
         by true = record { m = m; is = ap (λ (k : ListDir). machines.Name (names.List k)) f.1; visit = visit; stage = s }
         by false = other fault (heard-not came fault fine is)
 
-    takes-list : (asked : Bool) (m : ListDir) (sent turn : Turn) (came : Result Reply Fault) (old : Shelf) (next_is : Next) (to : ListDir) (after : Shelf) (call : Call) → m.visit.asked ≡ asked
+    takes-list : (asked : Bool) (m : ListDir) (sent turn : Turn) (came : Result Reply Fault) (old : Shelf) (next_is : Step) (to : ListDir) (after : Shelf) (call : Call) → m.visit.asked ≡ asked
         → NamesTold h old.names → VisitStory top h path m.visit → Stage top terms h x path m → OwnOr asked (listing.page_call m.place) m.visit.walk call → IsHeard top h came call
         → ((reply : Reply) → came ≡ Ok reply → IsLastReply h x call reply) → ((f : Fault) → came ≡ Err f → NotMany f) → listing.TakesList asked m sent turn came old next_is to after
         → Steps next_is (machines.Name (names.List to))
@@ -420,18 +420,18 @@ module _ (m : Mounted) (terms : Terms) where
   abbrev Shelved : List Entry → Shelf → Type 0
   Shelved h shelf = NamesTold h shelf.names
 
-  asks-none : (h : List Entry) (x : ℕ) (op : Op) (next_is : Next) → AsksFor (NoWait h x op) next_is
+  asks-none : (h : List Entry) (x : ℕ) (op : Op) (next_is : Step) → AsksFor (NoWait h x op) next_is
   asks-none h x op (nexts.Send call) = tt
   asks-none h x op nexts.Wait = tt
   asks-none h x op (nexts.Done answer) = tt
 
-  for-list : (h : List Entry) (x : ℕ) (op : Op) (next_is : Next) (new : Machine) → ((path : List (List ℕ)) → op ≡ ops.List path → Steps m.root terms h x path next_is new)
+  for-list : (h : List Entry) (x : ℕ) (op : Op) (next_is : Step) (new : Machine) → ((path : List (List ℕ)) → op ≡ ops.List path → Steps m.root terms h x path next_is new)
       → ThenOf (λ k. Story h x op (Busy k)) (λ a. Story h x op (Over a)) next_is new
   for-list h x op (nexts.Send call) new t = t
   for-list h x op nexts.Wait new t = t
   for-list h x op (nexts.Done answer) new t = t
 
-  step-as : (h : List Entry) (x : ℕ) (path : List (List ℕ)) (next_is : Next) (to new : Machine) → new ≡ to → Steps m.root terms h x path next_is to → Steps m.root terms h x path next_is new
+  step-as : (h : List Entry) (x : ℕ) (path : List (List ℕ)) (next_is : Step) (to new : Machine) → new ≡ to → Steps m.root terms h x path next_is to → Steps m.root terms h x path next_is new
   step-as h x path next_is to new is t = subst (λ (k : Machine). Steps m.root terms h x path next_is k) (sym is) t
 
   heard-all : (h : List Entry) (x : ℕ) (op : Op) (machine : Machine) (came : Result Reply Fault) (told : IsTold Awaits NoWait h x op machine came) → IsHeard m.root h came told.call

@@ -1,6 +1,6 @@
 -- No operation on names asks for a WRITE or a COMMIT, nor does one that is on its way to its file.
-use Rattle.core_answers.proofs.Prelude.{◌≡◌, ◌-◌, ℕ, Bool, true, false, List, Result, refl, sym, ap, subst, ◌∙◌, Fault, Call, Reply, Shelf, Turn, Next, DirDeed, Deed, Look, Seek, Move, Remove, RemoveFile, access_call, access_attr, access_told, deed_call, deed_told, link_call, text_call, rename_call, sym_link_call, NameMachine, WalkNext, FileMachine, Machine, PathMachine, slot_taken, begun_at, Starts, Resumes, Takes}
-use Rattle.client_shelf.specs.declared.next.Next.TheVariants as nexts
+use Rattle.core_answers.proofs.Prelude.{◌≡◌, ◌-◌, ℕ, Bool, true, false, List, Result, refl, sym, ap, subst, ◌∙◌, Fault, Call, Reply, Shelf, Turn, Step, DirDeed, Deed, Look, Seek, Move, Remove, RemoveFile, access_call, access_attr, access_told, deed_call, deed_told, link_call, text_call, rename_call, sym_link_call, NameMachine, WalkStep, FileMachine, Machine, PathMachine, slot_taken, begun_at, Starts, Resumes, Takes}
+use Rattle.client_shelf.specs.declared.step.Step.TheVariants as nexts
 use Rattle.name_ops.specs.declared.dir_change.DirDeed.TheVariants as deeds
 use Rattle.name_ops.specs.ListDir.{page_call}
 use Rattle.name_ops.specs.Pairs as pairs
@@ -12,7 +12,7 @@ use Rattle.name_ops.proofs.Asking.{Asks, asks-as}
 use Rattle.op_machines.specs.declared.name_machine.NameMachine.TheVariants as machines
 use Rattle.op_machines.specs.NameSteps.{NameGoes, NameTakes}
 use Rattle.name_ops.specs.Walking as walking
-use Rattle.name_ops.specs.declared.walk.WalkNext.TheVariants as walks
+use Rattle.name_ops.specs.declared.walk.WalkStep.TheVariants as walks
 use Rattle.op_machines.specs.declared.machine.Machine.TheVariants as all_machines
 use Rattle.op_machines.specs.PathSteps as paths
 use Rattle.core_answers.proofs.writes.AllBacks.{OnWay, AsksOther}
@@ -31,7 +31,7 @@ removal-other m (Seek file to) = tt
 removal-other m (Move file to) = tt
 removal-other m Remove = tt
 
-pub names-go-other : (m : NameMachine) (turn : Turn) (old : Shelf) (next : Next) (new : NameMachine) (after : Shelf) → NameGoes m turn old next new after → Asks (IsOther) next
+pub names-go-other : (m : NameMachine) (turn : Turn) (old : Shelf) (next : Step) (new : NameMachine) (after : Shelf) → NameGoes m turn old next new after → Asks (IsOther) next
 names-go-other (machines.Change m) turn old next new after g =
     let call = deed_call m.deed m.name in
     asks-as IsOther (visiting.next_by call (visiting.visit_next m.visit turn old)) next g.next_is
@@ -62,7 +62,7 @@ names-go-other (machines.List m) turn old next new after g =
     asks-as IsOther (visiting.next_by call (visiting.visit_next m.visit turn old)) next g.next_is
     (asking.visit-asks IsOther call m.visit turn old (looks turn) (λ room dir. tt))
 
-pub names-take-other : (m : NameMachine) (sent turn : Turn) (came : Result Reply Fault) (old : Shelf) (next : Next) (new : NameMachine) (after : Shelf)
+pub names-take-other : (m : NameMachine) (sent turn : Turn) (came : Result Reply Fault) (old : Shelf) (next : Step) (new : NameMachine) (after : Shelf)
     → NameTakes m sent turn came old next new after → Asks (IsOther) next
 names-take-other (machines.Change m) sent turn came old next new after t =
     asking.change-takes-asks (IsOther) m.visit.asked (deed_call m.deed m.name) (deed_told m.deed came) m.visit sent turn came old next t.visit after
@@ -93,7 +93,7 @@ names-take-other (machines.List m) sent turn came old next new after t =
 
 -- ---- opens and puts on their way
 
-other-by : (next : Next) (new : NameMachine) → Asks IsOther next → AsksOther IsOther next (all_machines.Name new)
+other-by : (next : Step) (new : NameMachine) → Asks IsOther next → AsksOther IsOther next (all_machines.Name new)
 other-by (nexts.Send call) new a = a
 other-by nexts.Wait new a = tt
 other-by (nexts.Done answer) new a = tt
@@ -102,34 +102,34 @@ way-other : (b : Bool) (call : Call) → IsOther call → OnWay IsOther b call
 way-other true call a = tt
 way-other false call a = a
 
-there-other : (next : Next) (new : PathMachine) → new.arrived ≡ true → AsksOther IsOther next (all_machines.Path new)
+there-other : (next : Step) (new : PathMachine) → new.arrived ≡ true → AsksOther IsOther next (all_machines.Path new)
 there-other (nexts.Send call) new there = subst (λ (b : Bool). OnWay IsOther b call) (sym there) tt
 there-other nexts.Wait new there = tt
 there-other (nexts.Done answer) new there = tt
 
-other-next : (to next : Next) (new : PathMachine) → next ≡ to → AsksOther IsOther to (all_machines.Path new) → AsksOther IsOther next (all_machines.Path new)
-other-next to next new is a = subst (λ (n : Next). AsksOther IsOther n (all_machines.Path new)) (sym is) a
+other-next : (to next : Step) (new : PathMachine) → next ≡ to → AsksOther IsOther to (all_machines.Path new) → AsksOther IsOther next (all_machines.Path new)
+other-next to next new is a = subst (λ (n : Step). AsksOther IsOther n (all_machines.Path new)) (sym is) a
 
-follows-other : (step : WalkNext) (wsize : ℕ) (m : PathMachine) (turn : Turn) (old : Shelf) (next : Next) (new : PathMachine) (after : Shelf) → asking.WalkAsks IsOther step
+follows-other : (step : WalkStep) (wsize : ℕ) (m : PathMachine) (turn : Turn) (old : Shelf) (next : Step) (new : PathMachine) (after : Shelf) → asking.WalkAsks IsOther step
     → paths.Follows step wsize m turn old next new after → AsksOther IsOther next (all_machines.Path new)
 follows-other (walks.Send call) wsize m turn old next new after a f = other-next (nexts.Send call) next new f.0 (way-other new.arrived call a)
 follows-other walks.Wait wsize m turn old next new after a f = other-next nexts.Wait next new f.0 tt
 follows-other (walks.At dir) wsize m turn old next new after a f = there-other next new (ap (λ (n : PathMachine). n.arrived) f.machine_is)
 follows-other (walks.Refused fault) wsize m turn old next new after a f = other-next (nexts.Done _) next new f.0 tt
 
-path-goes-other : (b : Bool) (wsize : ℕ) (m : PathMachine) (turn : Turn) (old : Shelf) (next : Next) (new : PathMachine) (after : Shelf) → m.arrived ≡ b
+path-goes-other : (b : Bool) (wsize : ℕ) (m : PathMachine) (turn : Turn) (old : Shelf) (next : Step) (new : PathMachine) (after : Shelf) → m.arrived ≡ b
     → paths.PathResumes b wsize m turn old next new after → AsksOther IsOther next (all_machines.Path new)
 path-goes-other true wsize m turn old next new after is r = there-other next new (ap (λ (n : PathMachine). n.arrived) r.machine_is ∙ is)
 path-goes-other false wsize m turn old next new after is r =
     follows-other (walking.go_next m.walk turn old) wsize (record m { walk = walking.go_after m.walk turn old }) turn (walking.go_shelf m.walk turn old) next new after
     (asking.walk-asks IsOther m.walk turn old (looks turn)) r
 
-path-starts-other : (taken : Bool) (wsize : ℕ) (m : PathMachine) (turn : Turn) (old : Shelf) (next : Next) (new : PathMachine) (after : Shelf)
+path-starts-other : (taken : Bool) (wsize : ℕ) (m : PathMachine) (turn : Turn) (old : Shelf) (next : Step) (new : PathMachine) (after : Shelf)
     → paths.StartsIf taken wsize m turn old next new after → AsksOther IsOther next (all_machines.Path new)
 path-starts-other true wsize m turn old next new after s = other-next (nexts.Done _) next new s.0 tt
 path-starts-other false wsize m turn old next new after s = path-goes-other m.arrived wsize (record m { opener = begun_at (turn.moment - 1) m.opener }) turn old next new after refl s
 
-path-takes-other : (b : Bool) (wsize : ℕ) (m : PathMachine) (sent turn : Turn) (came : Result Reply Fault) (old : Shelf) (next : Next) (new : PathMachine) (after : Shelf) → m.arrived ≡ b
+path-takes-other : (b : Bool) (wsize : ℕ) (m : PathMachine) (sent turn : Turn) (came : Result Reply Fault) (old : Shelf) (next : Step) (new : PathMachine) (after : Shelf) → m.arrived ≡ b
     → paths.PathTakes b wsize m sent turn came old next new after → AsksOther IsOther next (all_machines.Path new)
 path-takes-other true wsize m sent turn came old next new after is t = there-other next new (ap (λ (n : PathMachine). n.arrived) t.machine_is ∙ is)
 path-takes-other false wsize m sent turn came old next new after is t =
@@ -138,29 +138,29 @@ path-takes-other false wsize m sent turn came old next new after is t =
 
 -- ---- any operation
 
-any-file : (next : Next) (m : FileMachine) → AsksOther IsOther next (all_machines.File m)
+any-file : (next : Step) (m : FileMachine) → AsksOther IsOther next (all_machines.File m)
 any-file (nexts.Send call) m = tt
 any-file nexts.Wait m = tt
 any-file (nexts.Done answer) m = tt
 
-machine-as : (next : Next) (new to : Machine) → new ≡ to → AsksOther IsOther next to → AsksOther IsOther next new
+machine-as : (next : Step) (new to : Machine) → new ≡ to → AsksOther IsOther next to → AsksOther IsOther next new
 machine-as next new to is a = subst (AsksOther IsOther next) (sym is) a
 
-pub starts-other : (m : Machine) (wsize : ℕ) (turn : Turn) (old : Shelf) (next : Next) (new : Machine) (after : Shelf) → Starts wsize m turn old next new after → AsksOther IsOther next new
+pub starts-other : (m : Machine) (wsize : ℕ) (turn : Turn) (old : Shelf) (next : Step) (new : Machine) (after : Shelf) → Starts wsize m turn old next new after → AsksOther IsOther next new
 starts-other (all_machines.File m) wsize turn old next new after s = machine-as next new (all_machines.File s.machine) s.machine_is (any-file next s.machine)
 starts-other (all_machines.Path m) wsize turn old next new after s =
     machine-as next new (all_machines.Path s.machine) s.machine_is (path-starts-other (slot_taken m.opener old.opens) wsize m turn old next s.machine after s.step)
 starts-other (all_machines.Name m) wsize turn old next new after s =
     machine-as next new (all_machines.Name s.machine) s.machine_is (other-by next s.machine (names-go-other m turn old next s.machine after s.step))
 
-pub resumes-other : (m : Machine) (wsize : ℕ) (turn : Turn) (old : Shelf) (next : Next) (new : Machine) (after : Shelf) → Resumes wsize m turn old next new after → AsksOther IsOther next new
+pub resumes-other : (m : Machine) (wsize : ℕ) (turn : Turn) (old : Shelf) (next : Step) (new : Machine) (after : Shelf) → Resumes wsize m turn old next new after → AsksOther IsOther next new
 resumes-other (all_machines.File m) wsize turn old next new after s = machine-as next new (all_machines.File s.machine) s.machine_is (any-file next s.machine)
 resumes-other (all_machines.Path m) wsize turn old next new after s =
     machine-as next new (all_machines.Path s.machine) s.machine_is (path-goes-other m.arrived wsize m turn old next s.machine after refl s.step)
 resumes-other (all_machines.Name m) wsize turn old next new after s =
     machine-as next new (all_machines.Name s.machine) s.machine_is (other-by next s.machine (names-go-other m turn old next s.machine after s.step))
 
-pub takes-other : (m : Machine) (wsize : ℕ) (sent turn : Turn) (came : Result Reply Fault) (old : Shelf) (next : Next) (new : Machine) (after : Shelf)
+pub takes-other : (m : Machine) (wsize : ℕ) (sent turn : Turn) (came : Result Reply Fault) (old : Shelf) (next : Step) (new : Machine) (after : Shelf)
     → Takes wsize m sent turn came old next new after → AsksOther IsOther next new
 takes-other (all_machines.File m) wsize sent turn came old next new after s = machine-as next new (all_machines.File s.machine) s.machine_is (any-file next s.machine)
 takes-other (all_machines.Path m) wsize sent turn came old next new after s =

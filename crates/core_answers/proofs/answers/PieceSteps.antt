@@ -1,8 +1,8 @@
 -- The WRITE that a step asks for carries the piece that is in flight under the xid of its turn.
-use Rattle.core_answers.proofs.Prelude.{◌≡◌, ◌≢◌, ◌&&◌, ◌==◌, ◌⊎◌, inl, inr, ℕ, nat_eq, Bool, true, false, List, [], ◌∷◌, ◌++◌, Option, Some, None, Result, Ok, Err, refl, sym, ap, subst, ◌∙◌, unwrap_or, nat_lt, if◌then◌else◌, eqb-true, eqb-false, Verdict, AllStable, SendAgain, verdict_of, Verf, Fault, Memory, Call, Reply, lost, chosen, piece_of, with_sent, Pending, of_file, OnFile, with_xid, Sent, FilePending, piece_under, renumbered, Segments, same-or, Next, Repeat, Turn, goes_again, Sending, Committing, Resending, CommittingAgain, Saving, commit_told, IsUnused, write_of}
+use Rattle.core_answers.proofs.Prelude.{◌≡◌, ◌≢◌, ◌&&◌, ◌==◌, ◌⊎◌, inl, inr, ℕ, nat_eq, Bool, true, false, List, [], ◌∷◌, ◌++◌, Option, Some, None, Result, Ok, Err, refl, sym, ap, subst, ◌∙◌, unwrap_or, nat_lt, if◌then◌else◌, eqb-true, eqb-false, Verdict, AllStable, SendAgain, verdict_of, Verf, Fault, Memory, Call, Reply, lost, chosen, piece_of, with_sent, Pending, of_file, OnFile, with_xid, Sent, FilePending, piece_under, renumbered, Segments, same-or, Step, Repeat, Turn, goes_again, Sending, Committing, Resending, CommittingAgain, Saving, commit_told, IsUnused, write_of}
 use Rattle.nfs_file_calls.specs.declared.call.FileCall.TheVariants.{Write}
 use Rattle.world_model.specs.declared.message.Call.TheVariants as calls
-use Rattle.client_shelf.specs.declared.next.Next.TheVariants as nexts
+use Rattle.client_shelf.specs.declared.step.Step.TheVariants as nexts
 use Rattle.file_ops.specs.declared.saving.Phase.{Phase}
 use Rattle.file_ops.specs.Saves as saves
 use Rattle.file_ops.specs.Syncs as syncs
@@ -17,7 +17,7 @@ abbrev pub IsPiece : ℕ → Call → Pending → Type 0
 IsPiece xid call back = (file : List ℕ) (offset how : ℕ) (bytes : List ℕ) → call ≡ calls.File (Write file offset how bytes) → call ≡ write_of file (saves.answered xid file back)
 
 -- no WRITE is asked for
-abbrev NoWrite : Next → Type 0
+abbrev NoWrite : Step → Type 0
 NoWrite (nexts.Send call) = (file : List ℕ) (offset how : ℕ) (bytes : List ℕ) → call ≡ calls.File (Write file offset how bytes) → ⊥
 NoWrite nexts.Wait = Unit {0}
 NoWrite (nexts.Done answer) = Unit {0}
@@ -80,7 +80,7 @@ module _ (xid : ℕ) where
   abbrev pub Own : Call → Pending → Type 0
   Own call back = IsPiece xid call back
 
-  free-after : (next : Next) (back : Pending) → NoWrite next → Free back → After Free Own next back
+  free-after : (next : Step) (back : Pending) → NoWrite next → Free back → After Free Own next back
   free-after (nexts.Send call) back none free = λ file offset how bytes is. absurd (none file offset how bytes is)
   free-after nexts.Wait back none free = free
   free-after (nexts.Done answer) back none free = free

@@ -1,17 +1,17 @@
 -- For which calls a put waits once it has its file: for those of its saves.
-use Rattle.core_answers.proofs.Prelude.{◌≡◌, ◌≤◌, ◌+◌, ◌-◌, ◌⊎◌, ℕ, Bool, true, false, List, Result, Ok, Err, refl, sym, ap, subst, ◌∙◌, inl, inr, arith, Fault, Call, Reply, is_first, Next, Shelf, Turn, OpenFile, OpeningNext, PutFile, Putting, Saving, Writing, joined, made_bytes, by-step, WalkNext, FileMachine, Machine, Opener, PathMachine, file_of, slot_taken, begun_at, placed, Starts, Resumes, Takes, of_walk, of_opening, of_saving, of_writing, of_putting, in_flight, of_path, path-file, path-walk, ExpectLaws, Plain, walk-takes, AskedOf, KeptOf}
+use Rattle.core_answers.proofs.Prelude.{◌≡◌, ◌≤◌, ◌+◌, ◌-◌, ◌⊎◌, ℕ, Bool, true, false, List, Result, Ok, Err, refl, sym, ap, subst, ◌∙◌, inl, inr, arith, Fault, Call, Reply, is_first, Step, Shelf, Turn, OpenFile, OpeningStep, PutFile, Putting, Saving, Writing, joined, made_bytes, by-step, WalkStep, FileMachine, Machine, Opener, PathMachine, file_of, slot_taken, begun_at, placed, Starts, Resumes, Takes, of_walk, of_opening, of_saving, of_writing, of_putting, in_flight, of_path, path-file, path-walk, ExpectLaws, Plain, walk-takes, AskedOf, KeptOf}
 use Rattle.core_facts.specs.InFlight.{of_file}
 use Rattle.core_facts.proofs.AllCounts.{placed-none}
 use Rattle.core_facts.proofs.NameCounts.{WalkCounts, walk-counts, took-counts}
 use Rattle.world_model.specs.declared.answer.Answer.TheVariants as answers
-use Rattle.client_shelf.specs.declared.next.Next.TheVariants as nexts
-use Rattle.file_ops.specs.declared.opening.OpeningNext.TheVariants as openings
+use Rattle.client_shelf.specs.declared.step.Step.TheVariants as nexts
+use Rattle.file_ops.specs.declared.opening.OpeningStep.TheVariants as openings
 use Rattle.file_ops.specs.declared.put_file.Putting.TheVariants as putting
 use Rattle.file_ops.specs.Syncs as syncs
 use Rattle.file_ops.specs.Opening as opening
 use Rattle.file_ops.specs.PutFile as puts
 use Rattle.file_ops.specs.Saves as saves
-use Rattle.name_ops.specs.declared.walk.WalkNext.TheVariants as walks
+use Rattle.name_ops.specs.declared.walk.WalkStep.TheVariants as walks
 use Rattle.name_ops.specs.Walking as walking
 use Rattle.op_machines.specs.declared.file_machine.FileMachine.TheVariants as files
 use Rattle.op_machines.specs.declared.machine.Machine.TheVariants as machines
@@ -35,17 +35,17 @@ abbrev pub PutCalls : PutFile → Call → Type 0
 PutCalls p call = StateCalls p.state p.write.state call
 
 module _ (others : ℕ) (D : Call → Type 0) where
-  abbrev pub PutStep : Next → Putting → Writing → Type 0
+  abbrev pub PutStep : Step → Putting → Writing → Type 0
   PutStep next state w = CallStep others D next (StateCalls state w)
 
-  step-to : (to : Next) (state : Putting) (next : Next) (new : Putting) (w : Writing) → next ≡ to → new ≡ state → PutStep to state w → PutStep next new w
-  step-to to state next new w is at c = subst (λ (n : Next). PutStep n new w) (sym is) (subst (λ (s : Putting). PutStep to s w) (sym at) c)
+  step-to : (to : Step) (state : Putting) (next : Step) (new : Putting) (w : Writing) → next ≡ to → new ≡ state → PutStep to state w → PutStep next new w
+  step-to to state next new w is at c = subst (λ (n : Step). PutStep n new w) (sym is) (subst (λ (s : Putting). PutStep to s w) (sym at) c)
 
-  step-done : (answer : _) (next : Next) (new : Putting) (w : Writing) → next ≡ nexts.Done answer → PutStep next new w
-  step-done answer next new w is = subst (λ (n : Next). PutStep n new w) (sym is) (record { asked = tt; kept = tt })
+  step-done : (answer : _) (next : Step) (new : Putting) (w : Writing) → next ≡ nexts.Done answer → PutStep next new w
+  step-done answer next new w is = subst (λ (n : Step). PutStep n new w) (sym is) (record { asked = tt; kept = tt })
 
   -- a state of which nothing is said
-  step-plain : (next : Next) (new state : Putting) (w : Writing) → new ≡ state → ((c : Call) → StateCalls state w c) → PutStep next new w
+  step-plain : (next : Step) (new state : Putting) (w : Writing) → new ≡ state → ((c : Call) → StateCalls state w c) → PutStep next new w
   step-plain (nexts.Send call) new state w is any = subst (λ (s : Putting). PutStep (nexts.Send call) s w) (sym is) (record { asked = any call; kept = λ some c e. any c })
   step-plain nexts.Wait new state w is any = subst (λ (s : Putting). PutStep nexts.Wait s w) (sym is) (record { asked = tt; kept = λ some c e. any c })
   step-plain (nexts.Done answer) new state w is any = record { asked = tt; kept = tt }
@@ -54,7 +54,7 @@ module _ (others : ℕ) (D : Call → Type 0) where
   abbrev FromSave : Saving → Type 0
   FromSave s = 1 ≤ others → (c : Call) → D c → SaveCall s c
 
-  put-follows : (gives : _) (saved : Saving) (lane : ℕ) (was : Shelf) (next : Next) (new : Putting) (w : Writing) (after : Shelf)
+  put-follows : (gives : _) (saved : Saving) (lane : ℕ) (was : Shelf) (next : Step) (new : Putting) (w : Writing) (after : Shelf)
       → FromSave saved → CallSo (syncs.sync_next gives) saved → puts.Follows gives lane saved was next new after → PutStep next new w
   put-follows gives saved lane was next new w after from n f = by-step
       (λ g. CallSo (syncs.sync_next g) saved → puts.Follows g lane saved was next new after → PutStep next new w)
@@ -63,7 +63,7 @@ module _ (others : ℕ) (D : Call → Type 0) where
       (λ result k l. step-done _ next new w l.next_is)
       gives n f
 
-  put-queues : (b : Bool) (wsize lane : ℕ) (turn : Turn) (s : Saving) (was : Shelf) (next : Next) (new : Putting) (w : Writing) (after : Shelf) → others ≡ of_saving s → FromSave s
+  put-queues : (b : Bool) (wsize lane : ℕ) (turn : Turn) (s : Saving) (was : Shelf) (next : Step) (new : Putting) (w : Writing) (after : Shelf) → others ≡ of_saving s → FromSave s
       → puts.QueuesIf b wsize lane turn s was next new after → PutStep next new w
   put-queues true wsize lane turn s was next new w after count from q =
       put-follows q.gives q.saved lane q.gone next new w after
@@ -72,7 +72,7 @@ module _ (others : ℕ) (D : Call → Type 0) where
   put-queues false wsize lane turn s was next new w after count from q =
       step-to nexts.Wait (putting.Saves s) next new w q.next_is q.state_is (record { asked = tt; kept = from })
 
-  after-write : (told : Next) (written : Writing) (wsize lane : ℕ) (file : List ℕ) (turn : Turn) (was : Shelf) (next : Next) (new : Putting) (after : Shelf)
+  after-write : (told : Step) (written : Writing) (wsize lane : ℕ) (file : List ℕ) (turn : Turn) (was : Shelf) (next : Step) (new : Putting) (after : Shelf)
       → (others ≡ 0) ⊎ ((answer : _) → told ≡ nexts.Done answer → ⊥) → CallStep others D told (WriteCalls written) → puts.AfterWrite told wsize lane file turn was next new after
       → PutStep next new written
   after-write (nexts.Send call) written wsize lane file turn was next new after c k a = step-to (nexts.Send call) (putting.Adds file) next new written a.0 a.1 (record { asked = k.asked; kept = k.kept })
@@ -83,22 +83,22 @@ module _ (others : ℕ) (D : Call → Type 0) where
   after-write (nexts.Done (answers.Done value)) written wsize lane file turn was next new after (inr not_done) k a = absurd (not_done (answers.Done value) refl)
   after-write (nexts.Done (answers.Refused fault)) written wsize lane file turn was next new after c k a = step-done _ next new written a.next_is
 
-  writes-on : (wsize : ℕ) (m : PutFile) (file : List ℕ) (turn : Turn) (told : Next) (written : Writing) (mid : Shelf) (next : Next) (new : PutFile) (after : Shelf)
+  writes-on : (wsize : ℕ) (m : PutFile) (file : List ℕ) (turn : Turn) (told : Step) (written : Writing) (mid : Shelf) (next : Step) (new : PutFile) (after : Shelf)
       → Plain told others (of_writing written) → CallStep others D told (WriteCalls written) → puts.WritesOn wsize m file turn told written mid next new after
       → PutStep next new.state new.write.state
   writes-on wsize m file turn told written mid next new after count k w =
       subst (λ (x : Writing). PutStep next new.state x) (sym (ap (λ (p : PutFile). p.write.state) w.machine_is))
       (after-write told written wsize m.write.lane file turn mid next new.state after (by told count) k w.follows)
     where
-      by : (n : Next) → Plain n others (of_writing written) → (others ≡ 0) ⊎ ((answer : _) → n ≡ nexts.Done answer → ⊥)
+      by : (n : Step) → Plain n others (of_writing written) → (others ≡ 0) ⊎ ((answer : _) → n ≡ nexts.Done answer → ⊥)
       by (nexts.Send call) c = inr (λ answer is. cc)
       by nexts.Wait c = inr (λ answer is. cc)
       by (nexts.Done answer) c = inl c
 
-  opens-plain : (next : Next) (m new : PutFile) → m.state ≡ putting.Opens → new.state ≡ m.state → PutStep next new.state new.write.state
+  opens-plain : (next : Step) (m new : PutFile) → m.state ≡ putting.Opens → new.state ≡ m.state → PutStep next new.state new.write.state
   opens-plain next m new is same = step-plain next new.state putting.Opens new.write.state (same ∙ is) (λ c. tt)
 
-  after-opening : (step : OpeningNext) (wsize : ℕ) (m : PutFile) (turn : Turn) (was : Shelf) (next : Next) (new : PutFile) (after : Shelf) → m.state ≡ putting.Opens
+  after-opening : (step : OpeningStep) (wsize : ℕ) (m : PutFile) (turn : Turn) (was : Shelf) (next : Step) (new : PutFile) (after : Shelf) → m.state ≡ putting.Opens
       → OpeningCounts step others (of_opening m.opening) → puts.AfterOpening step wsize m turn was next new after → PutStep next new.state new.write.state
   after-opening (openings.Send call) wsize m turn was next new after is c a = opens-plain next m new is (ap (λ (p : PutFile). p.state) a.1)
   after-opening openings.Wait wsize m turn was next new after is c a = opens-plain next m new is (ap (λ (p : PutFile). p.state) a.machine_is)
@@ -109,7 +109,7 @@ module _ (others : ℕ) (D : Call → Type 0) where
       (writes-calls others D wsize m.write.lane file m.write.offset (made_bytes m.write.text) turn (puts.put_at m.write.lane file was) a.told a.written a.mid c a.writes) a.goes
   after-opening (openings.Ended (Err fault)) wsize m turn was next new after is c a = step-done _ next new.state new.write.state a.0
 
-put-resumes : (at : Putting) (wsize : ℕ) (m : PutFile) (turn : Turn) (was : Shelf) (next : Next) (new : PutFile) (after : Shelf) → m.state ≡ at
+put-resumes : (at : Putting) (wsize : ℕ) (m : PutFile) (turn : Turn) (was : Shelf) (next : Step) (new : PutFile) (after : Shelf) → m.state ≡ at
     → puts.Resumes at wsize m turn was next new after → PutStep (of_putting at m.opening m.write.state) (StateCalls at m.write.state) next new.state new.write.state
 put-resumes putting.Idle wsize m turn was next new after is r =
     step-plain 0 _ next new.state putting.Idle new.write.state (ap (λ (p : PutFile). p.state) r.machine_is ∙ is) (λ c. tt)
@@ -121,7 +121,7 @@ put-resumes (putting.Adds file) wsize m turn was next new after is r =
 put-resumes (putting.Saves s) wsize m turn was next new after is r =
     put-queues (of_saving s) (SaveCall s) (is_first m.write.lane was.order) wsize m.write.lane turn s was next new.state new.write.state after refl (λ some c e. e) r.0
 
-put-takes : (at : Putting) (wsize : ℕ) (m : PutFile) (sent turn : Turn) (came : Result Reply Fault) (was : Shelf) (next : Next) (new : PutFile) (after : Shelf) (others : ℕ)
+put-takes : (at : Putting) (wsize : ℕ) (m : PutFile) (sent turn : Turn) (came : Result Reply Fault) (was : Shelf) (next : Step) (new : PutFile) (after : Shelf) (others : ℕ)
     → m.state ≡ at → of_putting at m.opening m.write.state ≡ others + 1 → puts.Takes at wsize m sent turn came was next new after
     → PutStep others (StateCalls at m.write.state) next new.state new.write.state
 put-takes putting.Idle wsize m sent turn came was next new after others is one t = absurd (omega (arith, one))
@@ -150,14 +150,14 @@ Calls (machines.File m) call = Unit {0}
 Calls (machines.Path m) call = OpenerCalls m.arrived m.opener call
 Calls (machines.Name m) call = Unit {0}
 
-record Named (others : ℕ) (old : Machine) (next : Next) (new : Machine) : Type 0 where
+record Named (others : ℕ) (old : Machine) (next : Step) (new : Machine) : Type 0 where
   pub asked : AskedOf Calls next new
   pub kept : KeptOf Calls others old next new
 
-named-as : (others : ℕ) (old to : Machine) (next : Next) (new : Machine) → new ≡ to → Named others old next to → Named others old next new
+named-as : (others : ℕ) (old to : Machine) (next : Step) (new : Machine) → new ≡ to → Named others old next to → Named others old next new
 named-as others old to next new is e = subst (λ (m : Machine). Named others old next m) (sym is) e
 
-plain-named : (others : ℕ) (old new : Machine) (next : Next) → ((call : Call) → Calls new call) → Named others old next new
+plain-named : (others : ℕ) (old new : Machine) (next : Step) → ((call : Call) → Calls new call) → Named others old next new
 plain-named others old new (nexts.Send call) any = record { asked = any call; kept = λ some c e. any c }
 plain-named others old new nexts.Wait any = record { asked = tt; kept = λ some c e. any c }
 plain-named others old new (nexts.Done answer) any = record { asked = tt; kept = tt }
@@ -171,7 +171,7 @@ not-put : (m : OpenFile) (q : PutFile) → files.Put q ≡ files.Open m → ⊥
 not-put m q e = cc
 
 -- with the opener that it has then
-opener-as : (others : ℕ) (m : PathMachine) (opener to : Opener) (next : Next) (new : PathMachine) (old : Machine) → new ≡ record m { opener = opener } → opener ≡ to
+opener-as : (others : ℕ) (m : PathMachine) (opener to : Opener) (next : Step) (new : PathMachine) (old : Machine) → new ≡ record m { opener = opener } → opener ≡ to
     → Named others old next (machines.Path (record m { opener = to })) → Named others old next (machines.Path new)
 opener-as others m opener to next new old is at e =
     subst (λ (n : PathMachine). Named others old next (machines.Path n)) (sym is)
@@ -182,19 +182,19 @@ open-any true o call = tt
 open-any false o call = tt
 
 -- a put that has its directory
-put-named : (others : ℕ) (m : PathMachine) (p q : PutFile) (next : Next) (old : Machine) → m.arrived ≡ true → PutStep others (PutCalls p) next q.state q.write.state
+put-named : (others : ℕ) (m : PathMachine) (p q : PutFile) (next : Step) (old : Machine) → m.arrived ≡ true → PutStep others (PutCalls p) next q.state q.write.state
     → ((c : Call) → Calls old c → PutCalls p c) → Named others old next (machines.Path (record m { opener = openers.Put q }))
 put-named others m p q next old there s was = by next s.asked s.kept
   where
     here : (c : Call) → PutCalls q c → OpenerCalls m.arrived (openers.Put q) c
     here c e = subst (λ (b : Bool). OpenerCalls b (openers.Put q) c) (sym there) e
 
-    by : (n : Next) → AskedBy n (PutCalls q) → KeptBy others (PutCalls p) n (PutCalls q) → Named others old n (machines.Path (record m { opener = openers.Put q }))
+    by : (n : Step) → AskedBy n (PutCalls q) → KeptBy others (PutCalls p) n (PutCalls q) → Named others old n (machines.Path (record m { opener = openers.Put q }))
     by (nexts.Send call) a k = record { asked = here call a; kept = λ some c e. here c (k some c (was c e)) }
     by nexts.Wait a k = record { asked = tt; kept = λ some c e. here c (k some c (was c e)) }
     by (nexts.Done answer) a k = record { asked = tt; kept = tt }
 
-then-named : (wsize : ℕ) (m : PathMachine) (turn : Turn) (was : Shelf) (next : Next) (new : PathMachine) (after : Shelf) (old : Machine) → m.arrived ≡ true
+then-named : (wsize : ℕ) (m : PathMachine) (turn : Turn) (was : Shelf) (next : Step) (new : PathMachine) (after : Shelf) (old : Machine) → m.arrived ≡ true
     → ((p : PutFile) → m.opener ≡ openers.Put p → (c : Call) → Calls old c → PutCalls p c) → paths.ThenResumes wsize m turn was next new after
     → Named (of_file (file_of m.opener)) old next (machines.Path new)
 then-named wsize m turn was next new after old there names t = by m.opener t.opener refl refl t.step
@@ -218,7 +218,7 @@ placed-names dir (openers.Put m) p is c = let same : putting.Opens ≡ p.state =
     state_of (openers.Open m) = putting.Idle
     state_of (openers.Put m) = m.state
 
-follows-named : (step : WalkNext) (wsize : ℕ) (m : PathMachine) (turn : Turn) (was : Shelf) (next : Next) (new : PathMachine) (after : Shelf) (others : ℕ) (old : Machine) → m.arrived ≡ false
+follows-named : (step : WalkStep) (wsize : ℕ) (m : PathMachine) (turn : Turn) (was : Shelf) (next : Step) (new : PathMachine) (after : Shelf) (others : ℕ) (old : Machine) → m.arrived ≡ false
     → WalkCounts step others (of_walk m.walk) → paths.Follows step wsize m turn was next new after → Named others old next (machines.Path new)
 follows-named (walks.Send call) wsize m turn was next new after others old on_way c f =
     subst (λ (n : PathMachine). Named others old next (machines.Path n)) (sym f.1) (plain-named others old (machines.Path m) next (walking-names m on_way))
@@ -228,13 +228,13 @@ follows-named (walks.At dir) wsize m turn was next new after others old on_way c
     subst (λ (n : ℕ). Named n old next (machines.Path new)) (placed-none dir m.opener ∙ sym c.0)
     (then-named wsize (record m { opener = placed dir m.opener; arrived = true }) turn was next new after old refl (λ p is k e. placed-names dir m.opener p is k) f)
 follows-named (walks.Refused fault) wsize m turn was next new after others old on_way c f =
-    subst (λ (n : Next). Named others old n (machines.Path new)) (sym f.0) (record { asked = tt; kept = tt })
+    subst (λ (n : Step). Named others old n (machines.Path new)) (sym f.0) (record { asked = tt; kept = tt })
 
 -- what an arrived put waits for
 pub arrived-names : (m : PathMachine) → m.arrived ≡ true → (p : PutFile) → m.opener ≡ openers.Put p → (c : Call) → Calls (machines.Path m) c → PutCalls p c
 arrived-names m there p is c e = subst (λ (o : Opener). OpenerCalls true o c) is (subst (λ (b : Bool). OpenerCalls b m.opener c) there e)
 
-path-resumes : (b : Bool) (wsize : ℕ) (m : PathMachine) (turn : Turn) (was : Shelf) (next : Next) (new : PathMachine) (after : Shelf) → m.arrived ≡ b
+path-resumes : (b : Bool) (wsize : ℕ) (m : PathMachine) (turn : Turn) (was : Shelf) (next : Step) (new : PathMachine) (after : Shelf) → m.arrived ≡ b
     → paths.PathResumes b wsize m turn was next new after → Named (of_path m) (machines.Path m) next (machines.Path new)
 path-resumes true wsize m turn was next new after is r =
     subst (λ (n : ℕ). Named n (machines.Path m) next (machines.Path new)) (sym (path-file m is))
@@ -244,12 +244,12 @@ path-resumes false wsize m turn was next new after is r =
     (follows-named (walking.go_next m.walk turn was) wsize (record m { walk = walking.go_after m.walk turn was }) turn (walking.go_shelf m.walk turn was) next new after (of_walk m.walk)
     (machines.Path m) is (walk-counts m.walk turn was) r)
 
-path-starts : (taken : Bool) (wsize : ℕ) (m : PathMachine) (turn : Turn) (was : Shelf) (next : Next) (new : PathMachine) (after : Shelf)
+path-starts : (taken : Bool) (wsize : ℕ) (m : PathMachine) (turn : Turn) (was : Shelf) (next : Step) (new : PathMachine) (after : Shelf)
     → paths.StartsIf taken wsize m turn was next new after → AskedOf Calls next (machines.Path new)
-path-starts true wsize m turn was next new after s = subst (λ (n : Next). AskedOf Calls n (machines.Path new)) (sym s.0) tt
+path-starts true wsize m turn was next new after s = subst (λ (n : Step). AskedOf Calls n (machines.Path new)) (sym s.0) tt
 path-starts false wsize m turn was next new after s = (path-resumes m.arrived wsize (record m { opener = begun_at (turn.moment - 1) m.opener }) turn was next new after refl s).asked
 
-path-takes : (b : Bool) (wsize : ℕ) (m : PathMachine) (sent turn : Turn) (came : Result Reply Fault) (was : Shelf) (next : Next) (new : PathMachine) (after : Shelf) (others : ℕ) → m.arrived ≡ b
+path-takes : (b : Bool) (wsize : ℕ) (m : PathMachine) (sent turn : Turn) (came : Result Reply Fault) (was : Shelf) (next : Step) (new : PathMachine) (after : Shelf) (others : ℕ) → m.arrived ≡ b
     → of_path m ≡ others + 1 → paths.PathTakes b wsize m sent turn came was next new after → Named others (machines.Path m) next (machines.Path new)
 path-takes true wsize m sent turn came was next new after others is one t = by m.opener t.opener refl refl (sym (path-file m is) ∙ one) t.step
   where
@@ -269,24 +269,24 @@ path-takes false wsize m sent turn came was next new after others is one t =
 
 -- ---- the laws
 
-any-file : (others : ℕ) (old : Machine) (next : Next) (new : Machine) (to : FileMachine) → new ≡ machines.File to → Named others old next new
+any-file : (others : ℕ) (old : Machine) (next : Step) (new : Machine) (to : FileMachine) → new ≡ machines.File to → Named others old next new
 any-file others old next new to is = named-as others old (machines.File to) next new is (plain-named others old (machines.File to) next (λ c. tt))
 
-starts-named : (m : Machine) (wsize : ℕ) (turn : Turn) (old : Shelf) (next : Next) (new : Machine) (after : Shelf) → Starts wsize m turn old next new after → AskedOf Calls next new
+starts-named : (m : Machine) (wsize : ℕ) (turn : Turn) (old : Shelf) (next : Step) (new : Machine) (after : Shelf) → Starts wsize m turn old next new after → AskedOf Calls next new
 starts-named (machines.File m) wsize turn old next new after s = (any-file 0 (machines.File m) next new s.machine s.machine_is).asked
 starts-named (machines.Path m) wsize turn old next new after s =
     subst (λ (k : Machine). AskedOf Calls next k) (sym s.machine_is) (path-starts (slot_taken m.opener old.opens) wsize m turn old next s.machine after s.step)
 starts-named (machines.Name m) wsize turn old next new after s =
     (named-as 0 (machines.Name m) (machines.Name s.machine) next new s.machine_is (plain-named 0 _ _ next (λ c. tt))).asked
 
-resumes-named : (m : Machine) (wsize : ℕ) (turn : Turn) (old : Shelf) (next : Next) (new : Machine) (after : Shelf) → Resumes wsize m turn old next new after → Named (in_flight m) m next new
+resumes-named : (m : Machine) (wsize : ℕ) (turn : Turn) (old : Shelf) (next : Step) (new : Machine) (after : Shelf) → Resumes wsize m turn old next new after → Named (in_flight m) m next new
 resumes-named (machines.File m) wsize turn old next new after s = any-file _ (machines.File m) next new s.machine s.machine_is
 resumes-named (machines.Path m) wsize turn old next new after s =
     named-as (of_path m) (machines.Path m) (machines.Path s.machine) next new s.machine_is (path-resumes m.arrived wsize m turn old next s.machine after refl s.step)
 resumes-named (machines.Name m) wsize turn old next new after s =
     named-as _ (machines.Name m) (machines.Name s.machine) next new s.machine_is (plain-named _ _ _ next (λ c. tt))
 
-takes-named : (m : Machine) (wsize : ℕ) (sent turn : Turn) (came : Result Reply Fault) (old : Shelf) (next : Next) (new : Machine) (after : Shelf) (others : ℕ) → in_flight m ≡ others + 1
+takes-named : (m : Machine) (wsize : ℕ) (sent turn : Turn) (came : Result Reply Fault) (old : Shelf) (next : Step) (new : Machine) (after : Shelf) (others : ℕ) → in_flight m ≡ others + 1
     → Takes wsize m sent turn came old next new after → Named others m next new
 takes-named (machines.File m) wsize sent turn came old next new after others one s = any-file others (machines.File m) next new s.machine s.machine_is
 takes-named (machines.Path m) wsize sent turn came old next new after others one s =

@@ -1,11 +1,11 @@
 -- The file that an opening comes to is one that its path leads to, or that its CREATE gave.
-use Rattle.core_answers.proofs.Prelude.{◌≡◌, ◌==◌, ◌++◌, ℕ, Bool, true, false, List, [], ◌∷◌, length, Option, Some, None, Result, Ok, Err, refl, sym, subst, arith, if◌then◌else◌, Attr, Mode, looked, known_of, Fault, Entry, Call, Reply, Asked, Asked-grow, Asked-wide, length_last, Turn, Led, Opening, OpeningNext, OpeningStep, got_by, IsNamed, front_of, leads-later, OpeningStory, StepStory, has_to, IsFileOf}
+use Rattle.core_answers.proofs.Prelude.{◌≡◌, ◌==◌, ◌++◌, ℕ, Bool, true, false, List, [], ◌∷◌, length, Option, Some, None, Result, Ok, Err, refl, sym, subst, arith, if◌then◌else◌, Attr, Mode, looked, known_of, Fault, Entry, Call, Reply, Asked, Asked-grow, Asked-wide, length_last, Turn, Led, Opening, OpeningStep, OpeningPhase, got_by, IsNamed, front_of, leads-later, OpeningStory, StepStory, has_to, IsFileOf}
 use Rattle.file_ops.specs.Told.{found_by, made_by}
 use Rattle.core_facts.proofs.OpenStory.{OpeningTold, MayMake, missing, found, made, LedStory, led-on}
 use Rattle.world_model.specs.declared.answer.Fault.TheVariants as faults
 use Rattle.file_ops.specs.declared.opening.Led.TheVariants as leads
-use Rattle.file_ops.specs.declared.opening.OpeningNext.TheVariants as openings
-use Rattle.file_ops.specs.declared.opening.OpeningStep.TheVariants as opening_steps
+use Rattle.file_ops.specs.declared.opening.OpeningStep.TheVariants as openings
+use Rattle.file_ops.specs.declared.opening.OpeningPhase.TheVariants as opening_steps
 use Rattle.file_ops.specs.Opening as opening
 
 module _ (top : List ℕ) (h : List Entry) (x : ℕ) (path : List (List ℕ)) (mode : Mode) where
@@ -38,7 +38,7 @@ module _ (top : List ℕ) (h : List Entry) (x : ℕ) (path : List (List ℕ)) (m
       by false = tt
   got-file d file (Err fault) of = tt
 
-  led-to-file : (d : List ℕ) (m : Mode) (step : OpeningStep) (came : Result Reply Fault) → StepStory top h x path mode d step → LedFile d (opening.led_to m step came)
+  led-to-file : (d : List ℕ) (m : Mode) (step : OpeningPhase) (came : Result Reply Fault) → StepStory top h x path mode d step → LedFile d (opening.led_to m step came)
   led-to-file d m opening_steps.Look came s = look-none (opening.makes m came) d (found_by came)
   led-to-file d m opening_steps.Make came s = made-none d (made_by came)
   led-to-file d m opening_steps.Find came s = found-none d (found_by came)
@@ -66,7 +66,7 @@ module _ (top : List ℕ) (h : List Entry) (x : ℕ) (path : List (List ℕ)) (m
   anew : (o : Opening) → OpeningStory top h x path mode o → OpeningStory top h x path mode (record o { nocto = false })
   anew o s = record { name_is = s.name_is; mode_is = s.mode_is; leads = s.leads; step = s.step }
 
-  call-anew : (o : Opening) (step : OpeningStep) → opening.call_of o step ≡ opening.call_of (record o { nocto = false }) step
+  call-anew : (o : Opening) (step : OpeningPhase) → opening.call_of o step ≡ opening.call_of (record o { nocto = false }) step
   call-anew o opening_steps.Look = refl
   call-anew o opening_steps.Make = refl
   call-anew o opening_steps.Find = refl
@@ -85,13 +85,13 @@ module _ (top : List ℕ) (h : List Entry) (x : ℕ) (path : List (List ℕ)) (m
       by false = file
 
   -- so a step that ends it well gives such a file
-  abbrev pub NextFile : List ℕ → OpeningNext → Type 0
+  abbrev pub NextFile : List ℕ → OpeningStep → Type 0
   NextFile d (openings.Send call) = Unit {0}
   NextFile d openings.Wait = Unit {0}
   NextFile d (openings.Ended (Ok file)) = IsFileOf top h x path mode d file
   NextFile d (openings.Ended (Err fault)) = Unit {0}
 
-  next-file-as : (d : List ℕ) (to step : OpeningNext) → step ≡ to → NextFile d to → NextFile d step
+  next-file-as : (d : List ℕ) (to step : OpeningStep) → step ≡ to → NextFile d to → NextFile d step
   next-file-as d to step is n = subst (NextFile d) (sym is) n
 
   opened-file : (d file : List ℕ) (to : _) (result : Result (List ℕ) Fault) (pages later : _) → IsFileOf top h x path mode d file → opening.FileOpened file to result pages later
@@ -106,7 +106,7 @@ module _ (top : List ℕ) (h : List Entry) (x : ℕ) (path : List (List ℕ)) (m
       by true = tt
       by false = tt
 
-  pub next-file : (again : Bool) (o : Opening) (sent turn : Turn) (led : Led) (step : OpeningNext) (pages later : _) → LedFile o.dir led
+  pub next-file : (again : Bool) (o : Opening) (sent turn : Turn) (led : Led) (step : OpeningStep) (pages later : _) → LedFile o.dir led
       → opening.LedIf again o sent turn led step pages later → NextFile o.dir step
   next-file true o sent turn led step pages later f l = next-file-as o.dir (openings.Send (opening.call_of o o.step)) step l.0 tt
   next-file false o sent turn (leads.Goes to) step pages later f l = next-file-as o.dir (opening.go_next (opening.at_step o to) turn) step l.0 (go-file o.dir (opening.at_step o to) turn)
@@ -134,7 +134,7 @@ module _ (top : List ℕ) (h : List Entry) (e : Entry) (x : ℕ) (path : List (L
   may-later d (has_to is) = has_to is
   may-later d (missing reply is a none) = missing reply is (asked-on h e x _ reply a) none
 
-  step-later : (d : List ℕ) (step : OpeningStep) → StepStory top h x path mode d step → StepStory top (h ++ e ∷ []) x path mode d step
+  step-later : (d : List ℕ) (step : OpeningPhase) → StepStory top h x path mode d step → StepStory top (h ++ e ∷ []) x path mode d step
   step-later d opening_steps.Look s = tt
   step-later d opening_steps.Make s = may-later d s
   step-later d opening_steps.Find s = tt

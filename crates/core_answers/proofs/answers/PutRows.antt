@@ -1,5 +1,5 @@
 -- A put goes well, or is refused for the kind of its file, only where its history shows it.
-use Rattle.core_answers.proofs.Prelude.{◌≡◌, ◌+◌, ◌-◌, ℕ, Bool, true, false, List, [], ◌∷◌, ◌++◌, length, take, Result, refl, sym, ap, subst, ◌∙◌, arith, All-nil, Mode, Answer, Fault, Entry, Began, Call, Reply, Op, At, Rooted, Ended, RefusalRow, Terms, IsDelivered, Asked-wide, Rooted-wide, Next, Shelf, Turn, Opening, PutFile, Putting, OpenFile, Writing, Walk, WalkNext, walk_of, Mounted, Machine, Opener, PathMachine, IsNamed, front_of, last_of, machine_of, file_of, Starts, Resumes, Takes, State, Busy, Over, Setup, in_flight, Awaits, awaits-laws, PathOr, begins-unbegun, of_path, WalkStep, go-step, took-step, all-starts, all-resumes, all-takes, IsNameTold, NamesTold, names-later, LeadsTo, leads-from, leads-later, WalkLeads, go-leads, took-leads, end-leads, walk-later, IsHeard, heard-tells, then-as, ends-later, ends-until, OpeningStory, StepStory, has_to, ThenOf, IsTold, TaleLaws, IsQuiet, AsksFor}
+use Rattle.core_answers.proofs.Prelude.{◌≡◌, ◌+◌, ◌-◌, ℕ, Bool, true, false, List, [], ◌∷◌, ◌++◌, length, take, Result, refl, sym, ap, subst, ◌∙◌, arith, All-nil, Mode, Answer, Fault, Entry, Began, Call, Reply, Op, At, Rooted, Ended, RefusalRow, Terms, IsDelivered, Asked-wide, Rooted-wide, Step, Shelf, Turn, Opening, PutFile, Putting, OpenFile, Writing, Walk, WalkStep, walk_of, Mounted, Machine, Opener, PathMachine, IsNamed, front_of, last_of, machine_of, file_of, Starts, Resumes, Takes, State, Busy, Over, Setup, in_flight, Awaits, awaits-laws, PathOr, begins-unbegun, of_path, WalkMoves, go-step, took-step, all-starts, all-resumes, all-takes, IsNameTold, NamesTold, names-later, LeadsTo, leads-from, leads-later, WalkLeads, go-leads, took-leads, end-leads, walk-later, IsHeard, heard-tells, then-as, ends-later, ends-until, OpeningStory, StepStory, has_to, ThenOf, IsTold, TaleLaws, IsQuiet, AsksFor}
 use Rattle.world_model.proofs.Growth.{Committed-grow}
 use Rattle.op_machines.specs.Openers.{opening_in}
 use Rattle.core_facts.proofs.OpenStory.{not-kind, OpeningTold}
@@ -12,11 +12,11 @@ use Rattle.claims.specs.Asks as asks
 use Rattle.world_model.specs.Leads as leads
 use Rattle.claims.specs.OkRows.{OkRow}
 use Rattle.world_model.specs.Commits.{Committed}
-use Rattle.client_shelf.specs.declared.next.Next.TheVariants as nexts
+use Rattle.client_shelf.specs.declared.step.Step.TheVariants as nexts
 use Rattle.file_ops.specs.declared.put_file.Putting.TheVariants as putting
 use Rattle.file_ops.specs.Opening as opening
 use Rattle.file_ops.specs.PutFile as puts
-use Rattle.name_ops.specs.declared.walk.WalkNext.TheVariants as walks
+use Rattle.name_ops.specs.declared.walk.WalkStep.TheVariants as walks
 use Rattle.name_ops.specs.Walking as walking
 use Rattle.op_machines.specs.declared.file_machine.FileMachine.TheVariants as files
 use Rattle.op_machines.specs.declared.machine.Machine.TheVariants as machines
@@ -71,23 +71,23 @@ module _ (top : List ℕ) (h : List Entry) (x : ℕ) (path : List (List ℕ)) wh
     pub on_way : arrived ≡ false → OnWay walk opener
     pub there : arrived ≡ true → PutAt top h x path opener
 
-  abbrev pub Step : Next → Machine → Type 0
-  Step next new = ThenOf PutRuns (PutAnswer top h x path) next new
+  abbrev pub StepIs : Step → Machine → Type 0
+  StepIs next new = ThenOf PutRuns (PutAnswer top h x path) next new
 
-  path-then : (next : Next) (p : PutFile) (walk : Walk) (new : Machine) → new ≡ machines.Path (record { walk = walk; opener = openers.Put p; arrived = true })
-      → ThenOf (PutAt top h x path) (PutAnswer top h x path) next p → Step next new
+  path-then : (next : Step) (p : PutFile) (walk : Walk) (new : Machine) → new ≡ machines.Path (record { walk = walk; opener = openers.Put p; arrived = true })
+      → ThenOf (PutAt top h x path) (PutAnswer top h x path) next p → StepIs next new
   path-then next p walk new is t = by next t
     where
       runs : PutAt top h x path p → PutRuns new
       runs at = record { walk = walk; opener = p; arrived = true; is = is; on_way = λ no_way. absurd (cc); there = λ yes_is. at }
 
-      by : (k : Next) → ThenOf (PutAt top h x path) (PutAnswer top h x path) k p → Step k new
+      by : (k : Step) → ThenOf (PutAt top h x path) (PutAnswer top h x path) k p → StepIs k new
       by (nexts.Send call) at = runs at
       by nexts.Wait at = runs at
       by (nexts.Done answer) a = a
 
-  then-put : (wsize : ℕ) (walk : Walk) (p : PutFile) (turn : Turn) (old : Shelf) (next : Next) (new : PathMachine) (after : Shelf) → PutAt top h x path p
-      → paths.ThenResumes wsize (record { walk = walk; opener = openers.Put p; arrived = true }) turn old next new after → Step next (machines.Path new)
+  then-put : (wsize : ℕ) (walk : Walk) (p : PutFile) (turn : Turn) (old : Shelf) (next : Step) (new : PathMachine) (after : Shelf) → PutAt top h x path p
+      → paths.ThenResumes wsize (record { walk = walk; opener = openers.Put p; arrived = true }) turn old next new after → StepIs next (machines.Path new)
   then-put wsize walk p turn old next new after at t =
       path-then next t.step.machine walk (machines.Path new)
       (ap machines.Path (t.machine_is ∙ ap (λ (k : Opener). record { walk = walk; opener = k; arrived = true }) (put-of t.opener t.step.machine t.step.machine_is)))
@@ -105,14 +105,14 @@ module _ (top : List ℕ) (h : List Entry) (x : ℕ) (path : List (List ℕ)) wh
       by modes.RW is = tt
       by modes.C is = tt
 
-  follows-put : (step : WalkNext) (wsize : ℕ) (walk : Walk) (p : PutFile) (turn : Turn) (old : Shelf) (next : Next) (new : PathMachine) (after : Shelf) → OnWay walk p → WalkStep step walk
-      → FineWalk NotKind step → paths.Follows step wsize (record { walk = walk; opener = openers.Put p; arrived = false }) turn old next new after → Step next (machines.Path new)
+  follows-put : (step : WalkStep) (wsize : ℕ) (walk : Walk) (p : PutFile) (turn : Turn) (old : Shelf) (next : Step) (new : PathMachine) (after : Shelf) → OnWay walk p → WalkMoves step walk
+      → FineWalk NotKind step → paths.Follows step wsize (record { walk = walk; opener = openers.Put p; arrived = false }) turn old next new after → StepIs next (machines.Path new)
   follows-put step wsize walk p turn old next new after way s none f = by step s none f
     where
       runs : new ≡ record { walk = walk; opener = openers.Put p; arrived = false } → PutRuns (machines.Path new)
       runs is = record { walk = walk; opener = p; arrived = false; is = ap machines.Path is; on_way = λ yes_is. way; there = λ no_way. absurd (cc) }
 
-      by : (k : WalkNext) → WalkStep k walk → FineWalk NotKind k → paths.Follows k wsize (record { walk = walk; opener = openers.Put p; arrived = false }) turn old next new after → Step next (machines.Path new)
+      by : (k : WalkStep) → WalkMoves k walk → FineWalk NotKind k → paths.Follows k wsize (record { walk = walk; opener = openers.Put p; arrived = false }) turn old next new after → StepIs next (machines.Path new)
       by (walks.Send call) k z g = then-as PutRuns (PutAnswer top h x path) (nexts.Send call) next (machines.Path new) g.0 (runs g.1)
       by walks.Wait k z g = then-as PutRuns (PutAnswer top h x path) nexts.Wait next (machines.Path new) g.0 (runs g.1)
       by (walks.At dir) k z g =
@@ -122,20 +122,20 @@ module _ (top : List ℕ) (h : List Entry) (x : ℕ) (path : List (List ℕ)) wh
 
   -- ---- each step
 
-  pub put-goes : (b : Bool) (wsize : ℕ) (walk : Walk) (p : PutFile) (turn : Turn) (old : Shelf) (next : Next) (new : PathMachine) (after : Shelf) → (b ≡ false → OnWay walk p)
+  pub put-goes : (b : Bool) (wsize : ℕ) (walk : Walk) (p : PutFile) (turn : Turn) (old : Shelf) (next : Step) (new : PathMachine) (after : Shelf) → (b ≡ false → OnWay walk p)
       → (b ≡ true → PutAt top h x path p) → NamesTold h old.names → paths.PathResumes b wsize (record { walk = walk; opener = openers.Put p; arrived = b }) turn old next new after
-      → Step next (machines.Path new)
+      → StepIs next (machines.Path new)
   put-goes true wsize walk p turn old next new after way at t r = then-put wsize walk p turn old next new after (at refl) r
   put-goes false wsize walk p turn old next new after way at t r =
       let w = way refl in
       follows-put (walking.go_next walk turn old) wsize (walking.go_after walk turn old) p turn (walking.go_shelf walk turn old) next new after
       (record { leads = go-leads top h (front_of path) walk turn old t w.leads; name_is = w.name_is; mode_is = w.mode_is }) (go-step walk turn old) (go-walk-fine NotKind walk turn old) r
 
-  pub put-hears : (b : Bool) (wsize : ℕ) (walk : Walk) (p : PutFile) (sent turn : Turn) (came : Result Reply Fault) (old : Shelf) (next : Next) (new : PathMachine) (after : Shelf)
+  pub put-hears : (b : Bool) (wsize : ℕ) (walk : Walk) (p : PutFile) (sent turn : Turn) (came : Result Reply Fault) (old : Shelf) (next : Step) (new : PathMachine) (after : Shelf)
       (call : Call) (others : ℕ) → IsNamed path → (b ≡ false → OnWay walk p) → (b ≡ true → PutAt top h x path p) → NamesTold h old.names
       → of_path (record { walk = walk; opener = openers.Put p; arrived = b }) ≡ others + 1 → WaitedPath b (record { walk = walk; opener = openers.Put p; arrived = b }) call
       → IsHeard top h came call → OpeningTold top h x path modes.W came call
-      → paths.PathTakes b wsize (record { walk = walk; opener = openers.Put p; arrived = b }) sent turn came old next new after → Step next (machines.Path new)
+      → paths.PathTakes b wsize (record { walk = walk; opener = openers.Put p; arrived = b }) sent turn came old next new after → StepIs next (machines.Path new)
   put-hears true wsize walk p sent turn came old next new after call others named way at t one e heard told k =
       path-then next k.step.machine walk (machines.Path new)
       (ap machines.Path (k.machine_is ∙ ap (λ (q : Opener). record { walk = walk; opener = q; arrived = true }) (put-of k.opener k.step.machine k.step.machine_is)))
@@ -204,31 +204,31 @@ module _ (m : Mounted) where
   abbrev Shelved : List Entry → Shelf → Type 0
   Shelved h shelf = NamesTold h shelf.names
 
-  asks-none : (h : List Entry) (x : ℕ) (op : Op) (next : Next) → AsksFor (NoWait h x op) next
+  asks-none : (h : List Entry) (x : ℕ) (op : Op) (next : Step) → AsksFor (NoWait h x op) next
   asks-none h x op (nexts.Send call) = tt
   asks-none h x op nexts.Wait = tt
   asks-none h x op (nexts.Done answer) = tt
 
-  for-put : (h : List Entry) (x : ℕ) (op : Op) (next : Next) (new : Machine)
-      → ((path : List (List ℕ)) (offset : ℕ) (bytes : List ℕ) → op ≡ ops.Put path offset bytes → IsNamed path → Step m.root h x path next new)
+  for-put : (h : List Entry) (x : ℕ) (op : Op) (next : Step) (new : Machine)
+      → ((path : List (List ℕ)) (offset : ℕ) (bytes : List ℕ) → op ≡ ops.Put path offset bytes → IsNamed path → StepIs m.root h x path next new)
       → ThenOf (λ k. Story h x op (Busy k)) (λ a. Story h x op (Over a)) next new
   for-put h x op (nexts.Send call) new t = t
   for-put h x op nexts.Wait new t = t
   for-put h x op (nexts.Done answer) new t = t
 
-  step-as : (h : List Entry) (x : ℕ) (path : List (List ℕ)) (next : Next) (to new : Machine) → new ≡ to → Step m.root h x path next to → Step m.root h x path next new
-  step-as h x path next to new is t = subst (λ (k : Machine). Step m.root h x path next k) (sym is) t
+  step-as : (h : List Entry) (x : ℕ) (path : List (List ℕ)) (next : Step) (to new : Machine) → new ≡ to → StepIs m.root h x path next to → StepIs m.root h x path next new
+  step-as h x path next to new is t = subst (λ (k : Machine). StepIs m.root h x path next k) (sym is) t
 
   heard-all : (h : List Entry) (x : ℕ) (op : Op) (machine : Machine) (came : Result Reply Fault) (told : IsTold Waited NoWait h x op machine came) → IsHeard m.root h came told.call
   heard-all h x op machine came told reply is = Asked-wide h x (length h) 0 (length h) told.call reply (omega arith) (omega arith) (told.heard reply is).asked
 
-  begins : (h : List Entry) (x lane : ℕ) (path : List (List ℕ)) (offset : ℕ) (bytes : List ℕ) (wsize : ℕ) (turn : Turn) (old : Shelf) (next : Next) (new : PathMachine) (after : Shelf)
+  begins : (h : List Entry) (x lane : ℕ) (path : List (List ℕ)) (offset : ℕ) (bytes : List ℕ) (wsize : ℕ) (turn : Turn) (old : Shelf) (next : Step) (new : PathMachine) (after : Shelf)
       → NamesTold h old.names
       → paths.StartsIf false wsize (record {
         walk = walk_of m.root (front_of path);
         opener = openers.Put (puts.not_begun lane m.nocto m.root (last_of path) offset bytes);
         arrived = false;
-      }) turn old next new after → Step m.root h x path next (machines.Path new)
+      }) turn old next new after → StepIs m.root h x path next (machines.Path new)
   begins h x lane path offset bytes wsize turn old next new after t s =
       let p : PutFile = puts.not_begun lane m.nocto m.root (last_of path) offset bytes in
       put-goes m.root h x path false wsize (walk_of m.root (front_of path)) (record p { opening = record p.opening { moment = turn.moment - 1 } }) turn old next new after

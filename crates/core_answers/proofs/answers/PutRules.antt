@@ -1,13 +1,13 @@
 -- A put that is refused for a rule: its last fault, and the one that its save keeps, is that of a record that came for one of its calls.
-use Rattle.core_answers.proofs.Prelude.{◌≡◌, ◌+◌, ℕ, Bool, true, false, List, length, Result, Ok, Err, refl, sym, ap, subst, arith, ◌-◌, [], ◌∷◌, ◌++◌, ◌∙◌, Option, Some, None, option_map, if◌then◌else◌, Answer, Fault, Entry, Call, Reply, Ended, is_first, Next, Shelf, Turn, OpeningNext, PutFile, Putting, Saving, Writing, joined, made_bytes, by-step, ends_as, IsNamed, last_of, front_of, machine_of, of_putting, in_flight, FineOption, FineResult, then-as, ThenOf, Began, Op, OpenFile, Walk, WalkNext, walk_of, Mounted, Machine, Opener, PathMachine, file_of, Starts, Resumes, Takes, State, Busy, Over, Setup, begins-unbegun, of_path, AsksFor, PutAwaits, PathOr, Awaits, awaits-laws, program_of, Waiting, Purpose, View, Reaches, look_up, length_last}
+use Rattle.core_answers.proofs.Prelude.{◌≡◌, ◌+◌, ℕ, Bool, true, false, List, length, Result, Ok, Err, refl, sym, ap, subst, arith, ◌-◌, [], ◌∷◌, ◌++◌, ◌∙◌, Option, Some, None, option_map, if◌then◌else◌, Answer, Fault, Entry, Call, Reply, Ended, is_first, Step, Shelf, Turn, OpeningStep, PutFile, Putting, Saving, Writing, joined, made_bytes, by-step, ends_as, IsNamed, last_of, front_of, machine_of, of_putting, in_flight, FineOption, FineResult, then-as, ThenOf, Began, Op, OpenFile, Walk, WalkStep, walk_of, Mounted, Machine, Opener, PathMachine, file_of, Starts, Resumes, Takes, State, Busy, Over, Setup, begins-unbegun, of_path, AsksFor, PutAwaits, PathOr, Awaits, awaits-laws, program_of, Waiting, Purpose, View, Reaches, look_up, length_last}
 use Rattle.op_machines.specs.Openers.{opening_in}
 use Rattle.world_model.specs.declared.answer.Answer.TheVariants as answers
 use Rattle.world_model.specs.declared.answer.Fault.TheVariants as faults
 use Rattle.world_model.specs.declared.answer.Value.TheVariants as values
 use Rattle.world_model.specs.declared.message.Call.TheVariants as calls
 use Rattle.world_model.specs.Heard.{Refused}
-use Rattle.client_shelf.specs.declared.next.Next.TheVariants as nexts
-use Rattle.file_ops.specs.declared.opening.OpeningNext.TheVariants as openings
+use Rattle.client_shelf.specs.declared.step.Step.TheVariants as nexts
+use Rattle.file_ops.specs.declared.opening.OpeningStep.TheVariants as openings
 use Rattle.file_ops.specs.declared.put_file.Putting.TheVariants as putting
 use Rattle.file_ops.specs.declared.write_file.Writing.TheVariants as writings
 use Rattle.file_ops.specs.OpenFile as opens
@@ -17,7 +17,7 @@ use Rattle.file_ops.specs.Saves as saves
 use Rattle.file_ops.specs.Syncs as syncs
 use Rattle.world_model.specs.declared.op.Op.TheVariants as ops
 use Rattle.world_model.proofs.Growth.{Refused-grow, Refused-wide}
-use Rattle.name_ops.specs.declared.walk.WalkNext.TheVariants as walks
+use Rattle.name_ops.specs.declared.walk.WalkStep.TheVariants as walks
 use Rattle.name_ops.specs.Walking as walking
 use Rattle.op_machines.specs.declared.file_machine.FileMachine.TheVariants as files
 use Rattle.op_machines.specs.declared.machine.Machine.TheVariants as machines
@@ -71,16 +71,16 @@ module _ (h : List Entry) (x : ℕ) where
   abbrev pub PutAt : PutFile → Type 0
   PutAt p = StateAt p.state p.write.state
 
-  abbrev FileThen : Writing → Next → Putting → Type 0
+  abbrev FileThen : Writing → Step → Putting → Type 0
   FileThen w next state = ThenOf (λ (s : Putting). StateAt s w) PutAnswer next state
 
-  file-then : (w : Writing) (to : Next) (at : Putting) (next : Next) (state : Putting) → next ≡ to → state ≡ at → FileThen w to at → FileThen w next state
-  file-then w to at next state is same t = subst (λ (n : Next). FileThen w n state) (sym is) (subst (λ (s : Putting). FileThen w to s) (sym same) t)
+  file-then : (w : Writing) (to : Step) (at : Putting) (next : Step) (state : Putting) → next ≡ to → state ≡ at → FileThen w to at → FileThen w next state
+  file-then w to at next state is same t = subst (λ (n : Step). FileThen w n state) (sym is) (subst (λ (s : Putting). FileThen w to s) (sym same) t)
 
-  file-done : (w : Writing) (answer : Answer) (next : Next) (state : Putting) → next ≡ nexts.Done answer → PutAnswer answer → FileThen w next state
-  file-done w answer next state is a = subst (λ (n : Next). FileThen w n state) (sym is) a
+  file-done : (w : Writing) (answer : Answer) (next : Step) (state : Putting) → next ≡ nexts.Done answer → PutAnswer answer → FileThen w next state
+  file-done w answer next state is a = subst (λ (n : Step). FileThen w n state) (sym is) a
 
-  put-follows : (w : Writing) (gives : _) (saved : Saving) (lane : ℕ) (was : Shelf) (next : Next) (state : Putting) (after : Shelf)
+  put-follows : (w : Writing) (gives : _) (saved : Saving) (lane : ℕ) (was : Shelf) (next : Step) (state : Putting) (after : Shelf)
       → SaveFine (IsRule h x) (own h x) (syncs.sync_next gives) saved → puts.Follows gives lane saved was next state after → FileThen w next state
   put-follows w gives saved lane was next state after fine goes = by-step
       (λ g. SaveFine (IsRule h x) (own h x) (syncs.sync_next g) saved → puts.Follows g lane saved was next state after → FileThen w next state)
@@ -93,14 +93,14 @@ module _ (h : List Entry) (x : ℕ) where
       ended (Ok done) f g = file-done w (answers.Done values.Nothing) next state g.next_is tt
       ended (Err fault) f g = file-done w (answers.Refused fault) next state g.next_is f.0
 
-  put-queues : (b : Bool) (w : Writing) (wsize lane : ℕ) (turn : Turn) (s : Saving) (was : Shelf) (next : Next) (state : Putting) (after : Shelf) → FineOption (IsRule h x) s.refusal
+  put-queues : (b : Bool) (w : Writing) (wsize lane : ℕ) (turn : Turn) (s : Saving) (was : Shelf) (next : Step) (state : Putting) (after : Shelf) → FineOption (IsRule h x) s.refusal
       → puts.QueuesIf b wsize lane turn s was next state after → FileThen w next state
   put-queues true w wsize lane turn s was next state after at q =
       put-follows w q.gives q.saved lane q.gone next state after
       (goes-fine (IsRule h x) (own h x) wsize turn.xid turn.room false s was.back q.gives q.saved q.gone.back at q.goes) q.follows
   put-queues false w wsize lane turn s was next state after at q = file-then w nexts.Wait (putting.Saves s) next state q.next_is q.state_is at
 
-  after-write : (told : Next) (w : Writing) (wsize lane : ℕ) (file : List ℕ) (turn : Turn) (was : Shelf) (next : Next) (state : Putting) (after : Shelf)
+  after-write : (told : Step) (w : Writing) (wsize lane : ℕ) (file : List ℕ) (turn : Turn) (was : Shelf) (next : Step) (state : Putting) (after : Shelf)
       → WriteFine (IsRule h x) (own h x) told w → puts.AfterWrite told wsize lane file turn was next state after → FileThen w next state
   after-write (nexts.Send call) w wsize lane file turn was next state after f a = file-then w (nexts.Send call) (putting.Adds file) next state a.0 a.1 f.1
   after-write nexts.Wait w wsize lane file turn was next state after f a = file-then w nexts.Wait (putting.Adds file) next state a.0 a.1 f.1
@@ -108,18 +108,18 @@ module _ (h : List Entry) (x : ℕ) where
       put-queues (is_first lane (joined lane file was).order) w wsize lane turn (saves.begun file was.seq) (joined lane file was) next state after tt a
   after-write (nexts.Done (answers.Refused fault)) w wsize lane file turn was next state after f a = file-done w (answers.Refused fault) next state a.next_is f.0
 
-  to-put : (next : Next) (w : Writing) (new : PutFile) → new.write.state ≡ w → FileThen w next new.state → ThenOf PutAt PutAnswer next new
+  to-put : (next : Step) (w : Writing) (new : PutFile) → new.write.state ≡ w → FileThen w next new.state → ThenOf PutAt PutAnswer next new
   to-put next w new is t = by next t
     where
       at : StateAt new.state w → PutAt new
       at f = subst (λ (k : Writing). StateAt new.state k) (sym is) f
 
-      by : (n : Next) → FileThen w n new.state → ThenOf PutAt PutAnswer n new
+      by : (n : Step) → FileThen w n new.state → ThenOf PutAt PutAnswer n new
       by (nexts.Send call) f = at f
       by nexts.Wait f = at f
       by (nexts.Done answer) f = f
 
-  writes-on : (wsize : ℕ) (m : PutFile) (file : List ℕ) (turn : Turn) (told : Next) (written : Writing) (mid : Shelf) (next : Next) (new : PutFile) (after : Shelf)
+  writes-on : (wsize : ℕ) (m : PutFile) (file : List ℕ) (turn : Turn) (told : Step) (written : Writing) (mid : Shelf) (next : Step) (new : PutFile) (after : Shelf)
       → WriteFine (IsRule h x) (own h x) told written → puts.WritesOn wsize m file turn told written mid next new after → ThenOf PutAt PutAnswer next new
   writes-on wsize m file turn told written mid next new after f w =
       to-put next written new (ap (λ (p : PutFile). p.write.state) w.machine_is) (after-write told written wsize m.write.lane file turn mid next new.state after f w.follows)
@@ -127,7 +127,7 @@ module _ (h : List Entry) (x : ℕ) where
   at-state : (state to : Putting) (w : Writing) → state ≡ to → StateAt to w → StateAt state w
   at-state state to w is s = subst (λ (k : Putting). StateAt k w) (sym is) s
 
-  after-opening : (step : OpeningNext) (wsize : ℕ) (m : PutFile) (turn : Turn) (was : Shelf) (next : Next) (new : PutFile) (after : Shelf) → m.state ≡ putting.Opens
+  after-opening : (step : OpeningStep) (wsize : ℕ) (m : PutFile) (turn : Turn) (was : Shelf) (next : Step) (new : PutFile) (after : Shelf) → m.state ≡ putting.Opens
       → NextRule h x step → puts.AfterOpening step wsize m turn was next new after → ThenOf PutAt PutAnswer next new
   after-opening (openings.Send call) wsize m turn was next new after is n a =
       then-as PutAt PutAnswer (nexts.Send call) next new a.0 (subst PutAt (sym a.1) (at-state m.state putting.Opens m.write.state is tt))
@@ -138,7 +138,7 @@ module _ (h : List Entry) (x : ℕ) where
       (writes-fine (IsRule h x) (own h x) wsize m.write.lane file m.write.offset (made_bytes m.write.text) turn (puts.put_at m.write.lane file was) a.told a.written a.mid a.writes) a.goes
   after-opening (openings.Ended (Err fault)) wsize m turn was next new after is n a = then-as PutAt PutAnswer (nexts.Done (answers.Refused fault)) next new a.0 n
 
-  pub put-resumes : (at : Putting) (wsize : ℕ) (m : PutFile) (turn : Turn) (was : Shelf) (next : Next) (new : PutFile) (after : Shelf) → m.state ≡ at → StateAt at m.write.state
+  pub put-resumes : (at : Putting) (wsize : ℕ) (m : PutFile) (turn : Turn) (was : Shelf) (next : Step) (new : PutFile) (after : Shelf) → m.state ≡ at → StateAt at m.write.state
       → puts.Resumes at wsize m turn was next new after → ThenOf PutAt PutAnswer next new
   put-resumes putting.Idle wsize m turn was next new after is s r =
       then-as PutAt PutAnswer nexts.Wait next new r.next_is (subst PutAt (sym r.machine_is) (at-state m.state putting.Idle m.write.state is tt))
@@ -167,7 +167,7 @@ module _ (h : List Entry) (x : ℕ) where
     fits-write writings.Idle was seen calls_ = tt
     fits-write (writings.Room file saving) was seen calls_ = save-rule h x call sent came saving was.back calls_ told seen
 
-    pub put-takes : (at : Putting) (wsize : ℕ) (m : PutFile) (turn : Turn) (was : Shelf) (next : Next) (new : PutFile) (after : Shelf) (others : ℕ) → m.state ≡ at
+    pub put-takes : (at : Putting) (wsize : ℕ) (m : PutFile) (turn : Turn) (was : Shelf) (next : Step) (new : PutFile) (after : Shelf) (others : ℕ) → m.state ≡ at
         → of_putting at m.opening m.write.state ≡ others + 1 → StateAt at m.write.state → PutAwaits at m.opening call → StateCalls at m.write.state call → Seen was
         → puts.Takes at wsize m sent turn came was next new after → ThenOf PutAt PutAnswer next new
     put-takes putting.Idle wsize m turn was next new after others is one s awaits mine seen t = absurd (omega (arith, one))
@@ -195,43 +195,43 @@ module _ (h : List Entry) (x : ℕ) where
     pub is : machine ≡ machines.Path (record { walk = walk; opener = openers.Put opener; arrived = arrived })
     pub there : arrived ≡ true → PutAt opener
 
-  abbrev pub Step : Next → Machine → Type 0
-  Step next new = ThenOf PutRuns PutAnswer next new
+  abbrev pub StepIs : Step → Machine → Type 0
+  StepIs next new = ThenOf PutRuns PutAnswer next new
 
-  path-then : (next : Next) (p : PutFile) (walk : Walk) (new : Machine) → new ≡ machines.Path (record { walk = walk; opener = openers.Put p; arrived = true })
-      → ThenOf PutAt PutAnswer next p → Step next new
+  path-then : (next : Step) (p : PutFile) (walk : Walk) (new : Machine) → new ≡ machines.Path (record { walk = walk; opener = openers.Put p; arrived = true })
+      → ThenOf PutAt PutAnswer next p → StepIs next new
   path-then next p walk new is t = by next t
     where
       runs : PutAt p → PutRuns new
       runs at = record { walk = walk; opener = p; arrived = true; is = is; there = λ yes_is. at }
 
-      by : (k : Next) → ThenOf PutAt PutAnswer k p → Step k new
+      by : (k : Step) → ThenOf PutAt PutAnswer k p → StepIs k new
       by (nexts.Send call) at = runs at
       by nexts.Wait at = runs at
       by (nexts.Done answer) a = a
 
-  then-put : (wsize : ℕ) (walk : Walk) (p : PutFile) (turn : Turn) (old : Shelf) (next : Next) (new : PathMachine) (after : Shelf) → PutAt p
-      → paths.ThenResumes wsize (record { walk = walk; opener = openers.Put p; arrived = true }) turn old next new after → Step next (machines.Path new)
+  then-put : (wsize : ℕ) (walk : Walk) (p : PutFile) (turn : Turn) (old : Shelf) (next : Step) (new : PathMachine) (after : Shelf) → PutAt p
+      → paths.ThenResumes wsize (record { walk = walk; opener = openers.Put p; arrived = true }) turn old next new after → StepIs next (machines.Path new)
   then-put wsize walk p turn old next new after at t =
       path-then next t.step.machine walk (machines.Path new)
       (ap machines.Path (t.machine_is ∙ ap (λ (k : Opener). record { walk = walk; opener = k; arrived = true }) (put-of t.opener t.step.machine t.step.machine_is)))
       (put-resumes p.state wsize p turn old next t.step.machine after refl at t.step.step)
 
-  follows-put : (step : WalkNext) (wsize : ℕ) (walk : Walk) (p : PutFile) (turn : Turn) (old : Shelf) (next : Next) (new : PathMachine) (after : Shelf)
-      → FineWalk (IsRule h x) step → paths.Follows step wsize (record { walk = walk; opener = openers.Put p; arrived = false }) turn old next new after → Step next (machines.Path new)
+  follows-put : (step : WalkStep) (wsize : ℕ) (walk : Walk) (p : PutFile) (turn : Turn) (old : Shelf) (next : Step) (new : PathMachine) (after : Shelf)
+      → FineWalk (IsRule h x) step → paths.Follows step wsize (record { walk = walk; opener = openers.Put p; arrived = false }) turn old next new after → StepIs next (machines.Path new)
   follows-put step wsize walk p turn old next new after none f = by step none f
     where
       runs : new ≡ record { walk = walk; opener = openers.Put p; arrived = false } → PutRuns (machines.Path new)
       runs is = record { walk = walk; opener = p; arrived = false; is = ap machines.Path is; there = λ no_way. absurd (cc) }
 
-      by : (k : WalkNext) → FineWalk (IsRule h x) k → paths.Follows k wsize (record { walk = walk; opener = openers.Put p; arrived = false }) turn old next new after → Step next (machines.Path new)
+      by : (k : WalkStep) → FineWalk (IsRule h x) k → paths.Follows k wsize (record { walk = walk; opener = openers.Put p; arrived = false }) turn old next new after → StepIs next (machines.Path new)
       by (walks.Send call) z g = then-as PutRuns PutAnswer (nexts.Send call) next (machines.Path new) g.0 (runs g.1)
       by walks.Wait z g = then-as PutRuns PutAnswer nexts.Wait next (machines.Path new) g.0 (runs g.1)
       by (walks.At dir) z g = then-put wsize walk (record p { opening = opening_in dir p.opening; state = putting.Opens }) turn old next new after tt g
       by (walks.Refused fault) z g = then-as PutRuns PutAnswer (nexts.Done (answers.Refused fault)) next (machines.Path new) g.0 z
 
-  pub put-goes : (b : Bool) (wsize : ℕ) (walk : Walk) (p : PutFile) (turn : Turn) (old : Shelf) (next : Next) (new : PathMachine) (after : Shelf) → (b ≡ true → PutAt p)
-      → paths.PathResumes b wsize (record { walk = walk; opener = openers.Put p; arrived = b }) turn old next new after → Step next (machines.Path new)
+  pub put-goes : (b : Bool) (wsize : ℕ) (walk : Walk) (p : PutFile) (turn : Turn) (old : Shelf) (next : Step) (new : PathMachine) (after : Shelf) → (b ≡ true → PutAt p)
+      → paths.PathResumes b wsize (record { walk = walk; opener = openers.Put p; arrived = b }) turn old next new after → StepIs next (machines.Path new)
   put-goes true wsize walk p turn old next new after at r = then-put wsize walk p turn old next new after (at refl) r
   put-goes false wsize walk p turn old next new after at r =
       follows-put (walking.go_next walk turn old) wsize (walking.go_after walk turn old) p turn (walking.go_shelf walk turn old) next new after (go-walk-fine (IsRule h x) walk turn old) r
@@ -246,11 +246,11 @@ module _ (h : List Entry) (x : ℕ) where
       FineErr : Result (List ℕ) Fault → Type 0
       FineErr r = FineResult (IsRule h x) r
 
-  pub put-hears : (b : Bool) (wsize : ℕ) (walk : Walk) (p : PutFile) (sent turn : Turn) (came : Result Reply Fault) (old : Shelf) (next : Next) (new : PathMachine) (after : Shelf)
+  pub put-hears : (b : Bool) (wsize : ℕ) (walk : Walk) (p : PutFile) (sent turn : Turn) (came : Result Reply Fault) (old : Shelf) (next : Step) (new : PathMachine) (after : Shelf)
       (call : Call) (others : ℕ) → (b ≡ true → PutAt p) → of_path (record { walk = walk; opener = openers.Put p; arrived = b }) ≡ others + 1
       → WaitedPath b (record { walk = walk; opener = openers.Put p; arrived = b }) call → RuleTold h x came call
       → ((reply : Reply) → came ≡ Ok reply → IsPiece sent.xid call old.back)
-      → paths.PathTakes b wsize (record { walk = walk; opener = openers.Put p; arrived = b }) sent turn came old next new after → Step next (machines.Path new)
+      → paths.PathTakes b wsize (record { walk = walk; opener = openers.Put p; arrived = b }) sent turn came old next new after → StepIs next (machines.Path new)
   put-hears true wsize walk p sent turn came old next new after call others at one e told seen k =
       path-then next k.step.machine walk (machines.Path new)
       (ap machines.Path (k.machine_is ∙ ap (λ (q : Opener). record { walk = walk; opener = q; arrived = true }) (put-of k.opener k.step.machine k.step.machine_is)))
@@ -324,20 +324,20 @@ NoLane h lane shelf = Unit {0}
 abbrev IsOwn : List Entry → Turn → Call → Shelf → Type 0
 IsOwn h sent call shelf = IsPiece sent.xid call shelf.back
 
-asks-none : (h : List Entry) (x : ℕ) (op : Op) (next : Next) → AsksFor (NoWait h x op) next
+asks-none : (h : List Entry) (x : ℕ) (op : Op) (next : Step) → AsksFor (NoWait h x op) next
 asks-none h x op (nexts.Send call) = tt
 asks-none h x op nexts.Wait = tt
 asks-none h x op (nexts.Done answer) = tt
 
-for-put : (h : List Entry) (x : ℕ) (op : Op) (next : Next) (new : Machine)
-    → ((path : List (List ℕ)) (offset : ℕ) (bytes : List ℕ) → op ≡ ops.Put path offset bytes → IsNamed path → Step h x next new)
+for-put : (h : List Entry) (x : ℕ) (op : Op) (next : Step) (new : Machine)
+    → ((path : List (List ℕ)) (offset : ℕ) (bytes : List ℕ) → op ≡ ops.Put path offset bytes → IsNamed path → StepIs h x next new)
     → ThenOf (λ k. Story h x op (Busy k)) (λ a. Story h x op (Over a)) next new
 for-put h x op (nexts.Send call) new t = t
 for-put h x op nexts.Wait new t = t
 for-put h x op (nexts.Done answer) new t = t
 
-step-as : (h : List Entry) (x : ℕ) (next : Next) (to new : Machine) → new ≡ to → Step h x next to → Step h x next new
-step-as h x next to new is t = subst (λ (k : Machine). Step h x next k) (sym is) t
+step-as : (h : List Entry) (x : ℕ) (next : Step) (to new : Machine) → new ≡ to → StepIs h x next to → StepIs h x next new
+step-as h x next to new is t = subst (λ (k : Machine). StepIs h x next k) (sym is) t
 
 state-grows : (h : List Entry) (e : Entry) (x : ℕ) (state : State) → StateStory h x state → StateStory (h ++ e ∷ []) x state
 state-grows h e x (Busy machine) k = runs-later h e x machine k
@@ -349,12 +349,12 @@ nfs-of (calls.Dir call) is = tt
 nfs-of (calls.Mount call) is = absurd (omega (arith, is))
 
 module _ (m : Mounted) where
-  begins : (h : List Entry) (x lane : ℕ) (path : List (List ℕ)) (offset : ℕ) (bytes : List ℕ) (wsize : ℕ) (turn : Turn) (old : Shelf) (next : Next) (new : PathMachine) (after : Shelf)
+  begins : (h : List Entry) (x lane : ℕ) (path : List (List ℕ)) (offset : ℕ) (bytes : List ℕ) (wsize : ℕ) (turn : Turn) (old : Shelf) (next : Step) (new : PathMachine) (after : Shelf)
       → paths.StartsIf false wsize (record {
         walk = walk_of m.root (front_of path);
         opener = openers.Put (puts.not_begun lane m.nocto m.root (last_of path) offset bytes);
         arrived = false;
-      }) turn old next new after → Step h x next (machines.Path new)
+      }) turn old next new after → StepIs h x next (machines.Path new)
   begins h x lane path offset bytes wsize turn old next new after s =
       let p : PutFile = puts.not_begun lane m.nocto m.root (last_of path) offset bytes in
       put-goes h x false wsize (walk_of m.root (front_of path)) (record p { opening = record p.opening { moment = turn.moment - 1 } }) turn old next new after

@@ -1,6 +1,6 @@
 -- A put, step by step: its path leads to the file that it opens, and it goes well only with the reply to a WRITE or COMMIT of that file, of which a
 -- whole COMMIT was answered 0 since it began. For the kind of its file it is refused only with the reply that shows it.
-use Rattle.core_answers.proofs.Prelude.{◌≡◌, ◌≢◌, ◌+◌, ℕ, Bool, true, false, List, length, Result, Ok, Err, refl, sym, ap, subst, arith, if◌then◌else◌, Attr, Verf, DirKept, FileKept, Answer, Fault, Entry, Call, Reply, Asked, EndsWith, NamesFile, is_first, Next, Shelf, Turn, Opening, OpeningNext, PutFile, Putting, Saving, Writing, commit_told, joined, made_bytes, by-step, ends_as, IsNamed, last_of, of_saving, of_putting, PutAwaits, FineOption, LeadsTo, then-as, OpeningStory, IsFileOf, goes-steps, takes-steps, ThenOf}
+use Rattle.core_answers.proofs.Prelude.{◌≡◌, ◌≢◌, ◌+◌, ℕ, Bool, true, false, List, length, Result, Ok, Err, refl, sym, ap, subst, arith, if◌then◌else◌, Attr, Verf, DirKept, FileKept, Answer, Fault, Entry, Call, Reply, Asked, EndsWith, NamesFile, is_first, Step, Shelf, Turn, Opening, OpeningStep, PutFile, Putting, Saving, Writing, commit_told, joined, made_bytes, by-step, ends_as, IsNamed, last_of, of_saving, of_putting, PutAwaits, FineOption, LeadsTo, then-as, OpeningStory, IsFileOf, goes-steps, takes-steps, ThenOf}
 use Rattle.core_facts.proofs.Faults.{OfReply, Came}
 use Rattle.core_facts.proofs.SaveCommits.{SaveSteps}
 use Rattle.nfs_types.specs.declared.mode.Mode.TheVariants as modes
@@ -14,8 +14,8 @@ use Rattle.world_model.specs.declared.message.Call.TheVariants as calls
 use Rattle.world_model.specs.declared.message.Reply.TheVariants as replies
 use Rattle.claims.specs.Asks as asks
 use Rattle.world_model.specs.Commits.{Committed}
-use Rattle.client_shelf.specs.declared.next.Next.TheVariants as nexts
-use Rattle.file_ops.specs.declared.opening.OpeningNext.TheVariants as openings
+use Rattle.client_shelf.specs.declared.step.Step.TheVariants as nexts
+use Rattle.file_ops.specs.declared.opening.OpeningStep.TheVariants as openings
 use Rattle.file_ops.specs.declared.put_file.Putting.TheVariants as putting
 use Rattle.file_ops.specs.declared.write_file.Writing.TheVariants as writings
 use Rattle.file_ops.specs.OpenFile as opens
@@ -156,18 +156,18 @@ module _ (top : List ℕ) (h : List Entry) (x : ℕ) (path : List (List ℕ)) wh
   with-file (putting.Adds file) o w f = f
   with-file (putting.Saves s) o w f = f
 
-  abbrev FileThen : Writing → Next → Putting → Type 0
+  abbrev FileThen : Writing → Step → Putting → Type 0
   FileThen w next state = ThenOf (FileAt w) PutAnswer next state
 
-  file-then : (w : Writing) (to : Next) (at : Putting) (next : Next) (state : Putting) → next ≡ to → state ≡ at → FileThen w to at → FileThen w next state
-  file-then w to at next state is same t = subst (λ (n : Next). FileThen w n state) (sym is) (subst (λ (s : Putting). FileThen w to s) (sym same) t)
+  file-then : (w : Writing) (to : Step) (at : Putting) (next : Step) (state : Putting) → next ≡ to → state ≡ at → FileThen w to at → FileThen w next state
+  file-then w to at next state is same t = subst (λ (n : Step). FileThen w n state) (sym is) (subst (λ (s : Putting). FileThen w to s) (sym same) t)
 
-  file-done : (w : Writing) (answer : Answer) (next : Next) (state : Putting) → next ≡ nexts.Done answer → PutAnswer answer → FileThen w next state
-  file-done w answer next state is a = subst (λ (n : Next). FileThen w n state) (sym is) a
+  file-done : (w : Writing) (answer : Answer) (next : Step) (state : Putting) → next ≡ nexts.Done answer → PutAnswer answer → FileThen w next state
+  file-done w answer next state is a = subst (λ (n : Step). FileThen w n state) (sym is) a
 
   -- ---- its save
 
-  put-follows : (others : ℕ) (w : Writing) (s : Saving) (gives : _) (saved : Saving) (lane : ℕ) (was : Shelf) (next : Next) (state : Putting) (after : Shelf)
+  put-follows : (others : ℕ) (w : Writing) (s : Saving) (gives : _) (saved : Saving) (lane : ℕ) (was : Shelf) (next : Step) (state : Putting) (after : Shelf)
       → LeadsTo top h path s.file → SaveSteps (Committed h x (length h) s.file) others s (syncs.sync_next gives) saved → SaveFine NotKind own (syncs.sync_next gives) saved
       → (gives ≡ ends_as (Ok tt) → LastNames s.file) → puts.Follows gives lane saved was next state after → FileThen w next state
   put-follows others w s gives saved lane was next state after leads steps fine last goes = by-step
@@ -191,7 +191,7 @@ module _ (top : List ℕ) (h : List Entry) (x : ℕ) (path : List (List ℕ)) wh
           file-done w (answers.Done values.Nothing) next state g.next_is (refl, record { f = s.file; leads = leads; committed = c.ended; last = l refl })
       ended (Err fault) c f l g = file-done w (answers.Refused fault) next state g.next_is (other-answer fault f.0)
 
-  put-queues : (b : Bool) (w : Writing) (wsize lane : ℕ) (turn : Turn) (s : Saving) (was : Shelf) (next : Next) (state : Putting) (after : Shelf) → SaveAt s
+  put-queues : (b : Bool) (w : Writing) (wsize lane : ℕ) (turn : Turn) (s : Saving) (was : Shelf) (next : Step) (state : Putting) (after : Shelf) → SaveAt s
       → puts.QueuesIf b wsize lane turn s was next state after → FileThen w next state
   put-queues true w wsize lane turn s was next state after at q =
       put-follows (of_saving s) w s q.gives q.saved lane q.gone next state after at.0
@@ -202,7 +202,7 @@ module _ (top : List ℕ) (h : List Entry) (x : ℕ) (path : List (List ℕ)) wh
 
   -- ---- its write
 
-  after-write : (told : Next) (w : Writing) (wsize lane : ℕ) (file : List ℕ) (turn : Turn) (was : Shelf) (next : Next) (state : Putting) (after : Shelf) → LeadsTo top h path file
+  after-write : (told : Step) (w : Writing) (wsize lane : ℕ) (file : List ℕ) (turn : Turn) (was : Shelf) (next : Step) (state : Putting) (after : Shelf) → LeadsTo top h path file
       → WriteFine NotKind own told w → puts.AfterWrite told wsize lane file turn was next state after → FileThen w next state
   after-write (nexts.Send call) w wsize lane file turn was next state after l f a = file-then w (nexts.Send call) (putting.Adds file) next state a.0 a.1 (l, f.1)
   after-write nexts.Wait w wsize lane file turn was next state after l f a = file-then w nexts.Wait (putting.Adds file) next state a.0 a.1 (l, f.1)
@@ -211,18 +211,18 @@ module _ (top : List ℕ) (h : List Entry) (x : ℕ) (path : List (List ℕ)) wh
   after-write (nexts.Done (answers.Refused fault)) w wsize lane file turn was next state after l f a = file-done w (answers.Refused fault) next state a.next_is (other-answer fault f.0)
 
   -- the machine after a step that changed its state and its write
-  to-put : (next : Next) (w : Writing) (new : PutFile) → new.write.state ≡ w → FileThen w next new.state → ThenOf PutAt PutAnswer next new
+  to-put : (next : Step) (w : Writing) (new : PutFile) → new.write.state ≡ w → FileThen w next new.state → ThenOf PutAt PutAnswer next new
   to-put next w new is t = by next t
     where
       at : FileAt w new.state → PutAt new
       at f = with-file new.state new.opening new.write.state (subst (λ (k : Writing). FileAt k new.state) (sym is) f)
 
-      by : (n : Next) → FileThen w n new.state → ThenOf PutAt PutAnswer n new
+      by : (n : Step) → FileThen w n new.state → ThenOf PutAt PutAnswer n new
       by (nexts.Send call) f = at f
       by nexts.Wait f = at f
       by (nexts.Done answer) f = f
 
-  writes-on : (wsize : ℕ) (m : PutFile) (file : List ℕ) (turn : Turn) (told : Next) (written : Writing) (mid : Shelf) (next : Next) (new : PutFile) (after : Shelf)
+  writes-on : (wsize : ℕ) (m : PutFile) (file : List ℕ) (turn : Turn) (told : Step) (written : Writing) (mid : Shelf) (next : Step) (new : PutFile) (after : Shelf)
       → LeadsTo top h path file → WriteFine NotKind own told written → puts.WritesOn wsize m file turn told written mid next new after → ThenOf PutAt PutAnswer next new
   writes-on wsize m file turn told written mid next new after l f w =
       to-put next written new (ap (λ (p : PutFile). p.write.state) w.machine_is) (after-write told written wsize m.write.lane file turn mid next new.state after l f w.follows)
@@ -243,7 +243,7 @@ module _ (top : List ℕ) (h : List Entry) (x : ℕ) (path : List (List ℕ)) wh
   at-opening : (state : Putting) (o : Opening) (w : Writing) → state ≡ putting.Opens → OpeningStory top h x path modes.W o → StateAt state o w
   at-opening state o w is s = subst (λ (k : Putting). StateAt k o w) (sym is) s
 
-  after-opening : (d : List ℕ) (step : OpeningNext) (wsize : ℕ) (m : PutFile) (turn : Turn) (was : Shelf) (next : Next) (new : PutFile) (after : Shelf) → m.state ≡ putting.Opens
+  after-opening : (d : List ℕ) (step : OpeningStep) (wsize : ℕ) (m : PutFile) (turn : Turn) (was : Shelf) (next : Step) (new : PutFile) (after : Shelf) → m.state ≡ putting.Opens
       → NextStory top h x path modes.W step m.opening → NextFile top h x path modes.W d step → puts.AfterOpening step wsize m turn was next new after → ThenOf PutAt PutAnswer next new
   after-opening d (openings.Send call) wsize m turn was next new after is s f a =
       then-as PutAt PutAnswer (nexts.Send call) next new a.0 (subst PutAt (sym a.1) (at-opening m.state m.opening m.write.state is s))
@@ -257,7 +257,7 @@ module _ (top : List ℕ) (h : List Entry) (x : ℕ) (path : List (List ℕ)) wh
 
   -- ---- steps without a reply
 
-  pub put-resumes : (at : Putting) (wsize : ℕ) (m : PutFile) (turn : Turn) (was : Shelf) (next : Next) (new : PutFile) (after : Shelf) → m.state ≡ at → StateAt at m.opening m.write.state
+  pub put-resumes : (at : Putting) (wsize : ℕ) (m : PutFile) (turn : Turn) (was : Shelf) (next : Step) (new : PutFile) (after : Shelf) → m.state ≡ at → StateAt at m.opening m.write.state
       → puts.Resumes at wsize m turn was next new after → ThenOf PutAt PutAnswer next new
   put-resumes putting.Idle wsize m turn was next new after is s r =
       then-as PutAt PutAnswer nexts.Wait next new r.next_is (subst PutAt (sym r.machine_is) (subst (λ (k : Putting). StateAt k m.opening m.write.state) (sym is) tt))
@@ -299,7 +299,7 @@ module _ (top : List ℕ) (h : List Entry) (x : ℕ) (path : List (List ℕ)) wh
     last-shown (Err fault) is wsize sent turn repeats s back gives saved after later names t ends =
         absurd (takes-ill wsize sent turn fault repeats s back gives saved after later t ends)
 
-    pub put-takes : (at : Putting) (wsize : ℕ) (m : PutFile) (sent turn : Turn) (was : Shelf) (next : Next) (new : PutFile) (after : Shelf) (others : ℕ) → IsNamed path → m.state ≡ at
+    pub put-takes : (at : Putting) (wsize : ℕ) (m : PutFile) (sent turn : Turn) (was : Shelf) (next : Step) (new : PutFile) (after : Shelf) (others : ℕ) → IsNamed path → m.state ≡ at
         → of_putting at m.opening m.write.state ≡ others + 1 → StateAt at m.opening m.write.state → PutAwaits at m.opening call → PutExpects at call → PutNames at call
         → puts.Takes at wsize m sent turn came was next new after → ThenOf PutAt PutAnswer next new
     put-takes putting.Idle wsize m sent turn was next new after others named is one s awaits expects names t = absurd (omega (arith, one))

@@ -1,6 +1,6 @@
 -- Which rules a reply breaks for a put: where it asks by LOOKUP, CREATE and GETATTR, or sends by WRITE and COMMIT, what came breaks the rule that it
 -- is refused for.
-use Rattle.core_answers.proofs.Prelude.{◌≡◌, ◌<◌, ◌||◌, ◌==◌, ◌⊎◌, inl, inr, ℕ, Bool, true, false, List, length, Option, Some, None, Result, Ok, Err, refl, sym, subst, arith, if◌then◌else◌, nat_lt, eqb-true, Attr, Verf, Wcc, DirKept, FileKept, looked, known_of, Fault, Entry, Call, Reply, look_up, Asked, Turn, Pending, Sent, Led, Opening, OpeningNext, OpeningStep, Saving, write_told_by, written_by, commit_told, got_by, FineOption, FineResult, fine-fault, write_of}
+use Rattle.core_answers.proofs.Prelude.{◌≡◌, ◌<◌, ◌||◌, ◌==◌, ◌⊎◌, inl, inr, ℕ, Bool, true, false, List, length, Option, Some, None, Result, Ok, Err, refl, sym, subst, arith, if◌then◌else◌, nat_lt, eqb-true, Attr, Verf, Wcc, DirKept, FileKept, looked, known_of, Fault, Entry, Call, Reply, look_up, Asked, Turn, Pending, Sent, Led, Opening, OpeningStep, OpeningPhase, Saving, write_told_by, written_by, commit_told, got_by, FineOption, FineResult, fine-fault, write_of}
 use Rattle.std.proofs.lemmas.Bool.{ltb-true}
 use Rattle.file_ops.specs.Judging.{commit_told_by}
 use Rattle.file_ops.specs.Told.{found_by, made_by}
@@ -14,8 +14,8 @@ use Rattle.world_model.specs.declared.message.Call.TheVariants as calls
 use Rattle.world_model.specs.declared.message.Reply.TheVariants as replies
 use Rattle.world_model.specs.Rules.{Breaks, wrong_committed, wrong_count}
 use Rattle.file_ops.specs.declared.opening.Led.TheVariants as leads
-use Rattle.file_ops.specs.declared.opening.OpeningNext.TheVariants as openings
-use Rattle.file_ops.specs.declared.opening.OpeningStep.TheVariants as opening_steps
+use Rattle.file_ops.specs.declared.opening.OpeningStep.TheVariants as openings
+use Rattle.file_ops.specs.declared.opening.OpeningPhase.TheVariants as opening_steps
 use Rattle.file_ops.specs.Opening as opening
 use Rattle.file_ops.specs.Saves as saves
 use Rattle.core_facts.specs.Refusing.{IsRefusedSo}
@@ -126,7 +126,7 @@ module _ (h : List Entry) (x : ℕ) where
       by false = tt
   got-led file (Err fault) f = f
 
-  led-to-rule : (o : Opening) (step : OpeningStep) (came : Result Reply Fault) → RuleTold came (opening.call_of o step) → LedRule (opening.led_to o.mode step came)
+  led-to-rule : (o : Opening) (step : OpeningPhase) (came : Result Reply Fault) → RuleTold came (opening.call_of o step) → LedRule (opening.led_to o.mode step came)
   led-to-rule o opening_steps.Look came t = look-led (opening.makes o.mode came) (found_by came) (found-rule o.dir o.name came t)
   led-to-rule o opening_steps.Make came t = made-led (made_by came) (made-rule o came t)
   led-to-rule o opening_steps.Find came t = found-led (found_by came) (found-rule o.dir o.name came t)
@@ -158,13 +158,13 @@ module _ (h : List Entry) (x : ℕ) where
       by false = led-to-rule o o.step came t
 
   -- what a step of it comes to
-  abbrev pub NextRule : OpeningNext → Type 0
+  abbrev pub NextRule : OpeningStep → Type 0
   NextRule (openings.Send call) = Unit {0}
   NextRule openings.Wait = Unit {0}
   NextRule (openings.Ended (Ok file)) = Unit {0}
   NextRule (openings.Ended (Err fault)) = IsRule fault
 
-  next-as : (to step : OpeningNext) → step ≡ to → NextRule to → NextRule step
+  next-as : (to step : OpeningStep) → step ≡ to → NextRule to → NextRule step
   next-as to step is n = subst NextRule (sym is) n
 
   opened-rule : (file : List ℕ) (to : _) (result : Result (List ℕ) Fault) (pages later : _) → opening.FileOpened file to result pages later → NextRule (openings.Ended result)
@@ -178,7 +178,7 @@ module _ (h : List Entry) (x : ℕ) where
       by true = tt
       by false = tt
 
-  pub next-rule : (again : Bool) (o : Opening) (sent turn : Turn) (led : Led) (step : OpeningNext) (pages later : _) → LedRule led
+  pub next-rule : (again : Bool) (o : Opening) (sent turn : Turn) (led : Led) (step : OpeningStep) (pages later : _) → LedRule led
       → opening.LedIf again o sent turn led step pages later → NextRule step
   next-rule true o sent turn led step pages later f l = next-as (openings.Send (opening.call_of o o.step)) step l.0 tt
   next-rule false o sent turn (leads.Goes to) step pages later f l = next-as (opening.go_next (opening.at_step o to) turn) step l.0 (go-rule (opening.at_step o to) turn)

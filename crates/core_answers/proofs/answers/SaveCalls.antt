@@ -1,8 +1,8 @@
 -- For which calls a save waits: where it sends, for WRITEs of its file, else for the COMMIT of it.
-use Rattle.core_answers.proofs.Prelude.{◌≡◌, ◌==◌, ◌&&◌, ◌+◌, ◌≤◌, ℕ, Bool, true, false, List, [], ◌∷◌, Option, Some, None, Result, Ok, Err, inl, inr, refl, sym, ap, subst, nat_lt, Verdict, AllStable, SendAgain, Verf, Fault, Memory, Call, Reply, Next, Repeat, Turn, goes_again, chosen, piece_of, Pending, of_file, Sent, Segments, Sending, Committing, Resending, CommittingAgain, Saving, commit_told, of_saving, goes-steps, takes-steps}
+use Rattle.core_answers.proofs.Prelude.{◌≡◌, ◌==◌, ◌&&◌, ◌+◌, ◌≤◌, ℕ, Bool, true, false, List, [], ◌∷◌, Option, Some, None, Result, Ok, Err, inl, inr, refl, sym, ap, subst, nat_lt, Verdict, AllStable, SendAgain, Verf, Fault, Memory, Call, Reply, Step, Repeat, Turn, goes_again, chosen, piece_of, Pending, of_file, Sent, Segments, Sending, Committing, Resending, CommittingAgain, Saving, commit_told, of_saving, goes-steps, takes-steps}
 use Rattle.nfs_file_calls.specs.declared.call.FileCall.TheVariants.{Write}
 use Rattle.world_model.specs.declared.message.Call.TheVariants as calls
-use Rattle.client_shelf.specs.declared.next.Next.TheVariants as nexts
+use Rattle.client_shelf.specs.declared.step.Step.TheVariants as nexts
 use Rattle.file_ops.specs.declared.saving.Phase.{Phase}
 use Rattle.file_ops.specs.Saves as saves
 use Rattle.file_ops.specs.Syncs as syncs
@@ -21,7 +21,7 @@ abbrev pub SaveCall : Saving → Call → Type 0
 SaveCall s call = CallBy (saves.is_sending s.phase) s.file call
 
 -- a step as one of a sync
-abbrev pub CallSo : Next → Saving → Type 0
+abbrev pub CallSo : Step → Saving → Type 0
 CallSo (nexts.Send call) new = SaveCall new call
 CallSo nexts.Wait new = Unit {0}
 CallSo (nexts.Done answer) new = Unit {0}

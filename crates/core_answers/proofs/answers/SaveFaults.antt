@@ -1,6 +1,6 @@
 -- Which faults a step of a save gives: out of memory, a broken rule, those of what came of its calls, and those that it keeps. (A save
 -- gives no fault of another operation, so nothing is asked of those here.)
-use Rattle.core_answers.proofs.Prelude.{◌≡◌, ◌+◌, ◌==◌, ◌&&◌, ◌||◌, ℕ, Bool, true, false, List, [], ◌∷◌, Option, Some, None, Result, Ok, Err, inl, inr, refl, sym, ap, subst, nat_lt, Verdict, AllStable, SendAgain, Verf, Wcc, FileKept, Fault, Memory, Reply, Next, Repeat, Turn, goes_again, chosen, Pending, of_file, Segments, Sending, Committing, Resending, CommittingAgain, Saving, write_told, write_told_by, written_by, commit_told, FineResult, FineOption, FineNext, fine-fault}
+use Rattle.core_answers.proofs.Prelude.{◌≡◌, ◌+◌, ◌==◌, ◌&&◌, ◌||◌, ℕ, Bool, true, false, List, [], ◌∷◌, Option, Some, None, Result, Ok, Err, inl, inr, refl, sym, ap, subst, nat_lt, Verdict, AllStable, SendAgain, Verf, Wcc, FileKept, Fault, Memory, Reply, Step, Repeat, Turn, goes_again, chosen, Pending, of_file, Segments, Sending, Committing, Resending, CommittingAgain, Saving, write_told, write_told_by, written_by, commit_told, FineResult, FineOption, FineNext, fine-fault}
 use Rattle.world_model.specs.declared.answer.Fault.TheVariants.{Nfs, Bad}
 use Rattle.file_ops.specs.Judging.{commit_told_by}
 use Rattle.core_facts.proofs.Faults.{OfReply, Came, fine-some}
@@ -16,7 +16,7 @@ pub record CallFaults (P : Fault → Type 0) : Type 0 where
 
 module _ (P : Fault → Type 0) (own : CallFaults P) where
   -- the step is so, and so is the fault that the save keeps
-  abbrev pub SaveFine : Next → Saving → Type 0
+  abbrev pub SaveFine : Step → Saving → Type 0
   SaveFine next new = FineNext P next × FineOption P new.refusal
 
   leads-fine : (to : _) (saved : Saving) (next : _) (new : Saving) → saves.Leads to saved next new → SaveFine (syncs.sync_next to) saved → SaveFine (syncs.sync_next next) new

@@ -1,13 +1,13 @@
 -- Each call of a save names its file.
-use Rattle.core_answers.proofs.Prelude.{◌≡◌, ◌==◌, ◌&&◌, ℕ, Bool, true, false, List, [], ◌∷◌, Option, Some, None, Result, Ok, Err, inl, inr, refl, sym, subst, nat_lt, Verdict, AllStable, SendAgain, Verf, Fault, Memory, Reply, NamesFile, Next, Repeat, Turn, goes_again, chosen, piece_of, Pending, of_file, Sent, Segments, Sending, Committing, Resending, CommittingAgain, Saving, commit_told}
+use Rattle.core_answers.proofs.Prelude.{◌≡◌, ◌==◌, ◌&&◌, ℕ, Bool, true, false, List, [], ◌∷◌, Option, Some, None, Result, Ok, Err, inl, inr, refl, sym, subst, nat_lt, Verdict, AllStable, SendAgain, Verf, Fault, Memory, Reply, NamesFile, Step, Repeat, Turn, goes_again, chosen, piece_of, Pending, of_file, Sent, Segments, Sending, Committing, Resending, CommittingAgain, Saving, commit_told}
 use Rattle.claims.specs.Slots.{writes, commits}
-use Rattle.client_shelf.specs.declared.next.Next.TheVariants as nexts
+use Rattle.client_shelf.specs.declared.step.Step.TheVariants as nexts
 use Rattle.file_ops.specs.declared.saving.Phase.{Phase}
 use Rattle.file_ops.specs.Saves as saves
 use Rattle.file_ops.specs.Syncs as syncs
 
 -- the call of a step, as one of a sync, names the file, if it makes one
-abbrev pub CallNames : List ℕ → Next → Type 0
+abbrev pub CallNames : List ℕ → Step → Type 0
 CallNames file (nexts.Send call) = NamesFile file call
 CallNames file nexts.Wait = Unit {0}
 CallNames file (nexts.Done answer) = Unit {0}

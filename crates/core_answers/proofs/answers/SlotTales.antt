@@ -1,6 +1,6 @@
 -- Stories of operations that know for which calls these wait, what their lane's slots hold as they begin, and what the shelf holds as a reply comes. It
 -- is an instance of the engine in `core_facts` (`proofs/Telling`).
-use Rattle.core_answers.proofs.Prelude.{HadStory, IsFresh, View, Purpose, State, Busy, Over, Setup, Next, Shelf, Turn, ExpectLaws, forget, Anything, passes-any, IsTold, IsQuiet, Did, in_flight, IsUnbegun, Reaches, IsMade, Starts, Resumes, Takes, Machine, waiting_at, Waiting, ◌≡◌, ◌+◌, ℕ, List, [], ◌∷◌, ◌++◌, length, false, Some, Result, Ok, Err, sym, ◌∙◌, IsLost, Ended, Answer, Refused, Fault, Entry, Began, Delivered, Call, Reply, Op}
+use Rattle.core_answers.proofs.Prelude.{HadStory, IsFresh, View, Purpose, State, Busy, Over, Setup, Step, Shelf, Turn, ExpectLaws, forget, Anything, passes-any, IsTold, IsQuiet, Did, in_flight, IsUnbegun, Reaches, IsMade, Starts, Resumes, Takes, Machine, waiting_at, Waiting, ◌≡◌, ◌+◌, ℕ, List, [], ◌∷◌, ◌++◌, length, false, Some, Result, Ok, Err, sym, ◌∙◌, IsLost, Ended, Answer, Refused, Fault, Entry, Began, Delivered, Call, Reply, Op}
 use Rattle.core_facts.proofs.Tales.{told-heard, told-unmade, not-both}
 use Rattle.core_facts.proofs.Telling.{Sight, CameOf, heard_of, unmade, TellLaws}
 use Rattle.core_facts.specs.Reaches.{IsSetUp, MayHear}
@@ -23,11 +23,11 @@ pub record IsToldOf (Q : List Entry → Turn → Call → Shelf → Type 0) (E :
 pub record SlotLaws (P : List Entry → ℕ → Shelf → Type 0) (Q : List Entry → Turn → Call → Shelf → Type 0) (machine_of : ℕ → Op → Machine) (setup : Setup) (E : Machine → Call → Type 0)
     (W : List Entry → ℕ → Op → Call → Type 0) (I : List Entry → Shelf → Type 0) (S : List Entry → ℕ → Op → State → Type 0) : Type 0 where
   pub fresh : (h : List Entry) (v : View) → IsSetUp setup h → IsFresh setup v → I h v.shelf
-  pub starts : (h : List Entry) (lane line : ℕ) (op : Op) (wsize : ℕ) (turn : Turn) (old : Shelf) (next : Next) (new : Machine) (after : Shelf) → P h lane old
+  pub starts : (h : List Entry) (lane line : ℕ) (op : Op) (wsize : ℕ) (turn : Turn) (old : Shelf) (next : Step) (new : Machine) (after : Shelf) → P h lane old
       → I (h ++ Began lane line op ∷ []) old → Starts wsize (machine_of lane op) turn old next new after → Did W I S (h ++ Began lane line op ∷ []) (length h) op next new after
-  pub resumes : (h : List Entry) (x : ℕ) (op : Op) (machine : Machine) (wsize : ℕ) (turn : Turn) (old : Shelf) (next : Next) (new : Machine) (after : Shelf)
+  pub resumes : (h : List Entry) (x : ℕ) (op : Op) (machine : Machine) (wsize : ℕ) (turn : Turn) (old : Shelf) (next : Step) (new : Machine) (after : Shelf)
       → I h old → S h x op (Busy machine) → Resumes wsize machine turn old next new after → Did W I S h x op next new after
-  pub takes : (h : List Entry) (x : ℕ) (op : Op) (machine : Machine) (wsize : ℕ) (sent turn : Turn) (came : Result Reply Fault) (old : Shelf) (next : Next) (new : Machine)
+  pub takes : (h : List Entry) (x : ℕ) (op : Op) (machine : Machine) (wsize : ℕ) (sent turn : Turn) (came : Result Reply Fault) (old : Shelf) (next : Step) (new : Machine)
       (after : Shelf) (others : ℕ) → I h old → S h x op (Busy machine) → in_flight machine ≡ others + 1 → IsToldOf Q E W h x op machine sent came old
       → Takes wsize machine sent turn came old next new after → Did W I S h x op next new after
   pub seen : (h : List Entry) (e : Entry) (sent : Turn) (call : Call) (shelf : Shelf) → Q h sent call shelf → Q (h ++ e ∷ []) sent call shelf

@@ -1,10 +1,10 @@
 -- Which faults a walk gives: a status, a reply that doesn't fit, or what came in place of a reply.
-use Rattle.core_answers.proofs.Prelude.{◌≡◌, ℕ, Bool, true, false, List, Option, Some, None, Result, Ok, Err, refl, sym, subst, if◌then◌else◌, DirKept, Fault, Reply, Shelf, Turn, Visit, VisitNext, Walk, WalkNext, found_by, look_again}
+use Rattle.core_answers.proofs.Prelude.{◌≡◌, ℕ, Bool, true, false, List, Option, Some, None, Result, Ok, Err, refl, sym, subst, if◌then◌else◌, DirKept, Fault, Reply, Shelf, Turn, Visit, VisitStep, Walk, WalkStep, found_by, look_again}
 use Rattle.nfs_dir_calls.specs.declared.keeping.DirKept.TheVariants as kept
 use Rattle.world_model.specs.declared.answer.Fault.TheVariants as faults
 use Rattle.world_model.specs.declared.message.Reply.TheVariants as replies
-use Rattle.name_ops.specs.declared.visit.VisitNext.TheVariants as visits
-use Rattle.name_ops.specs.declared.walk.WalkNext.TheVariants as walks
+use Rattle.name_ops.specs.declared.visit.VisitStep.TheVariants as visits
+use Rattle.name_ops.specs.declared.walk.WalkStep.TheVariants as walks
 use Rattle.name_ops.specs.Visiting as visiting
 use Rattle.name_ops.specs.Walking as walking
 
@@ -14,7 +14,7 @@ pub record LookFaults (P : Fault → Type 0) : Type 0 where
   pub bad : P (faults.Bad 2)
 
 module _ (P : Fault → Type 0) where
-  abbrev pub FineWalk : WalkNext → Type 0
+  abbrev pub FineWalk : WalkStep → Type 0
   FineWalk (walks.Send call) = Unit {0}
   FineWalk walks.Wait = Unit {0}
   FineWalk (walks.At dir) = Unit {0}
@@ -48,7 +48,7 @@ module _ (P : Fault → Type 0) where
   FineLook None came = Unit {0}
   FineLook (Some name) came = (fault : Fault) → found_by came ≡ Err fault → P fault
 
-  pub took-walk-by : (name : Option (List ℕ)) (w : Walk) (sent turn : Turn) (came : Result Reply Fault) (old : Shelf) (step : WalkNext) (new : Walk) (after : Shelf)
+  pub took-walk-by : (name : Option (List ℕ)) (w : Walk) (sent turn : Turn) (came : Result Reply Fault) (old : Shelf) (step : WalkStep) (new : Walk) (after : Shelf)
       → FineLook name came → walking.Takes name w sent turn came old step new after → FineWalk step
   took-walk-by None w sent turn came old step new after fine k = subst FineWalk (sym k.next_is) tt
   took-walk-by (Some name) w sent turn came old step new after fine k = subst FineWalk (sym k.next_is) (by (look_again sent turn came old))
@@ -59,13 +59,13 @@ module _ (P : Fault → Type 0) where
 
   -- ---- a walk and a call
 
-  abbrev pub FineVisit : VisitNext → Type 0
+  abbrev pub FineVisit : VisitStep → Type 0
   FineVisit (visits.Look call) = Unit {0}
   FineVisit visits.Wait = Unit {0}
   FineVisit (visits.Ask object) = Unit {0}
   FineVisit (visits.Refused fault) = P fault
 
-  follow-fine : (step : WalkNext) (room : Bool) → FineWalk step → FineVisit (visiting.follow_next step room)
+  follow-fine : (step : WalkStep) (room : Bool) → FineWalk step → FineVisit (visiting.follow_next step room)
   follow-fine (walks.Send call) room f = tt
   follow-fine walks.Wait room f = tt
   follow-fine (walks.At object) true f = tt
@@ -91,7 +91,7 @@ module _ (P : Fault → Type 0) (own : LookFaults P) where
   came-walk-fine (Ok (replies.Mount reply)) fault fine is = let bad : faults.Bad 2 ≡ fault = cc in subst P bad own.bad
   came-walk-fine (Err f) fault fine is = let same : f ≡ fault = cc in subst P same (fine f refl)
 
-  pub took-walk-fine : (name : Option (List ℕ)) (w : Walk) (sent turn : Turn) (came : Result Reply Fault) (old : Shelf) (step : WalkNext) (new : Walk) (after : Shelf)
+  pub took-walk-fine : (name : Option (List ℕ)) (w : Walk) (sent turn : Turn) (came : Result Reply Fault) (old : Shelf) (step : WalkStep) (new : Walk) (after : Shelf)
       → FineFault P came → walking.Takes name w sent turn came old step new after → FineWalk P step
   took-walk-fine name w sent turn came old step new after fine k = took-walk-by P name w sent turn came old step new after (by name) k
     where
@@ -99,7 +99,7 @@ module _ (P : Fault → Type 0) (own : LookFaults P) where
       by None = tt
       by (Some named) = λ fault is. came-walk-fine came fault fine is
 
-  pub took-visit-fine : (v : Visit) (sent turn : Turn) (came : Result Reply Fault) (old : Shelf) (step : VisitNext) (new : Visit) (after : Shelf) → FineFault P came
+  pub took-visit-fine : (v : Visit) (sent turn : Turn) (came : Result Reply Fault) (old : Shelf) (step : VisitStep) (new : Visit) (after : Shelf) → FineFault P came
       → visiting.VisitTakes v sent turn came old step new after → FineVisit P step
   took-visit-fine v sent turn came old step new after fine k =
       subst (FineVisit P) (sym k.next_is)

@@ -1,9 +1,9 @@
 -- Which faults a step of the write of a put gives, as of a save.
-use Rattle.core_answers.proofs.Prelude.{ℕ, Bool, true, false, List, Result, Ok, Err, inl, inr, sym, subst, Fault, Reply, left, is_first, Next, Shelf, Turn, Pending, Saving, WriteFile, Writing, joined, by-step, ends_as, FineOption, FineNext, fine-as}
+use Rattle.core_answers.proofs.Prelude.{ℕ, Bool, true, false, List, Result, Ok, Err, inl, inr, sym, subst, Fault, Reply, left, is_first, Step, Shelf, Turn, Pending, Saving, WriteFile, Writing, joined, by-step, ends_as, FineOption, FineNext, fine-as}
 use Rattle.world_model.specs.declared.answer.Answer.TheVariants as answers
 use Rattle.world_model.specs.declared.answer.Fault.TheVariants as faults
 use Rattle.world_model.specs.declared.answer.Value.TheVariants as values
-use Rattle.client_shelf.specs.declared.next.Next.TheVariants as nexts
+use Rattle.client_shelf.specs.declared.step.Step.TheVariants as nexts
 use Rattle.file_ops.specs.declared.write_file.Writing.TheVariants as writing
 use Rattle.file_ops.specs.Saves as saves
 use Rattle.file_ops.specs.Syncs as syncs
@@ -15,10 +15,10 @@ module _ (P : Fault → Type 0) (own : CallFaults P) where
   FineWriting writing.Idle = Unit {0}
   FineWriting (writing.Room file saving) = FineOption P saving.refusal
 
-  abbrev pub WriteFine : Next → Writing → Type 0
+  abbrev pub WriteFine : Step → Writing → Type 0
   WriteFine next state = FineNext P next × FineWriting state
 
-  leads-write : (to : Next) (state : Writing) (shelf : Shelf) (next : Next) (new : Writing) (after : Shelf) → writes.Leads to state shelf next new after → WriteFine to state → WriteFine next new
+  leads-write : (to : Step) (state : Writing) (shelf : Shelf) (next : Step) (new : Writing) (after : Shelf) → writes.Leads to state shelf next new after → WriteFine to state → WriteFine next new
   leads-write to state shelf next new after l f = (fine-as P to next l.gives_next f.0, subst FineWriting (sym l.keeps) f.1)
 
   room-write : (told : _) (file : List ℕ) (saved : Saving) → SaveFine P own (syncs.sync_next told) saved → WriteFine (writes.room_next told) (writes.room_state told file saved)
@@ -30,17 +30,17 @@ module _ (P : Fault → Type 0) (own : CallFaults P) where
       ended (Ok nothing) k = (tt, k.1)
       ended (Err fault) k = (k.0, tt)
 
-  saves-if : (b : Bool) (wsize lane : ℕ) (file : List ℕ) (saving : Saving) (turn : Turn) (shelf : Shelf) (next : Next) (new : Writing) (after : Shelf) → FineOption P saving.refusal
+  saves-if : (b : Bool) (wsize lane : ℕ) (file : List ℕ) (saving : Saving) (turn : Turn) (shelf : Shelf) (next : Step) (new : Writing) (after : Shelf) → FineOption P saving.refusal
       → writes.SavesIf b wsize lane file saving turn shelf next new after → WriteFine next new
   saves-if true wsize lane file saving turn shelf next new after f s =
       leads-write (writes.room_next s.told) (writes.room_state s.told file s.saved) _ next new after s.leads
       (room-write s.told file s.saved (goes-fine P own wsize turn.xid turn.room false saving shelf.back s.told s.saved s.back f s.goes))
   saves-if false wsize lane file saving turn shelf next new after f s = leads-write nexts.Wait (writing.Room file saving) shelf next new after s (tt, f)
 
-  refuses-write : (fault : Fault) (shelf : Shelf) (next : Next) (new : Writing) (after : Shelf) → P fault → writes.Refuses fault shelf next new after → WriteFine next new
+  refuses-write : (fault : Fault) (shelf : Shelf) (next : Step) (new : Writing) (after : Shelf) → P fault → writes.Refuses fault shelf next new after → WriteFine next new
   refuses-write fault shelf next new after n l = leads-write (nexts.Done (answers.Refused fault)) writing.Idle shelf next new after l (n, tt)
 
-  writes-if : (b : Bool) (wsize lane : ℕ) (file : List ℕ) (offset : ℕ) (bytes : List ℕ) (turn : Turn) (shelf : Shelf) (next : Next) (new : Writing) (after : Shelf)
+  writes-if : (b : Bool) (wsize lane : ℕ) (file : List ℕ) (offset : ℕ) (bytes : List ℕ) (turn : Turn) (shelf : Shelf) (next : Step) (new : Writing) (after : Shelf)
       → writes.WritesIf b wsize lane file offset bytes turn shelf next new after → WriteFine next new
   writes-if true wsize lane file offset bytes turn shelf next new after (inl s) =
       saves-if (is_first lane (joined lane s.of shelf).order) wsize lane file (saves.begun s.of shelf.seq) turn (joined lane s.of shelf) next new after tt s.saves
@@ -48,16 +48,16 @@ module _ (P : Fault → Type 0) (own : CallFaults P) where
   writes-if false wsize lane file offset bytes turn shelf next new after (inl s) = leads-write (nexts.Done (answers.Done values.Nothing)) writing.Idle _ next new after s.leads (tt, tt)
   writes-if false wsize lane file offset bytes turn shelf next new after (inr s) = refuses-write faults.Memory shelf next new after own.memory s
 
-  pub writes-fine : (wsize lane : ℕ) (file : List ℕ) (offset : ℕ) (bytes : List ℕ) (turn : Turn) (shelf : Shelf) (next : Next) (new : Writing) (after : Shelf)
+  pub writes-fine : (wsize lane : ℕ) (file : List ℕ) (offset : ℕ) (bytes : List ℕ) (turn : Turn) (shelf : Shelf) (next : Step) (new : Writing) (after : Shelf)
       → writes.Writes wsize lane file offset bytes turn shelf next new after → WriteFine next new
   writes-fine wsize lane file offset bytes turn shelf next new after w = writes-if _ wsize lane file offset bytes turn shelf next new after w
 
-  pub write-resumes : (at : Writing) (wsize lane : ℕ) (turn : Turn) (shelf : Shelf) (next : Next) (new : Writing) (after : Shelf) → FineWriting at
+  pub write-resumes : (at : Writing) (wsize lane : ℕ) (turn : Turn) (shelf : Shelf) (next : Step) (new : Writing) (after : Shelf) → FineWriting at
       → writes.ResumesIn at wsize lane turn shelf next new after → WriteFine next new
   write-resumes writing.Idle wsize lane turn shelf next new after f r = leads-write nexts.Wait writing.Idle shelf next new after r (tt, tt)
   write-resumes (writing.Room file saving) wsize lane turn shelf next new after f r = saves-if (is_first lane shelf.order) wsize lane file saving turn shelf next new after f r
 
-  follows-write : (told : _) (wsize : ℕ) (m : WriteFile) (file : List ℕ) (saved : Saving) (turn : Turn) (shelf : Shelf) (next : Next) (new : Writing) (after : Shelf)
+  follows-write : (told : _) (wsize : ℕ) (m : WriteFile) (file : List ℕ) (saved : Saving) (turn : Turn) (shelf : Shelf) (next : Step) (new : Writing) (after : Shelf)
       → SaveFine P own (syncs.sync_next told) saved → writes.Follows told wsize m file saved turn shelf next new after → WriteFine next new
   follows-write told wsize m file saved turn shelf next new after c f = by-step
       (λ g. SaveFine P own (syncs.sync_next g) saved → writes.Follows g wsize m file saved turn shelf next new after → WriteFine next new)
@@ -74,7 +74,7 @@ module _ (P : Fault → Type 0) (own : CallFaults P) where
   FitsWrite sent came writing.Idle back = Unit {0}
   FitsWrite sent came (writing.Room file saving) back = FitsSave P own sent came saving back
 
-  pub write-takes : (at : Writing) (wsize : ℕ) (m : WriteFile) (sent turn : Turn) (came : Result Reply Fault) (shelf : Shelf) (next : Next) (new : Writing) (after : Shelf)
+  pub write-takes : (at : Writing) (wsize : ℕ) (m : WriteFile) (sent turn : Turn) (came : Result Reply Fault) (shelf : Shelf) (next : Step) (new : Writing) (after : Shelf)
       → FitsWrite sent came at shelf.back → FineWriting at → writes.TakesIn at wsize m sent turn came shelf next new after → WriteFine next new
   write-takes writing.Idle wsize m sent turn came shelf next new after n f t = leads-write nexts.Wait writing.Idle shelf next new after t (tt, tt)
   write-takes (writing.Room file saving) wsize m sent turn came shelf next new after n f t =

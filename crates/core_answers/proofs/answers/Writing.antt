@@ -1,5 +1,5 @@
 -- Along a history each WRITE that waits is that of the piece in flight under its xid.
-use Rattle.core_answers.proofs.Prelude.{◌≡◌, ◌≢◌, ◌≤◌, ◌<◌, ◌+◌, inl, inr, ℕ, List, [], ◌∷◌, ◌++◌, length, Bool, true, false, cond, nat_eq, Option, Some, None, option_map, position, Result, Err, refl, sym, ap, subst, ◌∙◌, arith, eqb-true, eqb-false, Waiting, next_xid, made_call, waiting_at, without, waits_early, at_made, others_made, others_taken, gone, Pending, Fault, Entry, Began, Delivered, Call, Reply, Op, SpellsCallBy, proc_of, said_of, Next, Send, Wait, Done, Shelf, Turn, IsUnused, Mounted, Machine, machine_of, Starts, Resumes, Takes, Purpose, Busy, Setup, is_busy, IsIdle, with_state, record_of, Makes, Leads, Stirs, counted, StartsLane, TakesAt, View, turn_at, unmade_turn, Reaches, begins-unbegun, taken_one, Flies, Flown, sender, look_at, keeps-flown, Known, purpose_at, Rows, same-rows, taken-rows, made-known, made-asked}
+use Rattle.core_answers.proofs.Prelude.{◌≡◌, ◌≢◌, ◌≤◌, ◌<◌, ◌+◌, inl, inr, ℕ, List, [], ◌∷◌, ◌++◌, length, Bool, true, false, cond, nat_eq, Option, Some, None, option_map, position, Result, Err, refl, sym, ap, subst, ◌∙◌, arith, eqb-true, eqb-false, Waiting, next_xid, made_call, waiting_at, without, waits_early, at_made, others_made, others_taken, gone, Pending, Fault, Entry, Began, Delivered, Call, Reply, Op, SpellsCallBy, proc_of, said_of, Step, Send, Wait, Done, Shelf, Turn, IsUnused, Mounted, Machine, machine_of, Starts, Resumes, Takes, Purpose, Busy, Setup, is_busy, IsIdle, with_state, record_of, Makes, Leads, Stirs, counted, StartsLane, TakesAt, View, turn_at, unmade_turn, Reaches, begins-unbegun, taken_one, Flies, Flown, sender, look_at, keeps-flown, Known, purpose_at, Rows, same-rows, taken-rows, made-known, made-asked}
 use Rattle.rpc_message.specs.declared.cred.Cred.{Cred}
 use Rattle.rpc_retry.specs.Sound.{AreSound}
 use Rattle.core_answers.proofs.writes.AllBacks.{all-starts, all-resumes, all-takes}
@@ -88,8 +88,8 @@ module _ (setup : Setup) (h : List Entry) (v : View) (r : Rows setup h v) (all :
           }))
       by false d = all xid w (sym (others_made xid (next_xid v.calls) v.calls.calls row d) ∙ is)
 
-  leads-spelled : (new : View) (at number : ℕ) (machine : Machine) (next : Next) → After (Free (next_xid v.calls)) (Own (next_xid v.calls)) next v.shelf.back
-      → ((fault : Fault) (step : Next) (after : Machine) (left : Shelf) → Takes v.wsize machine (turn_at v) (unmade_turn v) (Err fault) v.shelf step after left
+  leads-spelled : (new : View) (at number : ℕ) (machine : Machine) (next : Step) → After (Free (next_xid v.calls)) (Own (next_xid v.calls)) next v.shelf.back
+      → ((fault : Fault) (step : Step) (after : Machine) (left : Shelf) → Takes v.wsize machine (turn_at v) (unmade_turn v) (Err fault) v.shelf step after left
       → (xid : ℕ) → next_xid v.calls ≢ xid → 0 ≢ xid → SameUnder xid v.shelf.back left.back)
       → Leads v at number machine next new → AllSpelled setup new
   leads-spelled new at number machine (Send call) own unmade (inl m) = subst (AllSpelled setup) (sym m.is) (made-spelled number call new m own)
@@ -104,33 +104,33 @@ module _ (setup : Setup) (h : List Entry) (v : View) (r : Rows setup h v) (all :
 -- ---- each step of an operation
 
 module _ (wsize : ℕ) (turn : Turn) where
-  starts-under : (y : ℕ) → turn.xid ≢ y → (machine : Machine) (old : Shelf) (next : Next) (new : Machine) (after : Shelf) → Starts wsize machine turn old next new after
+  starts-under : (y : ℕ) → turn.xid ≢ y → (machine : Machine) (old : Shelf) (next : Step) (new : Machine) (after : Shelf) → Starts wsize machine turn old next new after
       → SameUnder y old.back after.back
   starts-under y other machine old next new after s =
       after-same y old.back next after.back
       (all-starts wsize turn (λ f o b n. Unit {0}) (λ c. Unit {0}) (λ call o. tt) (Same y old.back) (λ call. Same y old.back) (carries-same y old.back wsize turn other)
       machine old next new after (any-asks next new) (any-starts machine old.opens) (λ f. refl) s)
 
-  starts-own : (machine : Machine) (old : Shelf) (next : Next) (new : Machine) (after : Shelf) → Starts wsize machine turn old next new after → IsUnused turn.xid old.back
+  starts-own : (machine : Machine) (old : Shelf) (next : Step) (new : Machine) (after : Shelf) → Starts wsize machine turn old next new after → IsUnused turn.xid old.back
       → After (Free turn.xid) (Own turn.xid) next after.back
   starts-own machine old next new after s free =
       all-starts wsize turn (λ f o b n. Unit {0}) IsOther (λ call o. o) (Free turn.xid) (Own turn.xid) (carries-own wsize turn)
       machine old next new after (starts-other machine wsize turn old next new after s) (any-starts machine old.opens) free s
 
-  resumes-under : (y : ℕ) → turn.xid ≢ y → (machine : Machine) (old : Shelf) (next : Next) (new : Machine) (after : Shelf) → Resumes wsize machine turn old next new after
+  resumes-under : (y : ℕ) → turn.xid ≢ y → (machine : Machine) (old : Shelf) (next : Step) (new : Machine) (after : Shelf) → Resumes wsize machine turn old next new after
       → SameUnder y old.back after.back
   resumes-under y other machine old next new after s =
       after-same y old.back next after.back
       (all-resumes wsize turn (λ f o b n. Unit {0}) (λ c. Unit {0}) (λ call o. tt) (Same y old.back) (λ call. Same y old.back) (carries-same y old.back wsize turn other)
       machine old next new after (any-asks next new) (λ f. refl) s)
 
-  resumes-own : (machine : Machine) (old : Shelf) (next : Next) (new : Machine) (after : Shelf) → Resumes wsize machine turn old next new after → IsUnused turn.xid old.back
+  resumes-own : (machine : Machine) (old : Shelf) (next : Step) (new : Machine) (after : Shelf) → Resumes wsize machine turn old next new after → IsUnused turn.xid old.back
       → After (Free turn.xid) (Own turn.xid) next after.back
   resumes-own machine old next new after s free =
       all-resumes wsize turn (λ f o b n. Unit {0}) IsOther (λ call o. o) (Free turn.xid) (Own turn.xid) (carries-own wsize turn)
       machine old next new after (resumes-other machine wsize turn old next new after s) free s
 
-  takes-own : (sent : Turn) (came : Result Reply Fault) (machine : Machine) (old : Shelf) (next : Next) (new : Machine) (after : Shelf)
+  takes-own : (sent : Turn) (came : Result Reply Fault) (machine : Machine) (old : Shelf) (next : Step) (new : Machine) (after : Shelf)
       → Takes wsize machine sent turn came old next new after → IsUnused turn.xid old.back → After (Free turn.xid) (Own turn.xid) next after.back
   takes-own sent came machine old next new after s free =
       all-takes wsize turn (λ f o b n. Unit {0}) IsOther (λ call o. o) (Free turn.xid) (Own turn.xid) (carries-own wsize turn)
@@ -139,7 +139,7 @@ module _ (wsize : ℕ) (turn : Turn) where
 -- ---- along a history
 
 module _ (m : Mounted) (setup : Setup) where
-  unmade-under : (v : View) (machine : Machine) (fault : Fault) (step : Next) (after : Machine) (left : Shelf)
+  unmade-under : (v : View) (machine : Machine) (fault : Fault) (step : Step) (after : Machine) (left : Shelf)
       → Takes v.wsize machine (turn_at v) (unmade_turn v) (Err fault) v.shelf step after left
       → (xid : ℕ) → next_xid v.calls ≢ xid → 0 ≢ xid → SameUnder xid v.shelf.back left.back
   unmade-under v machine fault step after left t xid apart zero_ = takes-under v.wsize (unmade_turn v) (turn_at v) (Err fault) xid apart zero_ machine v.shelf step after left t

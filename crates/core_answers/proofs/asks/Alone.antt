@@ -1,5 +1,5 @@
 -- As long as a put is the only operation that began, it makes no room.
-use Rattle.core_answers.proofs.Prelude.{◌≡◌, ◌⊎◌, inl, inr, ℕ, Bool, true, false, nat_eq, List, [], ◌∷◌, ◌++◌, length, Some, slice_get, slice_set, Err, refl, sym, ap, subst, ◌∙◌, arith, eqb-true, eqb-false, Entry, Began, Answered, Delivered, Answer, Op, At, At-grow, At-below, At-last, At-one, At-cases, length_last, Next, Send, Wait, Done, Shelf, Turn, walk_of, said_of, Mounted, Machine, front_of, machine_of, Starts, Lane, State, Busy, Over, Setup, with_state, IsRefused, Leads, counted, View, turn_at, unmade_turn, Reaches, begins-unbegun, taken_one, LanesKnown, quiet-facts, lanes-stay, lanes-begin, lanes-under-way, at-set, at-push, get-remove, skip, set-other, numbers_of}
+use Rattle.core_answers.proofs.Prelude.{◌≡◌, ◌⊎◌, inl, inr, ℕ, Bool, true, false, nat_eq, List, [], ◌∷◌, ◌++◌, length, Some, slice_get, slice_set, Err, refl, sym, ap, subst, ◌∙◌, arith, eqb-true, eqb-false, Entry, Began, Answered, Delivered, Answer, Op, At, At-grow, At-below, At-last, At-one, At-cases, length_last, Step, Send, Wait, Done, Shelf, Turn, walk_of, said_of, Mounted, Machine, front_of, machine_of, Starts, Lane, State, Busy, Over, Setup, with_state, IsRefused, Leads, counted, View, turn_at, unmade_turn, Reaches, begins-unbegun, taken_one, LanesKnown, quiet-facts, lanes-stay, lanes-begin, lanes-under-way, at-set, at-push, get-remove, skip, set-other, numbers_of}
 use Rattle.write_back.specs.Files.{IsNothing}
 use Rattle.world_model.specs.declared.op.Op.TheVariants as ops
 use Rattle.core_answers.specs.asks.PutCalls.{IsAlone}
@@ -90,7 +90,7 @@ set-calm v at number was state shelf only there calm k n q here = by (nat_eq k a
         let apart = eqb-false k at is in
         absurd (apart (only k (record { number = n; state = Busy q }) (sym (set-other v.lanes at k now apart) ∙ here)))
 
-leads-calm : (h : List Entry) (v new : View) (at number : ℕ) (machine : Machine) (next : Next) → LanesKnown h v → PutAlone h
+leads-calm : (h : List Entry) (v new : View) (at number : ℕ) (machine : Machine) (next : Step) → LanesKnown h v → PutAlone h
     → slice_get v.lanes at ≡ Some (record { number = number; state = Busy machine }) → Calm machine v.shelf.back → Leads v at number machine next new → AllCalm new
 leads-calm h v new at number machine next known p there calm l = by next l
   where
@@ -100,12 +100,12 @@ leads-calm h v new at number machine next known p there calm l = by next l
     stays : AllCalm v
     stays = all-calm v at number machine only there calm
 
-    refused : (next : Next) (after : Machine) (state : State) (left : Shelf) → Calm after left.back → IsRefused after next state → (q : Machine) → state ≡ Busy q → Calm q left.back
+    refused : (next : Step) (after : Machine) (state : State) (left : Shelf) → Calm after left.back → IsRefused after next state → (q : Machine) → state ≡ Busy q → Calm q left.back
     refused (Send call) after state left k is q to = absurd is
     refused Wait after state left k is q to = subst (λ (a : Machine). Calm a left.back) (busy-machine after q (sym is ∙ to)) k
     refused (Done answer) after state left k is q to = absurd (over-busy answer q (sym is ∙ to))
 
-    by : (n : Next) → Leads v at number machine n new → AllCalm new
+    by : (n : Step) → Leads v at number machine n new → AllCalm new
     by (Send call) (inl m) = subst AllCalm (sym m.is) stays
     by (Send call) (inr f) = subst AllCalm (sym f.is)
         (set-calm v at number (Busy machine) f.state f.left only there
@@ -136,7 +136,7 @@ none-back : (h : List Entry) (e : Entry) → NoneBegun (h ++ e ∷ []) → NoneB
 none-back h e none j lane line op at = none j lane line op (At-grow h (e ∷ []) j (Began lane line op) at)
 
 module _ (m : Mounted) where
-  starts-calm : (lane : ℕ) (op : Op) (path : List (List ℕ)) (offset : ℕ) (text : List ℕ) (wsize : ℕ) (turn : Turn) (old : Shelf) (next : Next) (new : Machine) (after : Shelf) → op ≡ ops.Put path offset text
+  starts-calm : (lane : ℕ) (op : Op) (path : List (List ℕ)) (offset : ℕ) (text : List ℕ) (wsize : ℕ) (turn : Turn) (old : Shelf) (next : Step) (new : Machine) (after : Shelf) → op ≡ ops.Put path offset text
       → IsNothing old.back → Starts wsize (machine_of m lane op) turn old next new after → Calm new after.back
   starts-calm lane op path offset text wsize turn old next new after is none s =
       let k = subst (λ (o : Op). Starts wsize (machine_of m lane o) turn old next new after) is s in

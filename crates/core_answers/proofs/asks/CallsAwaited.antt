@@ -1,11 +1,11 @@
 -- For which call any operation waits: on names and of an open or walk as core_facts says, and on files.
-use Rattle.core_answers.proofs.Prelude.{◌≡◌, ◌≤◌, ◌+◌, ◌-◌, ℕ, Bool, true, false, Result, refl, sym, ap, subst, ◌∙◌, arith, Fault, Call, Reply, Next, Shelf, Turn, WalkNext, FileMachine, Machine, Opener, PathMachine, file_of, slot_taken, begun_at, placed, Starts, Resumes, Takes, of_walk, in_flight, Awaits, awaits-laws, of_path, path-file, path-walk, ExpectLaws, walk-takes, AskedOf, KeptOf}
+use Rattle.core_answers.proofs.Prelude.{◌≡◌, ◌≤◌, ◌+◌, ◌-◌, ℕ, Bool, true, false, Result, refl, sym, ap, subst, ◌∙◌, arith, Fault, Call, Reply, Step, Shelf, Turn, WalkStep, FileMachine, Machine, Opener, PathMachine, file_of, slot_taken, begun_at, placed, Starts, Resumes, Takes, of_walk, in_flight, Awaits, awaits-laws, of_path, path-file, path-walk, ExpectLaws, walk-takes, AskedOf, KeptOf}
 use Rattle.core_facts.specs.InFlight.{of_file}
 use Rattle.core_facts.proofs.AllCounts.{placed-none}
 use Rattle.core_facts.proofs.NameCounts.{WalkCounts, walk-counts, took-counts}
 use Rattle.world_model.specs.declared.answer.Answer.TheVariants as answers
-use Rattle.client_shelf.specs.declared.next.Next.TheVariants as nexts
-use Rattle.name_ops.specs.declared.walk.WalkNext.TheVariants as walks
+use Rattle.client_shelf.specs.declared.step.Step.TheVariants as nexts
+use Rattle.name_ops.specs.declared.walk.WalkStep.TheVariants as walks
 use Rattle.name_ops.specs.Walking as walking
 use Rattle.op_machines.specs.declared.machine.Machine.TheVariants as machines
 use Rattle.op_machines.specs.PathSteps as paths
@@ -22,18 +22,18 @@ Names (machines.File m) call = FileNames m call
 Names (machines.Path m) call = PathNames m.arrived m call
 Names (machines.Name m) call = Unit {0}
 
-abbrev AllOn : ℕ → Machine → Next → Machine → Type 0
+abbrev AllOn : ℕ → Machine → Step → Machine → Type 0
 AllOn others old next new = On Machine Names others old next new
 
-all-as : (others : ℕ) (old : Machine) (next : Next) (to new : Machine) → new ≡ to → AllOn others old next to → AllOn others old next new
+all-as : (others : ℕ) (old : Machine) (next : Step) (to new : Machine) → new ≡ to → AllOn others old next to → AllOn others old next new
 all-as others old next to new is o = subst (λ (m : Machine). AllOn others old next m) (sym is) o
 
-file-on : (others : ℕ) (old : FileMachine) (next : Next) (new : FileMachine) → On FileMachine FileNames others old next new → AllOn others (machines.File old) next (machines.File new)
+file-on : (others : ℕ) (old : FileMachine) (next : Step) (new : FileMachine) → On FileMachine FileNames others old next new → AllOn others (machines.File old) next (machines.File new)
 file-on others old next new o = on-lift FileMachine Machine FileNames Names others old next new (machines.File old) (machines.File new) (λ some c e. e) (λ c e. e) o
 
 -- ---- opens and puts on their way
 
-path-on : (others : ℕ) (m : PathMachine) (opener : Opener) (old : Machine) (next : Next) (new : PathMachine) → m.arrived ≡ true → new ≡ record m { opener = opener }
+path-on : (others : ℕ) (m : PathMachine) (opener : Opener) (old : Machine) (next : Step) (new : PathMachine) → m.arrived ≡ true → new ≡ record m { opener = opener }
     → (1 ≤ others → (c : Call) → Names old c → FileNames (file_of m.opener) c) → On FileMachine FileNames others (file_of m.opener) next (file_of opener) → AllOn others old next (machines.Path new)
 path-on others m opener old next new there is had o =
     on-lift FileMachine Machine FileNames Names others (file_of m.opener) next (file_of opener) old (machines.Path new) had
@@ -42,7 +42,7 @@ path-on others m opener old next new there is had o =
 walking-any : (m : PathMachine) → m.arrived ≡ false → (c : Call) → Names (machines.Path m) c
 walking-any m on_way c = subst (λ (b : Bool). PathNames b m c) (sym on_way) tt
 
-follows-on : (step : WalkNext) (wsize : ℕ) (m : PathMachine) (turn : Turn) (was : Shelf) (next : Next) (new : PathMachine) (after : Shelf) (others : ℕ) (old : Machine) → m.arrived ≡ false
+follows-on : (step : WalkStep) (wsize : ℕ) (m : PathMachine) (turn : Turn) (was : Shelf) (next : Step) (new : PathMachine) (after : Shelf) (others : ℕ) (old : Machine) → m.arrived ≡ false
     → WalkCounts step others (of_walk m.walk) → paths.Follows step wsize m turn was next new after → AllOn others old next (machines.Path new)
 follows-on (walks.Send call) wsize m turn was next new after others old on_way c f =
     all-as others old next (machines.Path m) (machines.Path new) (ap machines.Path f.1) (on-any Machine Names others old next (machines.Path m) (walking-any m on_way))
@@ -59,7 +59,7 @@ follows-on (walks.Refused fault) wsize m turn was next new after others old on_w
 there-names : (m : PathMachine) (c : Call) → m.arrived ≡ true → Names (machines.Path m) c → FileNames (file_of m.opener) c
 there-names m c there e = subst (λ (b : Bool). PathNames b m c) there e
 
-path-resumes : (b : Bool) (wsize : ℕ) (m : PathMachine) (turn : Turn) (was : Shelf) (next : Next) (new : PathMachine) (after : Shelf) → m.arrived ≡ b
+path-resumes : (b : Bool) (wsize : ℕ) (m : PathMachine) (turn : Turn) (was : Shelf) (next : Step) (new : PathMachine) (after : Shelf) → m.arrived ≡ b
     → paths.PathResumes b wsize m turn was next new after → AllOn (of_path m) (machines.Path m) next (machines.Path new)
 path-resumes true wsize m turn was next new after is r =
     subst (λ (n : ℕ). AllOn n (machines.Path m) next (machines.Path new)) (sym (path-file m is))
@@ -70,12 +70,12 @@ path-resumes false wsize m turn was next new after is r =
     (follows-on (walking.go_next m.walk turn was) wsize (record m { walk = walking.go_after m.walk turn was }) turn (walking.go_shelf m.walk turn was) next new after (of_walk m.walk) (machines.Path m) is
     (walk-counts m.walk turn was) r)
 
-path-starts : (taken : Bool) (wsize : ℕ) (m : PathMachine) (turn : Turn) (was : Shelf) (next : Next) (new : PathMachine) (after : Shelf)
+path-starts : (taken : Bool) (wsize : ℕ) (m : PathMachine) (turn : Turn) (was : Shelf) (next : Step) (new : PathMachine) (after : Shelf)
     → paths.StartsIf taken wsize m turn was next new after → AskedOf Names next (machines.Path new)
-path-starts true wsize m turn was next new after s = subst (λ (n : Next). AskedOf Names n (machines.Path new)) (sym s.0) tt
+path-starts true wsize m turn was next new after s = subst (λ (n : Step). AskedOf Names n (machines.Path new)) (sym s.0) tt
 path-starts false wsize m turn was next new after s = (path-resumes m.arrived wsize (record m { opener = begun_at (turn.moment - 1) m.opener }) turn was next new after refl s).asked
 
-path-takes : (b : Bool) (wsize : ℕ) (m : PathMachine) (sent turn : Turn) (came : Result Reply Fault) (was : Shelf) (next : Next) (new : PathMachine) (after : Shelf) (others : ℕ) → m.arrived ≡ b
+path-takes : (b : Bool) (wsize : ℕ) (m : PathMachine) (sent turn : Turn) (came : Result Reply Fault) (was : Shelf) (next : Step) (new : PathMachine) (after : Shelf) (others : ℕ) → m.arrived ≡ b
     → of_path m ≡ others + 1 → paths.PathTakes b wsize m sent turn came was next new after → AllOn others (machines.Path m) next (machines.Path new)
 path-takes true wsize m sent turn came was next new after others is one t =
     path-on others m t.opener (machines.Path m) next new is t.machine_is (λ some c e. there-names m c is e)
@@ -87,7 +87,7 @@ path-takes false wsize m sent turn came was next new after others is one t =
 
 -- ---- any operation
 
-starts-asked : (m : Machine) (wsize : ℕ) (turn : Turn) (old : Shelf) (next : Next) (new : Machine) (after : Shelf) → Starts wsize m turn old next new after → AskedOf Names next new
+starts-asked : (m : Machine) (wsize : ℕ) (turn : Turn) (old : Shelf) (next : Step) (new : Machine) (after : Shelf) → Starts wsize m turn old next new after → AskedOf Names next new
 starts-asked (machines.File m) wsize turn old next new after s =
     (all-as 0 (machines.File m) next (machines.File s.machine) new s.machine_is (file-on 0 m next s.machine (file-starts m wsize turn old next s.machine after s.step))).asked
 starts-asked (machines.Path m) wsize turn old next new after s =
@@ -95,7 +95,7 @@ starts-asked (machines.Path m) wsize turn old next new after s =
 starts-asked (machines.Name m) wsize turn old next new after s =
     (all-as 0 (machines.Name m) next (machines.Name s.machine) new s.machine_is (on-any Machine Names 0 (machines.Name m) next (machines.Name s.machine) (λ c. tt))).asked
 
-resumes-on : (m : Machine) (wsize : ℕ) (turn : Turn) (old : Shelf) (next : Next) (new : Machine) (after : Shelf) → Resumes wsize m turn old next new after → AllOn (in_flight m) m next new
+resumes-on : (m : Machine) (wsize : ℕ) (turn : Turn) (old : Shelf) (next : Step) (new : Machine) (after : Shelf) → Resumes wsize m turn old next new after → AllOn (in_flight m) m next new
 resumes-on (machines.File m) wsize turn old next new after s =
     all-as _ (machines.File m) next (machines.File s.machine) new s.machine_is (file-on (of_file m) m next s.machine (file-resumes m wsize turn old next s.machine after s.step))
 resumes-on (machines.Path m) wsize turn old next new after s =
@@ -103,7 +103,7 @@ resumes-on (machines.Path m) wsize turn old next new after s =
 resumes-on (machines.Name m) wsize turn old next new after s =
     all-as _ (machines.Name m) next (machines.Name s.machine) new s.machine_is (on-any Machine Names _ (machines.Name m) next (machines.Name s.machine) (λ c. tt))
 
-takes-on : (m : Machine) (wsize : ℕ) (sent turn : Turn) (came : Result Reply Fault) (old : Shelf) (next : Next) (new : Machine) (after : Shelf) (others : ℕ) → in_flight m ≡ others + 1
+takes-on : (m : Machine) (wsize : ℕ) (sent turn : Turn) (came : Result Reply Fault) (old : Shelf) (next : Step) (new : Machine) (after : Shelf) (others : ℕ) → in_flight m ≡ others + 1
     → Takes wsize m sent turn came old next new after → AllOn others m next new
 takes-on (machines.File m) wsize sent turn came old next new after others one s =
     all-as others (machines.File m) next (machines.File s.machine) new s.machine_is (file-on others m next s.machine (file-takes m wsize sent turn came old next s.machine after others one s.step))
@@ -117,12 +117,12 @@ takes-on (machines.Name m) wsize sent turn came old next new after others one s 
 abbrev pub Expects : Machine → Call → Type 0
 Expects m call = Awaits m call × Names m call
 
-both-asked : (next : Next) (new : Machine) → AskedOf Awaits next new → AskedOf Names next new → AskedOf Expects next new
+both-asked : (next : Step) (new : Machine) → AskedOf Awaits next new → AskedOf Names next new → AskedOf Expects next new
 both-asked (nexts.Send call) new a b = (a, b)
 both-asked nexts.Wait new a b = tt
 both-asked (nexts.Done answer) new a b = tt
 
-both-kept : (others : ℕ) (old : Machine) (next : Next) (new : Machine) → KeptOf Awaits others old next new → KeptOf Names others old next new → KeptOf Expects others old next new
+both-kept : (others : ℕ) (old : Machine) (next : Step) (new : Machine) → KeptOf Awaits others old next new → KeptOf Names others old next new → KeptOf Expects others old next new
 both-kept others old (nexts.Send call) new a b = λ some c e. (a some c e.0, b some c e.1)
 both-kept others old nexts.Wait new a b = λ some c e. (a some c e.0, b some c e.1)
 both-kept others old (nexts.Done answer) new a b = tt

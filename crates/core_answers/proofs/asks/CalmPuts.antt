@@ -1,17 +1,17 @@
 -- A put before which nothing is pending makes no room: its bytes become pending at once, or it is refused.
-use Rattle.core_answers.proofs.Prelude.{◌≡◌, inl, inr, ℕ, Bool, true, false, List, Contains, Option, Some, None, Result, Ok, Err, refl, sym, ap, subst, ◌∙◌, arith, Pending, FilePending, nothing, Answer, Fault, Reply, is_first, Next, Shelf, Turn, OpeningNext, PutFile, Putting, Saving, Writing, is_full, joined, by-step, Walk, WalkNext, found_by, look_again, Machine, Opener, PathMachine, Resumes, Takes}
+use Rattle.core_answers.proofs.Prelude.{◌≡◌, inl, inr, ℕ, Bool, true, false, List, Contains, Option, Some, None, Result, Ok, Err, refl, sym, ap, subst, ◌∙◌, arith, Pending, FilePending, nothing, Answer, Fault, Reply, is_first, Step, Shelf, Turn, OpeningStep, PutFile, Putting, Saving, Writing, is_full, joined, by-step, Walk, WalkStep, found_by, look_again, Machine, Opener, PathMachine, Resumes, Takes}
 use Rattle.write_back.specs.Files.{numbers_of, IsOldest, IsNothing}
 use Rattle.world_model.specs.declared.answer.Answer.TheVariants as answers
 use Rattle.world_model.specs.declared.answer.Fault.TheVariants as faults
 use Rattle.world_model.specs.declared.answer.Value.TheVariants as values
-use Rattle.client_shelf.specs.declared.next.Next.TheVariants as nexts
-use Rattle.file_ops.specs.declared.opening.OpeningNext.TheVariants as openings
+use Rattle.client_shelf.specs.declared.step.Step.TheVariants as nexts
+use Rattle.file_ops.specs.declared.opening.OpeningStep.TheVariants as openings
 use Rattle.file_ops.specs.declared.put_file.Putting.TheVariants as putting
 use Rattle.file_ops.specs.Opening as opening
 use Rattle.file_ops.specs.PutFile as puts
 use Rattle.file_ops.specs.Saves as saves
 use Rattle.file_ops.specs.WriteFile as writes
-use Rattle.name_ops.specs.declared.walk.WalkNext.TheVariants as walks
+use Rattle.name_ops.specs.declared.walk.WalkStep.TheVariants as walks
 use Rattle.name_ops.specs.Walking as walking
 use Rattle.op_machines.specs.declared.machine.Machine.TheVariants as machines
 use Rattle.op_machines.specs.declared.opener.Opener.TheVariants as openers
@@ -49,7 +49,7 @@ state-calm b to state back is k = subst (λ (s : Putting). CalmAt b s back) (sym
 
 -- ---- its save
 
-follows-calm : (gives : _) (saved : Saving) (lane : ℕ) (was : Shelf) (next : Next) (state : Putting) (after : Shelf) → puts.Follows gives lane saved was next state after
+follows-calm : (gives : _) (saved : Saving) (lane : ℕ) (was : Shelf) (next : Step) (state : Putting) (after : Shelf) → puts.Follows gives lane saved was next state after
     → CalmAt true state after.back
 follows-calm gives saved lane was next state after e = by-step
     (λ g. puts.Follows g lane saved was next state after → CalmAt true state after.back)
@@ -58,7 +58,7 @@ follows-calm gives saved lane was next state after e = by-step
     (λ result e. state-calm true putting.Idle state after.back e.state_is tt)
     gives e
 
-queues-calm : (b : Bool) (wsize lane : ℕ) (turn : Turn) (s : Saving) (was : Shelf) (next : Next) (state : Putting) (after : Shelf) → puts.QueuesIf b wsize lane turn s was next state after
+queues-calm : (b : Bool) (wsize lane : ℕ) (turn : Turn) (s : Saving) (was : Shelf) (next : Step) (state : Putting) (after : Shelf) → puts.QueuesIf b wsize lane turn s was next state after
     → CalmAt true state after.back
 queues-calm true wsize lane turn s was next state after q = follows-calm q.gives q.saved lane q.gone next state after q.follows
 queues-calm false wsize lane turn s was next state after q = state-calm true (putting.Saves s) state after.back q.state_is tt
@@ -66,26 +66,26 @@ queues-calm false wsize lane turn s was next state after q = state-calm true (pu
 -- ---- its write
 
 -- with nothing pending a write has its answer at once
-writes-done : (b : Bool) (wsize lane : ℕ) (file : List ℕ) (offset : ℕ) (bytes : List ℕ) (turn : Turn) (shelf : Shelf) (told : Next) (written : Writing) (mid : Shelf) → IsNothing shelf.back
+writes-done : (b : Bool) (wsize lane : ℕ) (file : List ℕ) (offset : ℕ) (bytes : List ℕ) (turn : Turn) (shelf : Shelf) (told : Step) (written : Writing) (mid : Shelf) → IsNothing shelf.back
     → writes.WritesIf b wsize lane file offset bytes turn shelf told written mid → (answer : Answer) × (told ≡ nexts.Done answer)
 writes-done true wsize lane file offset bytes turn shelf told written mid none (inl s) = absurd (none-oldest shelf.back s.of none s.oldest)
 writes-done true wsize lane file offset bytes turn shelf told written mid none (inr s) = (answers.Refused faults.Memory, s.1.gives_next)
 writes-done false wsize lane file offset bytes turn shelf told written mid none (inl s) = (answers.Done values.Nothing, s.leads.gives_next)
 writes-done false wsize lane file offset bytes turn shelf told written mid none (inr s) = (answers.Refused faults.Memory, s.gives_next)
 
-answer-calm : (answer : Answer) (wsize lane : ℕ) (file : List ℕ) (turn : Turn) (was : Shelf) (next : Next) (state : Putting) (after : Shelf)
+answer-calm : (answer : Answer) (wsize lane : ℕ) (file : List ℕ) (turn : Turn) (was : Shelf) (next : Step) (state : Putting) (after : Shelf)
     → puts.AfterWrite (nexts.Done answer) wsize lane file turn was next state after → CalmAt true state after.back
 answer-calm (answers.Done value) wsize lane file turn was next state after a =
     queues-calm (is_first lane (joined lane file was).order) wsize lane turn (saves.begun file was.seq) (joined lane file was) next state after a
 answer-calm (answers.Refused fault) wsize lane file turn was next state after a = state-calm true putting.Idle state after.back a.state_is tt
 
-adds-calm : (wsize : ℕ) (m : PutFile) (file : List ℕ) (turn : Turn) (old : Shelf) (next : Next) (new : PutFile) (after : Shelf) → IsNothing old.back
+adds-calm : (wsize : ℕ) (m : PutFile) (file : List ℕ) (turn : Turn) (old : Shelf) (next : Step) (new : PutFile) (after : Shelf) → IsNothing old.back
     → puts.AddsBytes wsize m file turn old next new after → CalmAt true new.state after.back
 adds-calm wsize m file turn old next new after none a =
     let d = writes-done (is_full (writes.made_bytes m.write.text) (puts.put_at m.write.lane file old).back) wsize m.write.lane file m.write.offset (writes.made_bytes m.write.text) turn
     (puts.put_at m.write.lane file old) a.told a.written a.mid none a.writes in
     answer-calm d.0 wsize m.write.lane file turn a.mid next new.state after
-    (subst (λ (n : Next). puts.AfterWrite n wsize m.write.lane file turn a.mid next new.state after) d.1 a.goes.follows)
+    (subst (λ (n : Step). puts.AfterWrite n wsize m.write.lane file turn a.mid next new.state after) d.1 a.goes.follows)
 
 -- ---- a step of the put
 
@@ -93,14 +93,14 @@ same-calm : (m new : PutFile) (at : Putting) (old after : Shelf) → new.state �
 same-calm m new at old after is was same k =
     subst (λ (s : Shelf). CalmAt true new.state s.back) (sym same) (state-calm true at new.state old.back (is ∙ was) k)
 
-resumes-calm : (at : Putting) (wsize : ℕ) (m : PutFile) (turn : Turn) (old : Shelf) (next : Next) (new : PutFile) (after : Shelf) → m.state ≡ at → CalmAt true at old.back
+resumes-calm : (at : Putting) (wsize : ℕ) (m : PutFile) (turn : Turn) (old : Shelf) (next : Step) (new : PutFile) (after : Shelf) → m.state ≡ at → CalmAt true at old.back
     → puts.Resumes at wsize m turn old next new after → CalmAt true new.state after.back
 resumes-calm putting.Idle wsize m turn old next new after is k r = same-calm m new putting.Idle old after (ap (λ (p : PutFile). p.state) r.machine_is) is r.shelf_is k
 resumes-calm putting.Opens wsize m turn old next new after is k r = same-calm m new putting.Opens old after (ap (λ (p : PutFile). p.state) r.1) is r.2 k
 resumes-calm (putting.Adds file) wsize m turn old next new after is k r = absurd k
 resumes-calm (putting.Saves s) wsize m turn old next new after is k r = queues-calm (is_first m.write.lane old.order) wsize m.write.lane turn s old next new.state after r.0
 
-opening-calm : (step : OpeningNext) (wsize : ℕ) (m : PutFile) (turn : Turn) (old : Shelf) (next : Next) (new : PutFile) (after : Shelf) → m.state ≡ putting.Opens → IsNothing old.back
+opening-calm : (step : OpeningStep) (wsize : ℕ) (m : PutFile) (turn : Turn) (old : Shelf) (next : Step) (new : PutFile) (after : Shelf) → m.state ≡ putting.Opens → IsNothing old.back
     → puts.AfterOpening step wsize m turn old next new after → CalmAt true new.state after.back
 opening-calm (openings.Send call) wsize m turn old next new after is none a = same-calm m new putting.Opens old after (ap (λ (p : PutFile). p.state) a.1) is a.2 none
 opening-calm openings.Wait wsize m turn old next new after is none a = same-calm m new putting.Opens old after (ap (λ (p : PutFile). p.state) a.machine_is) is a.shelf_is none
@@ -108,7 +108,7 @@ opening-calm (openings.Ended (Ok file)) wsize m turn old next new after is none 
 opening-calm (openings.Ended (Err fault)) wsize m turn old next new after is none a =
     state-calm true putting.Idle new.state after.back (ap (λ (p : PutFile). p.state) a.1) tt
 
-takes-calm : (at : Putting) (wsize : ℕ) (m : PutFile) (sent turn : Turn) (came : Result Reply Fault) (old : Shelf) (next : Next) (new : PutFile) (after : Shelf) → m.state ≡ at
+takes-calm : (at : Putting) (wsize : ℕ) (m : PutFile) (sent turn : Turn) (came : Result Reply Fault) (old : Shelf) (next : Step) (new : PutFile) (after : Shelf) → m.state ≡ at
     → CalmAt true at old.back → puts.Takes at wsize m sent turn came old next new after → CalmAt true new.state after.back
 takes-calm putting.Idle wsize m sent turn came old next new after is k t = same-calm m new putting.Idle old after (ap (λ (p : PutFile). p.state) t.machine_is) is t.shelf_is k
 takes-calm putting.Opens wsize m sent turn came old next new after is k t =
@@ -119,7 +119,7 @@ takes-calm (putting.Saves s) wsize m sent turn came old next new after is k t = 
 
 -- ---- on its way
 
-then-calm : (wsize : ℕ) (walk : Walk) (p : PutFile) (turn : Turn) (old : Shelf) (next : Next) (new : PathMachine) (after : Shelf) → CalmAt true p.state old.back
+then-calm : (wsize : ℕ) (walk : Walk) (p : PutFile) (turn : Turn) (old : Shelf) (next : Step) (new : PathMachine) (after : Shelf) → CalmAt true p.state old.back
     → paths.ThenResumes wsize (record { walk = walk; opener = openers.Put p; arrived = true }) turn old next new after → Calm (machines.Path new) after.back
 then-calm wsize walk p turn old next new after k t = record {
   walk = walk;
@@ -129,14 +129,14 @@ then-calm wsize walk p turn old next new after k t = record {
   calm = resumes-calm p.state wsize p turn old next t.step.machine after refl k t.step.step;
 }
 
-on-calm : (step : WalkNext) (wsize : ℕ) (walk : Walk) (p : PutFile) (turn : Turn) (old : Shelf) (next : Next) (new : PathMachine) (after : Shelf) → IsNothing old.back
+on-calm : (step : WalkStep) (wsize : ℕ) (walk : Walk) (p : PutFile) (turn : Turn) (old : Shelf) (next : Step) (new : PathMachine) (after : Shelf) → IsNothing old.back
     → paths.Follows step wsize (record { walk = walk; opener = openers.Put p; arrived = false }) turn old next new after → Calm (machines.Path new) after.back
 on-calm step wsize walk p turn old next new after none f = by step f
   where
     stays : new ≡ record { walk = walk; opener = openers.Put p; arrived = false } → after ≡ old → Calm (machines.Path new) after.back
     stays is same = record { walk = walk; p = p; arrived = false; is = ap machines.Path is; calm = nothing-as after.back old.back (ap (λ (s : Shelf). s.back) same) none }
 
-    by : (w : WalkNext) → paths.Follows w wsize (record { walk = walk; opener = openers.Put p; arrived = false }) turn old next new after → Calm (machines.Path new) after.back
+    by : (w : WalkStep) → paths.Follows w wsize (record { walk = walk; opener = openers.Put p; arrived = false }) turn old next new after → Calm (machines.Path new) after.back
     by (walks.Send call) g = stays g.1 g.2
     by walks.Wait g = stays g.1 g.2
     by (walks.At dir) g =
@@ -151,7 +151,7 @@ told-back : (w : Walk) (told : Result (List ℕ) Fault) (turn : Turn) (shelf : S
 told-back w (Ok found) turn shelf = refl
 told-back w (Err fault) turn shelf = refl
 
-took-back : (name : Option (List ℕ)) (w : Walk) (sent turn : Turn) (came : Result Reply Fault) (old : Shelf) (next : WalkNext) (new : Walk) (after : Shelf)
+took-back : (name : Option (List ℕ)) (w : Walk) (sent turn : Turn) (came : Result Reply Fault) (old : Shelf) (next : WalkStep) (new : Walk) (after : Shelf)
     → walking.Takes name w sent turn came old next new after → after.back ≡ old.back
 took-back None w sent turn came old next new after t = ap (λ (s : Shelf). s.back) t.shelf_is
 took-back (Some name) w sent turn came old next new after t =
@@ -161,13 +161,13 @@ took-back (Some name) w sent turn came old next new after t =
     by true = refl
     by false = told-back w (found_by came) turn t.heard
 
-path-resumes : (b : Bool) (wsize : ℕ) (walk : Walk) (p : PutFile) (turn : Turn) (old : Shelf) (next : Next) (new : PathMachine) (after : Shelf) → CalmAt b p.state old.back
+path-resumes : (b : Bool) (wsize : ℕ) (walk : Walk) (p : PutFile) (turn : Turn) (old : Shelf) (next : Step) (new : PathMachine) (after : Shelf) → CalmAt b p.state old.back
     → paths.PathResumes b wsize (record { walk = walk; opener = openers.Put p; arrived = b }) turn old next new after → Calm (machines.Path new) after.back
 path-resumes true wsize walk p turn old next new after k r = then-calm wsize walk p turn old next new after k r
 path-resumes false wsize walk p turn old next new after k r =
     on-calm (walking.go_next walk turn old) wsize (walking.go_after walk turn old) p turn (walking.go_shelf walk turn old) next new after k r
 
-path-takes : (b : Bool) (wsize : ℕ) (walk : Walk) (p : PutFile) (sent turn : Turn) (came : Result Reply Fault) (old : Shelf) (next : Next) (new : PathMachine) (after : Shelf)
+path-takes : (b : Bool) (wsize : ℕ) (walk : Walk) (p : PutFile) (sent turn : Turn) (came : Result Reply Fault) (old : Shelf) (next : Step) (new : PathMachine) (after : Shelf)
     → CalmAt b p.state old.back → paths.PathTakes b wsize (record { walk = walk; opener = openers.Put p; arrived = b }) sent turn came old next new after → Calm (machines.Path new) after.back
 path-takes true wsize walk p sent turn came old next new after k t = record {
   walk = walk;
@@ -186,19 +186,19 @@ path-takes false wsize walk p sent turn came old next new after k t =
 calm-as : (to new : Machine) (back : Pending) → new ≡ to → Calm to back → Calm new back
 calm-as to new back is k = subst (λ (m : Machine). Calm m back) (sym is) k
 
-pub calm-resumes : (machine : Machine) (wsize : ℕ) (turn : Turn) (old : Shelf) (next : Next) (new : Machine) (after : Shelf) → Calm machine old.back
+pub calm-resumes : (machine : Machine) (wsize : ℕ) (turn : Turn) (old : Shelf) (next : Step) (new : Machine) (after : Shelf) → Calm machine old.back
     → Resumes wsize machine turn old next new after → Calm new after.back
 calm-resumes machine wsize turn old next new after k r =
     let g = subst (λ (n : Machine). Resumes wsize n turn old next new after) k.is r in
     calm-as (machines.Path g.machine) new after.back g.machine_is (path-resumes k.arrived wsize k.walk k.p turn old next g.machine after k.calm g.step)
 
-pub calm-takes : (machine : Machine) (wsize : ℕ) (sent turn : Turn) (came : Result Reply Fault) (old : Shelf) (next : Next) (new : Machine) (after : Shelf) → Calm machine old.back
+pub calm-takes : (machine : Machine) (wsize : ℕ) (sent turn : Turn) (came : Result Reply Fault) (old : Shelf) (next : Step) (new : Machine) (after : Shelf) → Calm machine old.back
     → Takes wsize machine sent turn came old next new after → Calm new after.back
 calm-takes machine wsize sent turn came old next new after k t =
     let g = subst (λ (n : Machine). Takes wsize n sent turn came old next new after) k.is t in
     calm-as (machines.Path g.machine) new after.back g.machine_is (path-takes k.arrived wsize k.walk k.p sent turn came old next g.machine after k.calm g.step)
 
 -- it begins on its way
-pub calm-starts : (wsize : ℕ) (walk : Walk) (p : PutFile) (turn : Turn) (old : Shelf) (next : Next) (new : PathMachine) (after : Shelf) → IsNothing old.back
+pub calm-starts : (wsize : ℕ) (walk : Walk) (p : PutFile) (turn : Turn) (old : Shelf) (next : Step) (new : PathMachine) (after : Shelf) → IsNothing old.back
     → paths.PathResumes false wsize (record { walk = walk; opener = openers.Put p; arrived = false }) turn old next new after → Calm (machines.Path new) after.back
 calm-starts wsize walk p turn old next new after none r = path-resumes false wsize walk p turn old next new after none r

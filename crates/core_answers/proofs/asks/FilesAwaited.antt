@@ -1,13 +1,13 @@
 -- For which calls an operation on a file waits: those of its save, and the one that it makes itself.
-use Rattle.core_answers.proofs.Prelude.{◌≡◌, ◌≤◌, ◌+◌, inl, inr, ℕ, Bool, true, false, List, Option, Some, None, Result, Ok, Err, refl, sym, ap, subst, ◌∙◌, arith, if◌then◌else◌, of_file, last_end, Fault, Call, Reply, goes_again, left, is_first, Next, Shelf, Turn, CloseFile, Closing, Removal, OpeningNext, PutFile, Putting, ReadFile, Saving, SyncFile, Syncing, TruncateFile, Truncating, WriteFile, Writing, remove_of, closed_answer, refusal_of, remove_busy, file_to_write, file_at, joined, by-step, ends_as, FileMachine, of_opening, of_reading, of_saving, of_writing, of_syncing, of_closing, of_truncating, of_putting, Plain}
+use Rattle.core_answers.proofs.Prelude.{◌≡◌, ◌≤◌, ◌+◌, inl, inr, ℕ, Bool, true, false, List, Option, Some, None, Result, Ok, Err, refl, sym, ap, subst, ◌∙◌, arith, if◌then◌else◌, of_file, last_end, Fault, Call, Reply, goes_again, left, is_first, Step, Shelf, Turn, CloseFile, Closing, Removal, OpeningStep, PutFile, Putting, ReadFile, Saving, SyncFile, Syncing, TruncateFile, Truncating, WriteFile, Writing, remove_of, closed_answer, refusal_of, remove_busy, file_to_write, file_at, joined, by-step, ends_as, FileMachine, of_opening, of_reading, of_saving, of_writing, of_syncing, of_closing, of_truncating, of_putting, Plain}
 use Rattle.file_ops.proofs.SaveCounts.{SaveCounts, save-goes, save-takes}
 use Rattle.std.specs.FinMap as finite
 use Rattle.world_model.specs.declared.answer.Answer.TheVariants as answers
 use Rattle.world_model.specs.declared.answer.Fault.TheVariants as faults
 use Rattle.world_model.specs.declared.answer.Value.TheVariants as values
-use Rattle.client_shelf.specs.declared.next.Next.TheVariants as nexts
+use Rattle.client_shelf.specs.declared.step.Step.TheVariants as nexts
 use Rattle.file_ops.specs.declared.close_file.Closing.TheVariants as closing
-use Rattle.file_ops.specs.declared.opening.OpeningNext.TheVariants as openings
+use Rattle.file_ops.specs.declared.opening.OpeningStep.TheVariants as openings
 use Rattle.file_ops.specs.declared.put_file.Putting.TheVariants as putting
 use Rattle.file_ops.specs.declared.sync_file.Syncing.TheVariants as syncing
 use Rattle.file_ops.specs.declared.truncate_file.Truncating.TheVariants as truncating
@@ -37,7 +37,7 @@ abbrev pub SyncNames : Syncing → Call → Type 0
 SyncNames syncing.Idle call = Unit {0}
 SyncNames (syncing.Saves s) call = Saves s.file call
 
-sync-follows : (others : ℕ) (old : Syncing) (s : Saving) (gives : _) (saved : Saving) (next : Next) (new : Syncing) → (1 ≤ others → (c : Call) → SyncNames old c → Saves s.file c)
+sync-follows : (others : ℕ) (old : Syncing) (s : Saving) (gives : _) (saved : Saving) (next : Step) (new : Syncing) → (1 ≤ others → (c : Call) → SyncNames old c → Saves s.file c)
     → SavesOn s.file (syncs.sync_next gives) saved → next ≡ syncs.sync_next gives → new ≡ syncs.sync_state gives saved → On Syncing SyncNames others old next new
 sync-follows others old s gives saved next new was c is at = by-step
     (λ g. SavesOn s.file (syncs.sync_next g) saved → next ≡ syncs.sync_next g → new ≡ syncs.sync_state g saved → On Syncing SyncNames others old next new)
@@ -47,26 +47,26 @@ sync-follows others old s gives saved next new was c is at = by-step
     (λ result k n t. on-done Syncing SyncNames others old (syncs.answer_of result) next new n)
     gives c is at
 
-sync-queues : (b : Bool) (old : Syncing) (wsize lane : ℕ) (turn : Turn) (s : Saving) (was : Shelf) (next : Next) (new : Syncing) (after : Shelf) (others : ℕ)
+sync-queues : (b : Bool) (old : Syncing) (wsize lane : ℕ) (turn : Turn) (s : Saving) (was : Shelf) (next : Step) (new : Syncing) (after : Shelf) (others : ℕ)
     → (1 ≤ others → (c : Call) → SyncNames old c → Saves s.file c) → syncs.QueuesIf b wsize lane turn s was next new after → On Syncing SyncNames others old next new
 sync-queues true old wsize lane turn s was next new after others had q =
     sync-follows others old s q.gives q.saved next new had (goes-on s.file wsize turn.xid turn.room false s was.back q.gives q.saved after.back refl q.goes) q.follows.next_is q.follows.state_is
 sync-queues false old wsize lane turn s was next new after others had q =
     on-to Syncing SyncNames others old nexts.Wait (syncing.Saves s) next new q.next_is q.state_is (record { asked = tt; kept = had })
 
-sync-starts : (found : Option (List ℕ)) (wsize : ℕ) (m : SyncFile) (turn : Turn) (old : Shelf) (next : Next) (new : Syncing) (after : Shelf)
+sync-starts : (found : Option (List ℕ)) (wsize : ℕ) (m : SyncFile) (turn : Turn) (old : Shelf) (next : Step) (new : Syncing) (after : Shelf)
     → syncs.StartsAt found wsize m turn old next new after → On Syncing SyncNames 0 m.state next new
 sync-starts None wsize m turn old next new after s = on-done Syncing SyncNames 0 m.state (answers.Refused faults.Slot) next new s.next_is
 sync-starts (Some file) wsize m turn old next new after s =
     sync-queues (is_first m.lane (joined m.lane file old).order) m.state wsize m.lane turn (saves.begun file old.seq) (joined m.lane file old) next new after 0 (λ some. absurd (omega (arith, some))) s
 
-sync-resumes : (at : Syncing) (wsize : ℕ) (m : SyncFile) (turn : Turn) (old : Shelf) (next : Next) (new : Syncing) (after : Shelf) (others : ℕ)
+sync-resumes : (at : Syncing) (wsize : ℕ) (m : SyncFile) (turn : Turn) (old : Shelf) (next : Step) (new : Syncing) (after : Shelf) (others : ℕ)
     → syncs.Resumes at wsize m turn old next new after → On Syncing SyncNames others at next new
 sync-resumes syncing.Idle wsize m turn old next new after others r = on-waits Syncing SyncNames others syncing.Idle next new r.next_is r.state_is
 sync-resumes (syncing.Saves s) wsize m turn old next new after others r =
     sync-queues (is_first m.lane old.order) (syncing.Saves s) wsize m.lane turn s old next new after others (λ some c e. e) r
 
-sync-takes : (at : Syncing) (wsize : ℕ) (m : SyncFile) (sent turn : Turn) (came : Result Reply Fault) (old : Shelf) (next : Next) (new : Syncing) (after : Shelf) (others : ℕ)
+sync-takes : (at : Syncing) (wsize : ℕ) (m : SyncFile) (sent turn : Turn) (came : Result Reply Fault) (old : Shelf) (next : Step) (new : Syncing) (after : Shelf) (others : ℕ)
     → syncs.Takes at wsize m sent turn came old next new after → On Syncing SyncNames others at next new
 sync-takes syncing.Idle wsize m sent turn came old next new after others t = on-waits Syncing SyncNames others syncing.Idle next new t.next_is t.state_is
 sync-takes (syncing.Saves s) wsize m sent turn came old next new after others t =
@@ -79,7 +79,7 @@ abbrev pub WriteNames : Writing → Call → Type 0
 WriteNames writing.Idle call = Unit {0}
 WriteNames (writing.Room file saving) call = Saves saving.file call
 
-write-leads : (others : ℕ) (old : Writing) (to : Next) (state : Writing) (shelf : Shelf) (next : Next) (new : Writing) (after : Shelf) → writes.Leads to state shelf next new after
+write-leads : (others : ℕ) (old : Writing) (to : Step) (state : Writing) (shelf : Shelf) (next : Step) (new : Writing) (after : Shelf) → writes.Leads to state shelf next new after
     → On Writing WriteNames others old to state → On Writing WriteNames others old next new
 write-leads others old to state shelf next new after l c = on-to Writing WriteNames others old to state next new l.gives_next l.keeps c
 
@@ -103,7 +103,7 @@ room-on others old f file told saved had c = by-step
     ended (Ok nothing) k = record { asked = tt; kept = λ some b e. of-file saved.file f b k.file (had some b e) }
     ended (Err fault) k = record { asked = tt; kept = tt }
 
-saves-if : (b : Bool) (others : ℕ) (old : Writing) (wsize lane : ℕ) (file : List ℕ) (saving : Saving) (turn : Turn) (shelf : Shelf) (next : Next) (new : Writing) (after : Shelf)
+saves-if : (b : Bool) (others : ℕ) (old : Writing) (wsize lane : ℕ) (file : List ℕ) (saving : Saving) (turn : Turn) (shelf : Shelf) (next : Step) (new : Writing) (after : Shelf)
     → Had others old saving.file → writes.SavesIf b wsize lane file saving turn shelf next new after → On Writing WriteNames others old next new
 saves-if true others old wsize lane file saving turn shelf next new after had s =
     write-leads others old (writes.room_next s.told) (writes.room_state s.told file s.saved) _ next new after s.leads
@@ -111,11 +111,11 @@ saves-if true others old wsize lane file saving turn shelf next new after had s 
 saves-if false others old wsize lane file saving turn shelf next new after had s =
     write-leads others old nexts.Wait (writing.Room file saving) shelf next new after s (record { asked = tt; kept = had })
 
-refuses-on : (others : ℕ) (old : Writing) (fault : Fault) (shelf : Shelf) (next : Next) (new : Writing) (after : Shelf) → writes.Refuses fault shelf next new after
+refuses-on : (others : ℕ) (old : Writing) (fault : Fault) (shelf : Shelf) (next : Step) (new : Writing) (after : Shelf) → writes.Refuses fault shelf next new after
     → On Writing WriteNames others old next new
 refuses-on others old fault shelf next new after l = on-done Writing WriteNames others old (answers.Refused fault) next new l.gives_next
 
-writes-if : (b : Bool) (others : ℕ) (old : Writing) (wsize lane : ℕ) (file : List ℕ) (offset : ℕ) (bytes : List ℕ) (turn : Turn) (shelf : Shelf) (next : Next) (new : Writing) (after : Shelf)
+writes-if : (b : Bool) (others : ℕ) (old : Writing) (wsize lane : ℕ) (file : List ℕ) (offset : ℕ) (bytes : List ℕ) (turn : Turn) (shelf : Shelf) (next : Step) (new : Writing) (after : Shelf)
     → others ≡ 0 → writes.WritesIf b wsize lane file offset bytes turn shelf next new after → On Writing WriteNames others old next new
 writes-if true others old wsize lane file offset bytes turn shelf next new after none (inl s) =
     saves-if (is_first lane (joined lane s.of shelf).order) others old wsize lane file (saves.begun s.of shelf.seq) turn (joined lane s.of shelf) next new after (none-had others old s.of none) s.saves
@@ -124,23 +124,23 @@ writes-if false others old wsize lane file offset bytes turn shelf next new afte
     on-done Writing WriteNames others old (answers.Done values.Nothing) next new s.leads.gives_next
 writes-if false others old wsize lane file offset bytes turn shelf next new after none (inr s) = refuses-on others old faults.Memory shelf next new after s
 
-writes-on : (others : ℕ) (old : Writing) (wsize lane : ℕ) (file : List ℕ) (offset : ℕ) (bytes : List ℕ) (turn : Turn) (shelf : Shelf) (next : Next) (new : Writing) (after : Shelf)
+writes-on : (others : ℕ) (old : Writing) (wsize lane : ℕ) (file : List ℕ) (offset : ℕ) (bytes : List ℕ) (turn : Turn) (shelf : Shelf) (next : Step) (new : Writing) (after : Shelf)
     → others ≡ 0 → writes.Writes wsize lane file offset bytes turn shelf next new after → On Writing WriteNames others old next new
 writes-on others old wsize lane file offset bytes turn shelf next new after none w = writes-if _ others old wsize lane file offset bytes turn shelf next new after none w
 
-write-starts : (found : Result (List ℕ) Fault) (wsize : ℕ) (m : WriteFile) (turn : Turn) (shelf : Shelf) (next : Next) (new : WriteFile) (after : Shelf)
+write-starts : (found : Result (List ℕ) Fault) (wsize : ℕ) (m : WriteFile) (turn : Turn) (shelf : Shelf) (next : Step) (new : WriteFile) (after : Shelf)
     → writes.StartsAt found wsize m turn shelf next new after → On Writing WriteNames 0 m.state next new.state
 write-starts (Err fault) wsize m turn shelf next new after s = refuses-on 0 m.state fault shelf next new.state after s.refuses
 write-starts (Ok file) wsize m turn shelf next new after (inl s) = writes-on 0 m.state wsize m.lane file m.offset _ turn shelf next new.state after refl s.writes
 write-starts (Ok file) wsize m turn shelf next new after (inr s) = refuses-on 0 m.state faults.Memory shelf next new.state after s.refuses
 
-write-goes : (at : Writing) (wsize lane : ℕ) (turn : Turn) (shelf : Shelf) (next : Next) (new : Writing) (after : Shelf) (others : ℕ)
+write-goes : (at : Writing) (wsize lane : ℕ) (turn : Turn) (shelf : Shelf) (next : Step) (new : Writing) (after : Shelf) (others : ℕ)
     → writes.ResumesIn at wsize lane turn shelf next new after → On Writing WriteNames others at next new
 write-goes writing.Idle wsize lane turn shelf next new after others r = on-waits Writing WriteNames others writing.Idle next new r.gives_next r.keeps
 write-goes (writing.Room file saving) wsize lane turn shelf next new after others r =
     saves-if (is_first lane shelf.order) others (writing.Room file saving) wsize lane file saving turn shelf next new after (λ some c e. e) r
 
-write-follows : (told : _) (others : ℕ) (old : Writing) (f : List ℕ) (wsize : ℕ) (m : WriteFile) (file : List ℕ) (saved : Saving) (turn : Turn) (shelf : Shelf) (next : Next) (new : Writing)
+write-follows : (told : _) (others : ℕ) (old : Writing) (f : List ℕ) (wsize : ℕ) (m : WriteFile) (file : List ℕ) (saved : Saving) (turn : Turn) (shelf : Shelf) (next : Step) (new : Writing)
     (after : Shelf) → Had others old f → SavesOn f (syncs.sync_next told) saved → SaveCounts told others (of_saving saved)
     → writes.Follows told wsize m file saved turn shelf next new after → On Writing WriteNames others old next new
 write-follows told others old f wsize m file saved turn shelf next new after had k c l = by-step
@@ -156,7 +156,7 @@ write-follows told others old f wsize m file saved turn shelf next new after had
     ended (Ok nothing) j n l = writes-on others old wsize m.lane file m.offset (writes.made_bytes m.text) turn (record shelf { order = left m.lane shelf.order }) next new after n.0 l
     ended (Err fault) j n l = on-done Writing WriteNames others old (answers.Refused fault) next new l.gives_next
 
-write-hears : (at : Writing) (wsize : ℕ) (m : WriteFile) (sent turn : Turn) (came : Result Reply Fault) (shelf : Shelf) (next : Next) (new : Writing) (after : Shelf) (others : ℕ)
+write-hears : (at : Writing) (wsize : ℕ) (m : WriteFile) (sent turn : Turn) (came : Result Reply Fault) (shelf : Shelf) (next : Step) (new : Writing) (after : Shelf) (others : ℕ)
     → of_writing at ≡ others + 1 → writes.TakesIn at wsize m sent turn came shelf next new after → On Writing WriteNames others at next new
 write-hears writing.Idle wsize m sent turn came shelf next new after others one t = absurd (omega (arith, one))
 write-hears (writing.Room file saving) wsize m sent turn came shelf next new after others one t =
@@ -173,7 +173,7 @@ CloseNames (closing.Saves saving) call = Saves saving.file call
 CloseNames (closing.ToRemove removal) call = Unit {0}
 CloseNames (closing.Removing removal) call = call ≡ remove_of removal
 
-close-asks : (others : ℕ) (old : Closing) (room : Bool) (removal : Removal) (next : Next) (state : Closing) → others ≡ 0 → next ≡ closes.ask_next room removal
+close-asks : (others : ℕ) (old : Closing) (room : Bool) (removal : Removal) (next : Step) (state : Closing) → others ≡ 0 → next ≡ closes.ask_next room removal
     → state ≡ closes.ask_state room removal → On Closing CloseNames others old next state
 close-asks others old true removal next state none is at =
     on-to Closing CloseNames others old (nexts.Send (remove_of removal)) (closing.Removing removal) next state is at
@@ -181,12 +181,12 @@ close-asks others old true removal next state none is at =
 close-asks others old false removal next state none is at =
     on-to Closing CloseNames others old nexts.Wait (closing.ToRemove removal) next state is at (on-none Closing CloseNames others old nexts.Wait (closing.ToRemove removal) none tt)
 
-close-ends-at : (others : ℕ) (old : Closing) (place : Option (List ℕ × List ℕ)) (lane : ℕ) (room : Bool) (file : List ℕ) (why : Option Fault) (was : Shelf) (next : Next) (state : Closing)
+close-ends-at : (others : ℕ) (old : Closing) (place : Option (List ℕ × List ℕ)) (lane : ℕ) (room : Bool) (file : List ℕ) (why : Option Fault) (was : Shelf) (next : Step) (state : Closing)
     (new : Shelf) → others ≡ 0 → closes.EndsAt place lane room file why was next state new → On Closing CloseNames others old next state
 close-ends-at others old None lane room file why was next state new none e = on-done Closing CloseNames others old (closed_answer why) next state e.next_is
 close-ends-at others old (Some place) lane room file why was next state new none e = close-asks others old room _ next state none e.next_is e.state_is
 
-close-frees : (others : ℕ) (old : Closing) (lane slot : ℕ) (room : Bool) (file : List ℕ) (why : Option Fault) (was : Shelf) (next : Next) (state : Closing) (new : Shelf) → others ≡ 0
+close-frees : (others : ℕ) (old : Closing) (lane slot : ℕ) (room : Bool) (file : List ℕ) (why : Option Fault) (was : Shelf) (next : Step) (state : Closing) (new : Shelf) → others ≡ 0
     → closes.Frees lane slot room file why was next state new → On Closing CloseNames others old next state
 close-frees others old lane slot room file why was next state new none f = close-ends-at others old f.place lane room file why f.freed next state new none f.ends
 
@@ -195,7 +195,7 @@ close-waits : (others : ℕ) (old : Closing) (begun : Bool) (saving : Saving) �
 close-waits others old true saving had = record { asked = tt; kept = had }
 close-waits others old false saving had = record { asked = tt; kept = λ some c e. tt }
 
-close-follows : (gives : _) (others : ℕ) (old : Closing) (f : List ℕ) (lane slot : ℕ) (room begun : Bool) (saved : Saving) (was : Shelf) (next : Next) (state : Closing) (new : Shelf)
+close-follows : (gives : _) (others : ℕ) (old : Closing) (f : List ℕ) (lane slot : ℕ) (room begun : Bool) (saved : Saving) (was : Shelf) (next : Step) (state : Closing) (new : Shelf)
     → (1 ≤ others → (c : Call) → CloseNames old c → Saves f c) → SavesOn f (syncs.sync_next gives) saved → SaveCounts gives others (of_saving saved)
     → closes.Follows gives lane slot room begun saved was next state new → On Closing CloseNames others old next state
 close-follows gives others old f lane slot room begun saved was next state new had k c l = by-step
@@ -207,7 +207,7 @@ close-follows gives others old f lane slot room begun saved was next state new h
     (λ result j n l. close-frees others old lane slot room saved.file (refusal_of result) was next state new n.0 l)
     gives k c l
 
-close-goes : (others : ℕ) (old : Closing) (wsize lane slot : ℕ) (turn : Turn) (begun : Bool) (saving : Saving) (was : Shelf) (next : Next) (state : Closing) (new : Shelf)
+close-goes : (others : ℕ) (old : Closing) (wsize lane slot : ℕ) (turn : Turn) (begun : Bool) (saving : Saving) (was : Shelf) (next : Step) (state : Closing) (new : Shelf)
     → (1 ≤ others → (c : Call) → CloseNames old c → Saves saving.file c) → of_saving saving ≡ others → closes.GoesOn wsize lane slot turn begun saving was next state new
     → On Closing CloseNames others old next state
 close-goes others old wsize lane slot turn begun saving was next state new had count g =
@@ -215,32 +215,32 @@ close-goes others old wsize lane slot turn begun saving was next state new had c
     (goes-on saving.file wsize turn.xid turn.room false saving was.back g.gives g.saved g.gone.back refl g.goes)
     (subst (λ (n : ℕ). SaveCounts g.gives n (of_saving g.saved)) count (save-goes wsize turn.xid turn.room false saving was.back g.gives g.saved g.gone.back g.goes)) g.follows
 
-close-begins : (end : Option ℕ) (old : Closing) (wsize lane slot : ℕ) (turn : Turn) (saving : Saving) (was : Shelf) (next : Next) (state : Closing) (new : Shelf) → of_saving saving ≡ 0
+close-begins : (end : Option ℕ) (old : Closing) (wsize lane slot : ℕ) (turn : Turn) (saving : Saving) (was : Shelf) (next : Step) (state : Closing) (new : Shelf) → of_saving saving ≡ 0
     → closes.Begins end wsize lane slot turn saving was next state new → On Closing CloseNames 0 old next state
 close-begins None old wsize lane slot turn saving was next state new none b = close-frees 0 old lane slot turn.room saving.file None was next state new refl b
 close-begins (Some end) old wsize lane slot turn saving was next state new none b =
     close-goes 0 old wsize lane slot turn false saving was next state new (λ some. absurd (omega (arith, some))) none b
 
-close-queues : (b : Bool) (old : Closing) (wsize lane slot : ℕ) (turn : Turn) (saving : Saving) (was : Shelf) (next : Next) (state : Closing) (new : Shelf) → of_saving saving ≡ 0
+close-queues : (b : Bool) (old : Closing) (wsize lane slot : ℕ) (turn : Turn) (saving : Saving) (was : Shelf) (next : Step) (state : Closing) (new : Shelf) → of_saving saving ≡ 0
     → closes.QueuesIf b wsize lane slot turn saving was next state new → On Closing CloseNames 0 old next state
 close-queues true old wsize lane slot turn saving was next state new none q =
     close-begins (last_end (of_file saving.file was.back).segments) old wsize lane slot turn saving was next state new none q
 close-queues false old wsize lane slot turn saving was next state new none q =
     on-to Closing CloseNames 0 old nexts.Wait (closing.Queued saving) next state q.next_is q.state_is (record { asked = tt; kept = λ some c e. tt })
 
-close-starts : (found : Option (List ℕ)) (wsize : ℕ) (m : CloseFile) (turn : Turn) (was : Shelf) (next : Next) (state : Closing) (new : Shelf)
+close-starts : (found : Option (List ℕ)) (wsize : ℕ) (m : CloseFile) (turn : Turn) (was : Shelf) (next : Step) (state : Closing) (new : Shelf)
     → closes.StartsAt found wsize m turn was next state new → On Closing CloseNames 0 m.state next state
 close-starts None wsize m turn was next state new s = on-done Closing CloseNames 0 m.state (answers.Refused faults.Slot) next state s.next_is
 close-starts (Some file) wsize m turn was next state new s =
     close-queues (is_first m.lane (joined m.lane file was).order) m.state wsize m.lane m.slot turn (saves.begun file was.seq) (joined m.lane file was) next state new refl s
 
-close-on : (b : Bool) (wsize lane slot : ℕ) (turn : Turn) (saving : Saving) (was : Shelf) (next : Next) (state : Closing) (new : Shelf)
+close-on : (b : Bool) (wsize lane slot : ℕ) (turn : Turn) (saving : Saving) (was : Shelf) (next : Step) (state : Closing) (new : Shelf)
     → closes.GoesOnIf b wsize lane slot turn saving was next state new → On Closing CloseNames (of_saving saving) (closing.Saves saving) next state
 close-on true wsize lane slot turn saving was next state new g =
     close-goes (of_saving saving) (closing.Saves saving) wsize lane slot turn true saving was next state new (λ some c e. e) refl g
 close-on false wsize lane slot turn saving was next state new g = on-waits Closing CloseNames (of_saving saving) (closing.Saves saving) next state g.next_is g.state_is
 
-close-resumes : (at : Closing) (wsize : ℕ) (m : CloseFile) (turn : Turn) (was : Shelf) (next : Next) (state : Closing) (new : Shelf)
+close-resumes : (at : Closing) (wsize : ℕ) (m : CloseFile) (turn : Turn) (was : Shelf) (next : Step) (state : Closing) (new : Shelf)
     → closes.Resumes at wsize m turn was next state new → On Closing CloseNames (of_closing at) at next state
 close-resumes closing.Idle wsize m turn was next state new r = on-waits Closing CloseNames 0 closing.Idle next state r.next_is r.state_is
 close-resumes (closing.Queued saving) wsize m turn was next state new r = queued (is_first m.lane was.order) r
@@ -269,14 +269,14 @@ close-resumes (closing.Saves saving) wsize m turn was next state new r = close-o
 close-resumes (closing.ToRemove removal) wsize m turn was next state new r = close-asks 0 (closing.ToRemove removal) turn.room removal next state refl r.next_is r.state_is
 close-resumes (closing.Removing removal) wsize m turn was next state new r = on-waits Closing CloseNames 1 (closing.Removing removal) next state r.next_is r.state_is
 
-close-removed : (again : Bool) (lane : ℕ) (removal : Removal) (was : Shelf) (next : Next) (state : Closing) (new : Shelf) (others : ℕ)
+close-removed : (again : Bool) (lane : ℕ) (removal : Removal) (was : Shelf) (next : Step) (state : Closing) (new : Shelf) (others : ℕ)
     → closes.EndsIf again lane removal was next state new → On Closing CloseNames others (closing.Removing removal) next state
 close-removed true lane removal was next state new others e =
     on-to Closing CloseNames others (closing.Removing removal) (nexts.Send (remove_of removal)) (closing.Removing removal) next state e.next_is e.state_is
     (record { asked = refl; kept = λ some c e. e })
 close-removed false lane removal was next state new others e = on-done Closing CloseNames others (closing.Removing removal) (closed_answer removal.refusal) next state e.next_is
 
-close-takes : (at : Closing) (wsize : ℕ) (m : CloseFile) (sent turn : Turn) (came : Result Reply Fault) (was : Shelf) (next : Next) (state : Closing) (new : Shelf) (others : ℕ)
+close-takes : (at : Closing) (wsize : ℕ) (m : CloseFile) (sent turn : Turn) (came : Result Reply Fault) (was : Shelf) (next : Step) (state : Closing) (new : Shelf) (others : ℕ)
     → of_closing at ≡ others + 1 → closes.Takes at wsize m sent turn came was next state new → On Closing CloseNames others at next state
 close-takes closing.Idle wsize m sent turn came was next state new others one t = absurd (omega (arith, one))
 close-takes (closing.Queued saving) wsize m sent turn came was next state new others one t = absurd (omega (arith, one))
@@ -295,7 +295,7 @@ CutNames size truncating.Idle call = Unit {0}
 CutNames size (truncating.Queued file upto) call = Unit {0}
 CutNames size (truncating.Asked file upto) call = call ≡ truncates.size_call file size
 
-cut-queued : (b : Bool) (size others : ℕ) (old : Truncating) (file : List ℕ) (upto : ℕ) (next : Next) (state : Truncating) → others ≡ 0
+cut-queued : (b : Bool) (size others : ℕ) (old : Truncating) (file : List ℕ) (upto : ℕ) (next : Step) (state : Truncating) → others ≡ 0
     → next ≡ (if b then nexts.Send (truncates.size_call file size) else nexts.Wait) → state ≡ (if b then truncating.Asked file upto else truncating.Queued file upto)
     → On Truncating (CutNames size) others old next state
 cut-queued true size others old file upto next state none is at =
@@ -305,19 +305,19 @@ cut-queued false size others old file upto next state none is at =
     on-to Truncating (CutNames size) others old nexts.Wait (truncating.Queued file upto) next state is at
     (on-none Truncating (CutNames size) others old nexts.Wait (truncating.Queued file upto) none tt)
 
-cut-starts : (found : Result (List ℕ) Fault) (m : TruncateFile) (turn : Turn) (old : Shelf) (next : Next) (state : Truncating) → next ≡ truncates.begun_next found m turn old
+cut-starts : (found : Result (List ℕ) Fault) (m : TruncateFile) (turn : Turn) (old : Shelf) (next : Step) (state : Truncating) → next ≡ truncates.begun_next found m turn old
     → state ≡ truncates.begun_state found m turn old → On Truncating (CutNames m.size) 0 m.state next state
 cut-starts (Ok file) m turn old next state is at = cut-queued (truncates.may_ask m.lane file turn (joined m.lane file old)) m.size 0 m.state file old.seq next state refl is at
 cut-starts (Err fault) m turn old next state is at = on-done Truncating (CutNames m.size) 0 m.state (answers.Refused fault) next state is
 
-cut-resumes : (at : Truncating) (m : TruncateFile) (turn : Turn) (old : Shelf) (next : Next) (state : Truncating) → next ≡ truncates.resumed_next at m turn old
+cut-resumes : (at : Truncating) (m : TruncateFile) (turn : Turn) (old : Shelf) (next : Step) (state : Truncating) → next ≡ truncates.resumed_next at m turn old
     → state ≡ truncates.resumed_state at m turn old → On Truncating (CutNames m.size) (of_truncating at) at next state
 cut-resumes truncating.Idle m turn old next state is same = on-waits Truncating (CutNames m.size) 0 truncating.Idle next state is same
 cut-resumes (truncating.Queued file upto) m turn old next state is same =
     cut-queued (truncates.may_ask m.lane file turn old) m.size 0 (truncating.Queued file upto) file upto next state refl is same
 cut-resumes (truncating.Asked file upto) m turn old next state is same = on-waits Truncating (CutNames m.size) 1 (truncating.Asked file upto) next state is same
 
-cut-takes : (at : Truncating) (m : TruncateFile) (sent turn : Turn) (came : Result Reply Fault) (repeats : _) (next : Next) (state : Truncating) (others : ℕ)
+cut-takes : (at : Truncating) (m : TruncateFile) (sent turn : Turn) (came : Result Reply Fault) (repeats : _) (next : Step) (state : Truncating) (others : ℕ)
     → next ≡ truncates.took_next at m came sent turn repeats → state ≡ truncates.took_state at came sent turn repeats → On Truncating (CutNames m.size) others at next state
 cut-takes truncating.Idle m sent turn came repeats next state others is same = on-waits Truncating (CutNames m.size) others truncating.Idle next state is same
 cut-takes (truncating.Queued file upto) m sent turn came repeats next state others is same = on-waits Truncating (CutNames m.size) others (truncating.Queued file upto) next state is same
@@ -344,14 +344,14 @@ StateNames (putting.Saves s) w call = Saves s.file call
 abbrev pub PutNames : PutFile → Call → Type 0
 PutNames p call = StateNames p.state p.write.state call
 
-abbrev PutOn : ℕ → PutFile → Next → PutFile → Type 0
+abbrev PutOn : ℕ → PutFile → Step → PutFile → Type 0
 PutOn others old next new = On PutFile PutNames others old next new
 
 -- the put at another state
 abbrev at_state : PutFile → Putting → PutFile
 at_state p state = record p { state = state }
 
-put-follows : (others : ℕ) (old p : PutFile) (f : List ℕ) (gives : _) (saved : Saving) (lane : ℕ) (was : Shelf) (next : Next) (state : Putting) (after : Shelf)
+put-follows : (others : ℕ) (old p : PutFile) (f : List ℕ) (gives : _) (saved : Saving) (lane : ℕ) (was : Shelf) (next : Step) (state : Putting) (after : Shelf)
     → (1 ≤ others → (c : Call) → PutNames old c → Saves f c) → SavesOn f (syncs.sync_next gives) saved → puts.Follows gives lane saved was next state after
     → PutOn others old next (at_state p state)
 put-follows others old p f gives saved lane was next state after had k l = by-step
@@ -363,7 +363,7 @@ put-follows others old p f gives saved lane was next state after had k l = by-st
     (λ result j l. on-done PutFile PutNames others old (closed_answer (refusal_of result)) next (at_state p state) l.next_is)
     gives k l
 
-put-queues : (b : Bool) (others : ℕ) (old p : PutFile) (wsize lane : ℕ) (turn : Turn) (s : Saving) (was : Shelf) (next : Next) (state : Putting) (after : Shelf)
+put-queues : (b : Bool) (others : ℕ) (old p : PutFile) (wsize lane : ℕ) (turn : Turn) (s : Saving) (was : Shelf) (next : Step) (state : Putting) (after : Shelf)
     → (1 ≤ others → (c : Call) → PutNames old c → Saves s.file c) → puts.QueuesIf b wsize lane turn s was next state after → PutOn others old next (at_state p state)
 put-queues true others old p wsize lane turn s was next state after had q =
     put-follows others old p s.file q.gives q.saved lane q.gone next state after had (goes-on s.file wsize turn.xid turn.room false s was.back q.gives q.saved q.gone.back refl q.goes) q.follows
@@ -371,7 +371,7 @@ put-queues false others old p wsize lane turn s was next state after had q =
     on-to PutFile PutNames others old nexts.Wait (at_state p (putting.Saves s)) next (at_state p state) q.next_is (ap (at_state p) q.state_is) (record { asked = tt; kept = had })
 
 -- what a step of its write comes to
-after-write : (told : Next) (others : ℕ) (old p : PutFile) (was : Writing) (wsize lane : ℕ) (file : List ℕ) (turn : Turn) (shelf : Shelf) (next : Next) (state : Putting) (after : Shelf)
+after-write : (told : Step) (others : ℕ) (old p : PutFile) (was : Writing) (wsize lane : ℕ) (file : List ℕ) (turn : Turn) (shelf : Shelf) (next : Step) (state : Putting) (after : Shelf)
     → (1 ≤ others → (c : Call) → PutNames old c → WriteNames was c) → On Writing WriteNames others was told p.write.state → Plain told others (of_writing p.write.state)
     → puts.AfterWrite told wsize lane file turn shelf next state after → PutOn others old next (at_state p state)
 after-write (nexts.Send call) others old p was wsize lane file turn shelf next state after had on count a =
@@ -386,10 +386,10 @@ after-write (nexts.Done (answers.Done value)) others old p was wsize lane file t
 after-write (nexts.Done (answers.Refused fault)) others old p was wsize lane file turn shelf next state after had on count a =
     on-done PutFile PutNames others old (closed_answer (Some fault)) next (at_state p state) a.next_is
 
-put-as : (others : ℕ) (old : PutFile) (next : Next) (to new : PutFile) → new ≡ to → PutOn others old next to → PutOn others old next new
+put-as : (others : ℕ) (old : PutFile) (next : Step) (to new : PutFile) → new ≡ to → PutOn others old next to → PutOn others old next new
 put-as others old next to new is o = subst (λ (p : PutFile). PutOn others old next p) (sym is) o
 
-writes-then : (wsize : ℕ) (m old : PutFile) (was : Writing) (file : List ℕ) (turn : Turn) (told : Next) (written : Writing) (mid : Shelf) (next : Next) (new : PutFile) (after : Shelf) (others : ℕ)
+writes-then : (wsize : ℕ) (m old : PutFile) (was : Writing) (file : List ℕ) (turn : Turn) (told : Step) (written : Writing) (mid : Shelf) (next : Step) (new : PutFile) (after : Shelf) (others : ℕ)
     → (1 ≤ others → (c : Call) → PutNames old c → WriteNames was c) → On Writing WriteNames others was told written → Plain told others (of_writing written)
     → puts.WritesOn wsize m file turn told written mid next new after → PutOn others old next new
 writes-then wsize m old was file turn told written mid next new after others had on count w =
@@ -403,7 +403,7 @@ opens-any p is c = subst (λ (s : Putting). StateNames s p.write.state c) (sym i
 names-at : (p : PutFile) (at : Putting) (c : Call) → p.state ≡ at → PutNames p c → StateNames at p.write.state c
 names-at p at c is e = subst (λ (s : Putting). StateNames s p.write.state c) is e
 
-put-resumes : (at : Putting) (wsize : ℕ) (m : PutFile) (turn : Turn) (old : Shelf) (next : Next) (new : PutFile) (after : Shelf) → m.state ≡ at
+put-resumes : (at : Putting) (wsize : ℕ) (m : PutFile) (turn : Turn) (old : Shelf) (next : Step) (new : PutFile) (after : Shelf) → m.state ≡ at
     → puts.Resumes at wsize m turn old next new after → PutOn (of_putting at m.opening m.write.state) m next new
 put-resumes putting.Idle wsize m turn old next new after is r = on-waits PutFile PutNames 0 m next new r.next_is r.machine_is
 put-resumes putting.Opens wsize m turn old next new after is r =
@@ -416,7 +416,7 @@ put-resumes (putting.Saves s) wsize m turn old next new after is r =
     put-as (of_saving s) m next (at_state m new.state) new r.1
     (put-queues (is_first m.write.lane old.order) (of_saving s) m m wsize m.write.lane turn s old next new.state after (λ some c e. names-at m (putting.Saves s) c is e) r.0)
 
-after-opening : (step : OpeningNext) (wsize : ℕ) (m old : PutFile) (turn : Turn) (shelf : Shelf) (next : Next) (new : PutFile) (after : Shelf) (others : ℕ) → m.state ≡ putting.Opens
+after-opening : (step : OpeningStep) (wsize : ℕ) (m old : PutFile) (turn : Turn) (shelf : Shelf) (next : Step) (new : PutFile) (after : Shelf) (others : ℕ) → m.state ≡ putting.Opens
     → OpeningCounts step others (of_opening m.opening) → puts.AfterOpening step wsize m turn shelf next new after → PutOn others old next new
 after-opening (openings.Send call) wsize m old turn shelf next new after others is c a = on-any PutFile PutNames others old next new (opens-any new (ap (λ (p : PutFile). p.state) a.1 ∙ is))
 after-opening openings.Wait wsize m old turn shelf next new after others is c a =
@@ -428,7 +428,7 @@ after-opening (openings.Ended (Ok file)) wsize m old turn shelf next new after o
     (writes-leave wsize m.write.lane file m.write.offset (writes.made_bytes m.write.text) turn (puts.put_at m.write.lane file shelf) a.told a.written a.mid a.writes)) a.goes
 after-opening (openings.Ended (Err fault)) wsize m old turn shelf next new after others is c a = on-done PutFile PutNames others old (answers.Refused fault) next new a.0
 
-put-takes : (at : Putting) (wsize : ℕ) (m : PutFile) (sent turn : Turn) (came : Result Reply Fault) (old : Shelf) (next : Next) (new : PutFile) (after : Shelf) (others : ℕ) → m.state ≡ at
+put-takes : (at : Putting) (wsize : ℕ) (m : PutFile) (sent turn : Turn) (came : Result Reply Fault) (old : Shelf) (next : Step) (new : PutFile) (after : Shelf) (others : ℕ) → m.state ≡ at
     → of_putting at m.opening m.write.state ≡ others + 1 → puts.Takes at wsize m sent turn came old next new after → PutOn others m next new
 put-takes putting.Idle wsize m sent turn came old next new after others is one t = absurd (omega (arith, one))
 put-takes putting.Opens wsize m sent turn came old next new after others is one t =
@@ -455,16 +455,16 @@ FileNames (files.Close m) call = CloseNames m.state call
 FileNames (files.Truncate m) call = CutNames m.size m.state call
 FileNames (files.Put m) call = PutNames m call
 
-abbrev FileOn : ℕ → FileMachine → Next → FileMachine → Type 0
+abbrev FileOn : ℕ → FileMachine → Step → FileMachine → Type 0
 FileOn others old next new = On FileMachine FileNames others old next new
 
-file-as : (others : ℕ) (old : FileMachine) (next : Next) (to new : FileMachine) → new ≡ to → FileOn others old next to → FileOn others old next new
+file-as : (others : ℕ) (old : FileMachine) (next : Step) (to new : FileMachine) → new ≡ to → FileOn others old next to → FileOn others old next new
 file-as others old next to new is o = subst (λ (m : FileMachine). FileOn others old next m) (sym is) o
 
-plain-on : (others : ℕ) (old : FileMachine) (next : Next) (to new : FileMachine) → new ≡ to → ((c : Call) → FileNames to c) → FileOn others old next new
+plain-on : (others : ℕ) (old : FileMachine) (next : Step) (to new : FileMachine) → new ≡ to → ((c : Call) → FileNames to c) → FileOn others old next new
 plain-on others old next to new is any = file-as others old next to new is (on-any FileMachine FileNames others old next to any)
 
-pub file-starts : (m : FileMachine) (wsize : ℕ) (turn : Turn) (old : Shelf) (next : Next) (new : FileMachine) (after : Shelf) → steps.Starts wsize m turn old next new after → FileOn 0 m next new
+pub file-starts : (m : FileMachine) (wsize : ℕ) (turn : Turn) (old : Shelf) (next : Step) (new : FileMachine) (after : Shelf) → steps.Starts wsize m turn old next new after → FileOn 0 m next new
 file-starts (files.Open m) wsize turn old next new after s = plain-on 0 (files.Open m) next _ new s.machine_is (λ c. tt)
 file-starts (files.Read m) wsize turn old next new after s =
     file-as 0 (files.Read m) next (files.Read s.machine) new s.machine_is
@@ -489,7 +489,7 @@ file-starts (files.Truncate m) wsize turn old next new after s =
     (cut-starts (truncates.found_file m old) m turn old next (truncates.started_state m turn old) s.next_is refl))
 file-starts (files.Put m) wsize turn old next new after s = plain-on 0 (files.Put m) next _ new s.machine_is (λ c. tt)
 
-pub file-resumes : (m : FileMachine) (wsize : ℕ) (turn : Turn) (old : Shelf) (next : Next) (new : FileMachine) (after : Shelf) → steps.Resumes wsize m turn old next new after
+pub file-resumes : (m : FileMachine) (wsize : ℕ) (turn : Turn) (old : Shelf) (next : Step) (new : FileMachine) (after : Shelf) → steps.Resumes wsize m turn old next new after
     → FileOn (calls_of m) m next new
 file-resumes (files.Open m) wsize turn old next new after s = plain-on _ (files.Open m) next _ new s.machine_is (λ c. tt)
 file-resumes (files.Read m) wsize turn old next new after s =
@@ -518,7 +518,7 @@ file-resumes (files.Put m) wsize turn old next new after s =
     (on-lift PutFile FileMachine PutNames FileNames (of_putting m.state m.opening m.write.state) m next s.machine (files.Put m) (files.Put s.machine) (λ some c e. e) (λ c e. e)
     (put-resumes m.state wsize m turn old next s.machine after refl s.step))
 
-pub file-takes : (m : FileMachine) (wsize : ℕ) (sent turn : Turn) (came : Result Reply Fault) (old : Shelf) (next : Next) (new : FileMachine) (after : Shelf) (others : ℕ)
+pub file-takes : (m : FileMachine) (wsize : ℕ) (sent turn : Turn) (came : Result Reply Fault) (old : Shelf) (next : Step) (new : FileMachine) (after : Shelf) (others : ℕ)
     → calls_of m ≡ others + 1 → steps.Takes wsize m sent turn came old next new after → FileOn others m next new
 file-takes (files.Open m) wsize sent turn came old next new after others one s = plain-on others (files.Open m) next _ new s.machine_is (λ c. tt)
 file-takes (files.Read m) wsize sent turn came old next new after others one s =

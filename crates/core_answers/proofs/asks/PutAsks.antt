@@ -1,11 +1,11 @@
 -- A put asks for each call that is sent for it.
-use Rattle.core_answers.proofs.Prelude.{◌≡◌, ◌≤◌, ◌⊎◌, inl, inr, ℕ, Bool, true, false, List, [], ◌∷◌, ◌++◌, length, Result, refl, sym, ap, subst, ◌∙◌, arith, All-nil, Fault, Entry, Began, Call, Reply, Op, Asks, Stabilizes, look_up, At, Rooted, UnderWay, PlaceOf, Terms, Asked-wide, Rooted-wide, At-grow, Pending, Walk, walk_of, Next, Shelf, Opening, OpeningStep, PutFile, Putting, Writing, Mounted, Machine, PathMachine, IsNamed, front_of, last_of, machine_of, Starts, Resumes, Takes, State, Busy, Over, Setup, KnowsRoot, of_walk, of_writing, of_putting, in_flight, PathOr, PutAwaits, begins-unbegun, all-starts, all-resumes, all-takes, IsNameTold, NamesTold, names-later, LeadsTo, IsHeard, heard-tells, front-last, Did, IsTold, TaleLaws, reached-good}
+use Rattle.core_answers.proofs.Prelude.{◌≡◌, ◌≤◌, ◌⊎◌, inl, inr, ℕ, Bool, true, false, List, [], ◌∷◌, ◌++◌, length, Result, refl, sym, ap, subst, ◌∙◌, arith, All-nil, Fault, Entry, Began, Call, Reply, Op, Asks, Stabilizes, look_up, At, Rooted, UnderWay, PlaceOf, Terms, Asked-wide, Rooted-wide, At-grow, Pending, Walk, walk_of, Step, Shelf, Opening, OpeningPhase, PutFile, Putting, Writing, Mounted, Machine, PathMachine, IsNamed, front_of, last_of, machine_of, Starts, Resumes, Takes, State, Busy, Over, Setup, KnowsRoot, of_walk, of_writing, of_putting, in_flight, PathOr, PutAwaits, begins-unbegun, all-starts, all-resumes, all-takes, IsNameTold, NamesTold, names-later, LeadsTo, IsHeard, heard-tells, front-last, Did, IsTold, TaleLaws, reached-good}
 use Rattle.core_facts.specs.InFlight.{path_by}
 use Rattle.world_model.specs.declared.op.Op.TheVariants as ops
 use Rattle.claims.specs.Asks as asks
 use Rattle.world_model.specs.Leads.{Leads}
-use Rattle.client_shelf.specs.declared.next.Next.TheVariants as nexts
-use Rattle.file_ops.specs.declared.opening.OpeningStep.TheVariants as opening_steps
+use Rattle.client_shelf.specs.declared.step.Step.TheVariants as nexts
+use Rattle.file_ops.specs.declared.opening.OpeningPhase.TheVariants as opening_steps
 use Rattle.file_ops.specs.declared.put_file.Putting.TheVariants as putting
 use Rattle.file_ops.specs.declared.write_file.Writing.TheVariants as writing
 use Rattle.file_ops.specs.Opening as opening
@@ -36,7 +36,7 @@ module _ (m : Mounted) where
   Shelved h shelf = NamesTold h shelf.names
 
   -- what a step leaves
-  did : (h : List Entry) (x : ℕ) (op : Op) (next : Next) (new : Machine) (after : Shelf) → Shelved h after → PutStory h x op (Busy new) → Did NoCall Shelved PutStory h x op next new after
+  did : (h : List Entry) (x : ℕ) (op : Op) (next : Step) (new : Machine) (after : Shelf) → Shelved h after → PutStory h x op (Busy new) → Did NoCall Shelved PutStory h x op next new after
   did h x op (nexts.Send call) new after kept story = record { shelf = kept; asks = tt; then_ = story }
   did h x op nexts.Wait new after kept story = record { shelf = kept; asks = tt; then_ = story }
   did h x op (nexts.Done answer) new after kept story = record { shelf = kept; asks = tt; then_ = λ path offset text is named. tt }
@@ -108,13 +108,13 @@ module _ (m : Mounted) (terms : Terms) (before after : List Entry) (x y : ℕ) (
       placed : PlaceOf terms.origin (before ++ after) y path o.dir (last_of path)
       placed = record { earlier = front_of path; is = front-last path named; leads = on (front_of path) o.dir s.leads }
 
-      at : (k : OpeningStep) → o.step ≡ k → call ≡ opening.call_of o k
+      at : (k : OpeningPhase) → o.step ≡ k → call ≡ opening.call_of o k
       at k same = is ∙ ap (opening.call_of o) same
 
       looks : call ≡ look_up o.dir o.name → Made
       looks same = asks.finds path o.dir (last_of path) (0, omega arith, refl) placed (same ∙ ap (look_up o.dir) s.name_is)
 
-      by : (k : OpeningStep) → o.step ≡ k → PutStep m.root before path k → Made
+      by : (k : OpeningPhase) → o.step ≡ k → PutStep m.root before path k → Made
       by opening_steps.Look same p = looks (at opening_steps.Look same)
       by opening_steps.Find same p = looks (at opening_steps.Find same)
       by opening_steps.Make same p = absurd p

@@ -1,5 +1,5 @@
 -- How a put finds its file: by LOOKUP of its last name; so its path leads to the file that it opens.
-use Rattle.core_answers.proofs.Prelude.{◌≡◌, ◌==◌, ℕ, Bool, true, false, List, [], ◌∷◌, ◌++◌, length, Option, Some, None, Result, Ok, Err, refl, sym, ap, subst, ◌∙◌, if◌then◌else◌, Attr, Mode, DirKept, looked, known_of, Fault, Entry, Reply, look_up, Asked, Turn, Led, Opening, OpeningNext, OpeningStep, got_by, IsNamed, front_of, last_of, LeadsTo, leads-later, IsHeard, front-last}
+use Rattle.core_answers.proofs.Prelude.{◌≡◌, ◌==◌, ℕ, Bool, true, false, List, [], ◌∷◌, ◌++◌, length, Option, Some, None, Result, Ok, Err, refl, sym, ap, subst, ◌∙◌, if◌then◌else◌, Attr, Mode, DirKept, looked, known_of, Fault, Entry, Reply, look_up, Asked, Turn, Led, Opening, OpeningStep, OpeningPhase, got_by, IsNamed, front_of, last_of, LeadsTo, leads-later, IsHeard, front-last}
 use Rattle.file_ops.specs.Told.{found_by}
 use Rattle.nfs_types.specs.declared.mode.Mode.TheVariants as modes
 use Rattle.nfs_dir_calls.specs.declared.keeping.DirKept.TheVariants as dir_kept
@@ -7,13 +7,13 @@ use Rattle.world_model.specs.declared.answer.Fault.TheVariants as faults
 use Rattle.world_model.specs.declared.message.Reply.TheVariants as replies
 use Rattle.world_model.specs.Leads as leading
 use Rattle.file_ops.specs.declared.opening.Led.TheVariants as leads
-use Rattle.file_ops.specs.declared.opening.OpeningNext.TheVariants as openings
-use Rattle.file_ops.specs.declared.opening.OpeningStep.TheVariants as opening_steps
+use Rattle.file_ops.specs.declared.opening.OpeningStep.TheVariants as openings
+use Rattle.file_ops.specs.declared.opening.OpeningPhase.TheVariants as opening_steps
 use Rattle.file_ops.specs.Opening as opening
 
 module _ (top : List ℕ) (h : List Entry) (path : List (List ℕ)) where
   -- it makes no file, and asks for the attributes of the one to which its path leads
-  abbrev pub PutStep : OpeningStep → Type 0
+  abbrev pub PutStep : OpeningPhase → Type 0
   PutStep opening_steps.Look = Unit {0}
   PutStep opening_steps.Make = ⊥
   PutStep opening_steps.Find = Unit {0}
@@ -66,13 +66,13 @@ module _ (top : List ℕ) (h : List Entry) (path : List (List ℕ)) where
   led-told : (o : Opening) (came : Result Reply Fault) → IsNamed path → PutOpening o → IsHeard top h came (opening.call_of o o.step) → PutLed (opening.told_led o came)
   led-told o came named s t = by o.step refl s.step
     where
-      at : (k : OpeningStep) → o.step ≡ k → IsHeard top h came (opening.call_of o k)
+      at : (k : OpeningPhase) → o.step ≡ k → IsHeard top h came (opening.call_of o k)
       at k is = subst (IsHeard top h came) (ap (opening.call_of o) is) t
 
-      named-at : (k : OpeningStep) → o.step ≡ k → opening.call_of o k ≡ look_up o.dir o.name → IsHeard top h came (look_up o.dir (last_of path))
+      named-at : (k : OpeningPhase) → o.step ≡ k → opening.call_of o k ≡ look_up o.dir o.name → IsHeard top h came (look_up o.dir (last_of path))
       named-at k is same = subst (IsHeard top h came) (same ∙ ap (look_up o.dir) s.name_is) (at k is)
 
-      by : (k : OpeningStep) → o.step ≡ k → PutStep k → PutLed (opening.led_to o.mode k came)
+      by : (k : OpeningPhase) → o.step ≡ k → PutStep k → PutLed (opening.led_to o.mode k came)
       by opening_steps.Look is p = look-led o.mode o.dir came s.mode_is (found-led o.dir came named s.leads (named-at opening_steps.Look is refl))
       by opening_steps.Find is p = found-led o.dir came named s.leads (named-at opening_steps.Find is refl)
       by opening_steps.Make is p = absurd p
@@ -106,7 +106,7 @@ module _ (top : List ℕ) (h : List Entry) (path : List (List ℕ)) where
 
   -- ---- a step
 
-  abbrev pub PutNext : OpeningNext → Opening → Type 0
+  abbrev pub PutNext : OpeningStep → Opening → Type 0
   PutNext (openings.Send call) o = PutOpening o
   PutNext openings.Wait o = PutOpening o
   PutNext (openings.Ended (Ok file)) o = LeadsTo top h path file
@@ -122,8 +122,8 @@ module _ (top : List ℕ) (h : List Entry) (path : List (List ℕ)) where
       by true = s
       by false = record { name_is = s.name_is; mode_is = s.mode_is; leads = s.leads; step = s.step }
 
-  next-as : (to step : OpeningNext) (o : Opening) → step ≡ to → PutNext to o → PutNext step o
-  next-as to step o is s = subst (λ (n : OpeningNext). PutNext n o) (sym is) s
+  next-as : (to step : OpeningStep) (o : Opening) → step ≡ to → PutNext to o → PutNext step o
+  next-as to step o is s = subst (λ (n : OpeningStep). PutNext n o) (sym is) s
 
   go-next : (o : Opening) (turn : Turn) → PutOpening o → PutNext (opening.go_next o turn) (opening.go_after o turn)
   go-next o turn s = by (opening.waits o turn) (go-opening o turn s)
@@ -137,7 +137,7 @@ module _ (top : List ℕ) (h : List Entry) (path : List (List ℕ)) where
   opened o file to (Ok opened_file) pages later l f = subst (LeadsTo top h path) (sym f.0) l
   opened o file to (Err fault) pages later l f = tt
 
-  led-next : (again : Bool) (o : Opening) (sent turn : Turn) (led : Led) (step : OpeningNext) (pages later : _) → PutOpening o → PutLed led
+  led-next : (again : Bool) (o : Opening) (sent turn : Turn) (led : Led) (step : OpeningStep) (pages later : _) → PutOpening o → PutLed led
       → opening.LedIf again o sent turn led step pages later → PutNext step (opening.opening_after again o turn led)
   led-next true o sent turn led step pages later s d l = next-as (openings.Send (opening.call_of o o.step)) step (opening.counted o) l.0 (counted-opening o s)
   led-next false o sent turn (leads.Goes to) step pages later s d l =
@@ -152,7 +152,7 @@ module _ (top : List ℕ) (h : List Entry) (path : List (List ℕ)) where
   led-next false o sent turn (leads.Ends fault) step pages later s d l = next-as (openings.Ended (Err fault)) step o l.0 tt
 
   -- at what came of its call
-  pub took-next : (again : Bool) (o : Opening) (sent turn : Turn) (now : ℕ) (came : Result Reply Fault) (attrs known : _) (step : OpeningNext) (pages later : _) → IsNamed path → PutOpening o
+  pub took-next : (again : Bool) (o : Opening) (sent turn : Turn) (now : ℕ) (came : Result Reply Fault) (attrs known : _) (step : OpeningStep) (pages later : _) → IsNamed path → PutOpening o
       → IsHeard top h came (opening.call_of o o.step) → opening.LedIf again o sent turn (opening.led_on o now came attrs known) step pages later
       → PutNext step (opening.opening_after again o turn (opening.led_on o now came attrs known))
   took-next again o sent turn now came attrs known step pages later named s t l =
@@ -165,7 +165,7 @@ module _ (top : List ℕ) (h : List Entry) (path : List (List ℕ)) where
       record { name_is = name_is; mode_is = mode_is; leads = l; step = subst (λ (k : Mode). PutStep (opening.first_step k)) (sym mode_is) tt }
 
 -- one entry more
-step-later : (top : List ℕ) (h : List Entry) (e : Entry) (path : List (List ℕ)) (step : OpeningStep) → PutStep top h path step → PutStep top (h ++ e ∷ []) path step
+step-later : (top : List ℕ) (h : List Entry) (e : Entry) (path : List (List ℕ)) (step : OpeningPhase) → PutStep top h path step → PutStep top (h ++ e ∷ []) path step
 step-later top h e path opening_steps.Look s = tt
 step-later top h e path opening_steps.Make s = s
 step-later top h e path opening_steps.Find s = tt

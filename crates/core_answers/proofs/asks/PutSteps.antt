@@ -1,16 +1,16 @@
 -- A put, step by step: its walk leads to its directory, its opening to its file, and its save is of that file.
-use Rattle.core_answers.proofs.Prelude.{◌≡◌, ◌-◌, ℕ, Bool, true, false, List, [], ◌∷◌, ◌++◌, length, take, Result, Ok, Err, refl, sym, ap, subst, ◌∙◌, arith, Fault, Entry, Call, Reply, is_first, Next, Shelf, Turn, Opening, OpeningNext, PutFile, Putting, Saving, Writing, joined, by-step, Walk, WalkNext, walk_of, Mounted, Machine, Opener, PathMachine, IsNamed, front_of, last_of, file_of, PathOr, PutAwaits, WalkStep, go-step, took-step, NamesTold, LeadsTo, leads-later, WalkLeads, walk-later, go-leads, took-leads, end-leads, IsHeard}
+use Rattle.core_answers.proofs.Prelude.{◌≡◌, ◌-◌, ℕ, Bool, true, false, List, [], ◌∷◌, ◌++◌, length, take, Result, Ok, Err, refl, sym, ap, subst, ◌∙◌, arith, Fault, Entry, Call, Reply, is_first, Step, Shelf, Turn, Opening, OpeningStep, PutFile, Putting, Saving, Writing, joined, by-step, Walk, WalkStep, walk_of, Mounted, Machine, Opener, PathMachine, IsNamed, front_of, last_of, file_of, PathOr, PutAwaits, WalkMoves, go-step, took-step, NamesTold, LeadsTo, leads-later, WalkLeads, walk-later, go-leads, took-leads, end-leads, IsHeard}
 use Rattle.nfs_types.specs.declared.mode.Mode.TheVariants as modes
 use Rattle.world_model.specs.declared.answer.Answer.TheVariants as answers
 use Rattle.world_model.specs.Leads as leads
-use Rattle.client_shelf.specs.declared.next.Next.TheVariants as nexts
-use Rattle.file_ops.specs.declared.opening.OpeningNext.TheVariants as openings
+use Rattle.client_shelf.specs.declared.step.Step.TheVariants as nexts
+use Rattle.file_ops.specs.declared.opening.OpeningStep.TheVariants as openings
 use Rattle.file_ops.specs.declared.put_file.Putting.TheVariants as putting
 use Rattle.file_ops.specs.Opening as opening
 use Rattle.file_ops.specs.PutFile as puts
 use Rattle.file_ops.specs.Saves as saves
 use Rattle.file_ops.specs.Syncs as syncs
-use Rattle.name_ops.specs.declared.walk.WalkNext.TheVariants as walks
+use Rattle.name_ops.specs.declared.walk.WalkStep.TheVariants as walks
 use Rattle.name_ops.specs.Walking as walking
 use Rattle.op_machines.specs.declared.file_machine.FileMachine.TheVariants as files
 use Rattle.op_machines.specs.declared.machine.Machine.TheVariants as machines
@@ -47,7 +47,7 @@ module _ (top : List ℕ) (h : List Entry) (path : List (List ℕ)) where
   state-as : (o : Opening) (to state : Putting) → state ≡ to → PutAt to o → PutAt state o
   state-as o to state is k = subst (λ (s : Putting). PutAt s o) (sym is) k
 
-  follows-at : (o : Opening) (f : List ℕ) (gives : _) (saved : Saving) (lane : ℕ) (was : Shelf) (next : Next) (state : Putting) (after : Shelf) → LeadsTo top h path f
+  follows-at : (o : Opening) (f : List ℕ) (gives : _) (saved : Saving) (lane : ℕ) (was : Shelf) (next : Step) (state : Putting) (after : Shelf) → LeadsTo top h path f
       → SavesOn f (syncs.sync_next gives) saved → puts.Follows gives lane saved was next state after → PutAt state o
   follows-at o f gives saved lane was next state after l k e = by-step
       (λ g. SavesOn f (syncs.sync_next g) saved → puts.Follows g lane saved was next state after → PutAt state o)
@@ -56,13 +56,13 @@ module _ (top : List ℕ) (h : List Entry) (path : List (List ℕ)) where
       (λ result j e. state-as o putting.Idle state e.state_is tt)
       gives k e
 
-  queues-at : (b : Bool) (o : Opening) (wsize lane : ℕ) (turn : Turn) (s : Saving) (was : Shelf) (next : Next) (state : Putting) (after : Shelf) → LeadsTo top h path s.file
+  queues-at : (b : Bool) (o : Opening) (wsize lane : ℕ) (turn : Turn) (s : Saving) (was : Shelf) (next : Step) (state : Putting) (after : Shelf) → LeadsTo top h path s.file
       → puts.QueuesIf b wsize lane turn s was next state after → PutAt state o
   queues-at true o wsize lane turn s was next state after l q =
       follows-at o s.file q.gives q.saved lane q.gone next state after l (goes-on s.file wsize turn.xid turn.room false s was.back q.gives q.saved q.gone.back refl q.goes) q.follows
   queues-at false o wsize lane turn s was next state after l q = state-as o (putting.Saves s) state q.state_is l
 
-  write-at : (told : Next) (o : Opening) (wsize lane : ℕ) (file : List ℕ) (turn : Turn) (was : Shelf) (next : Next) (state : Putting) (after : Shelf) → LeadsTo top h path file
+  write-at : (told : Step) (o : Opening) (wsize lane : ℕ) (file : List ℕ) (turn : Turn) (was : Shelf) (next : Step) (state : Putting) (after : Shelf) → LeadsTo top h path file
       → puts.AfterWrite told wsize lane file turn was next state after → PutAt state o
   write-at (nexts.Send call) o wsize lane file turn was next state after l a = state-as o (putting.Adds file) state a.1 l
   write-at nexts.Wait o wsize lane file turn was next state after l a = state-as o (putting.Adds file) state a.1 l
@@ -70,7 +70,7 @@ module _ (top : List ℕ) (h : List Entry) (path : List (List ℕ)) where
       queues-at (is_first lane (joined lane file was).order) o wsize lane turn (saves.begun file was.seq) (joined lane file was) next state after l a
   write-at (nexts.Done (answers.Refused fault)) o wsize lane file turn was next state after l a = state-as o putting.Idle state a.state_is tt
 
-  writes-at : (wsize : ℕ) (m : PutFile) (file : List ℕ) (turn : Turn) (told : Next) (written : Writing) (mid : Shelf) (next : Next) (new : PutFile) (after : Shelf) → LeadsTo top h path file
+  writes-at : (wsize : ℕ) (m : PutFile) (file : List ℕ) (turn : Turn) (told : Step) (written : Writing) (mid : Shelf) (next : Step) (new : PutFile) (after : Shelf) → LeadsTo top h path file
       → puts.WritesOn wsize m file turn told written mid next new after → PutAt new.state new.opening
   writes-at wsize m file turn told written mid next new after l w =
       subst (λ (o : Opening). PutAt new.state o) (sym (ap (λ (p : PutFile). p.opening) w.machine_is))
@@ -83,7 +83,7 @@ module _ (top : List ℕ) (h : List Entry) (path : List (List ℕ)) where
   was-at : (m : PutFile) (at : Putting) → m.state ≡ at → PutAt m.state m.opening → PutAt at m.opening
   was-at m at is k = subst (λ (s : Putting). PutAt s m.opening) is k
 
-  resumes-at : (at : Putting) (wsize : ℕ) (m : PutFile) (turn : Turn) (was : Shelf) (next : Next) (new : PutFile) (after : Shelf) → m.state ≡ at → PutAt m.state m.opening
+  resumes-at : (at : Putting) (wsize : ℕ) (m : PutFile) (turn : Turn) (was : Shelf) (next : Step) (new : PutFile) (after : Shelf) → m.state ≡ at → PutAt m.state m.opening
       → puts.Resumes at wsize m turn was next new after → PutAt new.state new.opening
   resumes-at putting.Idle wsize m turn was next new after is k r = same-put m new r.machine_is k
   resumes-at putting.Opens wsize m turn was next new after is k r =
@@ -95,14 +95,14 @@ module _ (top : List ℕ) (h : List Entry) (path : List (List ℕ)) where
       subst (λ (o : Opening). PutAt new.state o) (sym (ap (λ (p : PutFile). p.opening) r.1))
       (queues-at (is_first m.write.lane was.order) m.opening wsize m.write.lane turn s was next new.state after (was-at m (putting.Saves s) is k) r.0)
 
-  opening-at : (step : OpeningNext) (wsize : ℕ) (m : PutFile) (turn : Turn) (was : Shelf) (next : Next) (new : PutFile) (after : Shelf) → m.state ≡ putting.Opens
+  opening-at : (step : OpeningStep) (wsize : ℕ) (m : PutFile) (turn : Turn) (was : Shelf) (next : Step) (new : PutFile) (after : Shelf) → m.state ≡ putting.Opens
       → PutNext top h path step m.opening → puts.AfterOpening step wsize m turn was next new after → PutAt new.state new.opening
   opening-at (openings.Send call) wsize m turn was next new after is k a = same-put m new a.1 (state-as m.opening putting.Opens m.state is k)
   opening-at openings.Wait wsize m turn was next new after is k a = same-put m new a.machine_is (state-as m.opening putting.Opens m.state is k)
   opening-at (openings.Ended (Ok file)) wsize m turn was next new after is k a = writes-at wsize m file turn a.told a.written a.mid next new after k a.goes
   opening-at (openings.Ended (Err fault)) wsize m turn was next new after is k a = same-put (record m { state = putting.Idle }) new a.1 tt
 
-  takes-at : (at : Putting) (wsize : ℕ) (m : PutFile) (sent turn : Turn) (came : Result Reply Fault) (was : Shelf) (next : Next) (new : PutFile) (after : Shelf) → IsNamed path
+  takes-at : (at : Putting) (wsize : ℕ) (m : PutFile) (sent turn : Turn) (came : Result Reply Fault) (was : Shelf) (next : Step) (new : PutFile) (after : Shelf) → IsNamed path
       → m.state ≡ at → PutAt m.state m.opening → (at ≡ putting.Opens → IsHeard top h came (opening.call_of m.opening m.opening.step))
       → puts.Takes at wsize m sent turn came was next new after → PutAt new.state new.opening
   takes-at putting.Idle wsize m sent turn came was next new after named is k heard t = same-put m new t.machine_is k
@@ -133,7 +133,7 @@ module _ (top : List ℕ) (h : List Entry) (path : List (List ℕ)) where
     pub on_way : arrived ≡ false → OnWay walk p.opening
     pub there : arrived ≡ true → PutAt p.state p.opening
 
-  then-put : (wsize : ℕ) (walk : Walk) (p : PutFile) (turn : Turn) (old : Shelf) (next : Next) (new : PathMachine) (after : Shelf) → PutAt p.state p.opening
+  then-put : (wsize : ℕ) (walk : Walk) (p : PutFile) (turn : Turn) (old : Shelf) (next : Step) (new : PathMachine) (after : Shelf) → PutAt p.state p.opening
       → paths.ThenResumes wsize (record { walk = walk; opener = openers.Put p; arrived = true }) turn old next new after → PutRuns (machines.Path new)
   then-put wsize walk p turn old next new after k t = record {
     walk = walk;
@@ -145,14 +145,14 @@ module _ (top : List ℕ) (h : List Entry) (path : List (List ℕ)) where
   }
 
   -- where its walk ends with a refusal it has its answer
-  follows-put : (step : WalkNext) (wsize : ℕ) (walk : Walk) (p : PutFile) (turn : Turn) (old : Shelf) (next : Next) (new : PathMachine) (after : Shelf) → OnWay walk p.opening → WalkStep step walk
+  follows-put : (step : WalkStep) (wsize : ℕ) (walk : Walk) (p : PutFile) (turn : Turn) (old : Shelf) (next : Step) (new : PathMachine) (after : Shelf) → OnWay walk p.opening → WalkMoves step walk
       → paths.Follows step wsize (record { walk = walk; opener = openers.Put p; arrived = false }) turn old next new after → PutRuns (machines.Path new)
   follows-put step wsize walk p turn old next new after way s f = by step s f
     where
       runs : new ≡ record { walk = walk; opener = openers.Put p; arrived = false } → PutRuns (machines.Path new)
       runs is = record { walk = walk; p = p; arrived = false; is = ap machines.Path is; on_way = λ yes_is. way; there = λ no_way. absurd (cc) }
 
-      by : (w : WalkNext) → WalkStep w walk → paths.Follows w wsize (record { walk = walk; opener = openers.Put p; arrived = false }) turn old next new after → PutRuns (machines.Path new)
+      by : (w : WalkStep) → WalkMoves w walk → paths.Follows w wsize (record { walk = walk; opener = openers.Put p; arrived = false }) turn old next new after → PutRuns (machines.Path new)
       by (walks.Send call) k g = runs g.1
       by walks.Wait k g = runs g.1
       by (walks.At dir) k g =
@@ -164,7 +164,7 @@ module _ (top : List ℕ) (h : List Entry) (path : List (List ℕ)) where
           (subst (λ (d : List ℕ). LeadsTo top h (front_of path) d) (sym k.0) (end-leads top h (front_of path) walk way.walk k.1))) g
       by (walks.Refused fault) k g = runs g.1
 
-  pub put-resumes : (b : Bool) (wsize : ℕ) (walk : Walk) (p : PutFile) (turn : Turn) (old : Shelf) (next : Next) (new : PathMachine) (after : Shelf) → (b ≡ false → OnWay walk p.opening)
+  pub put-resumes : (b : Bool) (wsize : ℕ) (walk : Walk) (p : PutFile) (turn : Turn) (old : Shelf) (next : Step) (new : PathMachine) (after : Shelf) → (b ≡ false → OnWay walk p.opening)
       → (b ≡ true → PutAt p.state p.opening) → NamesTold h old.names → paths.PathResumes b wsize (record { walk = walk; opener = openers.Put p; arrived = b }) turn old next new after
       → PutRuns (machines.Path new)
   put-resumes true wsize walk p turn old next new after way there t r = then-put wsize walk p turn old next new after (there refl) r
@@ -173,7 +173,7 @@ module _ (top : List ℕ) (h : List Entry) (path : List (List ℕ)) where
       follows-put (walking.go_next walk turn old) wsize (walking.go_after walk turn old) p turn (walking.go_shelf walk turn old) next new after
       (record { walk = go-leads top h (front_of path) walk turn old t w.walk; name_is = w.name_is; mode_is = w.mode_is }) (go-step walk turn old) r
 
-  pub put-takes : (b : Bool) (wsize : ℕ) (walk : Walk) (p : PutFile) (sent turn : Turn) (came : Result Reply Fault) (old : Shelf) (next : Next) (new : PathMachine) (after : Shelf) (call : Call)
+  pub put-takes : (b : Bool) (wsize : ℕ) (walk : Walk) (p : PutFile) (sent turn : Turn) (came : Result Reply Fault) (old : Shelf) (next : Step) (new : PathMachine) (after : Shelf) (call : Call)
       → IsNamed path → (b ≡ false → OnWay walk p.opening) → (b ≡ true → PutAt p.state p.opening) → NamesTold h old.names
       → PathOr b (record { walk = walk; opener = openers.Put p; arrived = b }) call → IsHeard top h came call
       → paths.PathTakes b wsize (record { walk = walk; opener = openers.Put p; arrived = b }) sent turn came old next new after → PutRuns (machines.Path new)

@@ -1,5 +1,5 @@
 -- A read asks for each call that is sent for it.
-use Rattle.core_answers.proofs.Prelude.{◌≡◌, ◌≤◌, ◌-◌, ◌⊎◌, inl, inr, ℕ, Bool, true, false, List, [], ◌∷◌, ◌++◌, length, Option, Some, None, Result, Ok, Err, refl, sym, ap, subst, ◌∙◌, arith, if◌then◌else◌, Mode, Opened, Pages, Pending, Answer, Fault, Entry, Began, Call, Reply, Op, Asks, Modes, UnderWay, IsOf, Terms, Next, Repeat, Shelf, Turn, ReadFile, Phase, Reading, place_after, nothing_of, Mounted, Machine, machine_of, Starts, Resumes, Takes, State, Busy, Over, Setup, of_phase, of_reading, in_flight, begins-unbegun, Held, held-later, held-begins, always-later, Given, is-given, ThenOf, good-over}
+use Rattle.core_answers.proofs.Prelude.{◌≡◌, ◌≤◌, ◌-◌, ◌⊎◌, inl, inr, ℕ, Bool, true, false, List, [], ◌∷◌, ◌++◌, length, Option, Some, None, Result, Ok, Err, refl, sym, ap, subst, ◌∙◌, arith, if◌then◌else◌, Mode, Opened, Pages, Pending, Answer, Fault, Entry, Began, Call, Reply, Op, Asks, Modes, UnderWay, IsOf, Terms, Step, Repeat, Shelf, Turn, ReadFile, Phase, Reading, place_after, nothing_of, Mounted, Machine, machine_of, Starts, Resumes, Takes, State, Busy, Over, Setup, of_phase, of_reading, in_flight, begins-unbegun, Held, held-later, held-begins, always-later, Given, is-given, ThenOf, good-over}
 use Rattle.core_facts.proofs.Stories.{LawsOver}
 use Rattle.std.specs.FinMap as finite
 use Rattle.nfs_types.specs.declared.mode.Mode.TheVariants as modes
@@ -10,7 +10,7 @@ use Rattle.world_model.specs.declared.message.Call.TheVariants as calls
 use Rattle.world_model.specs.declared.op.Op.TheVariants as ops
 use Rattle.claims.specs.Asks as asks
 use Rattle.claims.specs.Rights.{can_read}
-use Rattle.client_shelf.specs.declared.next.Next.TheVariants as nexts
+use Rattle.client_shelf.specs.declared.step.Step.TheVariants as nexts
 use Rattle.file_ops.specs.declared.reading.Phase.TheVariants as phases
 use Rattle.file_ops.specs.ReadFile as reads
 use Rattle.file_ops.specs.Reading as reading
@@ -48,15 +48,15 @@ module _ (m : Modes) (mounted : Mounted) (one : 1 ≤ mounted.rsize) where
   ReadStory h x op state = (slot offset count : ℕ) → op ≡ ops.Read slot offset count → StateStory h x slot offset count state
 
   -- it runs so, or has its answer
-  abbrev RunsOr : List Entry → ℕ → ℕ → ℕ → ℕ → Next → Machine → Type 0
+  abbrev RunsOr : List Entry → ℕ → ℕ → ℕ → ℕ → Step → Machine → Type 0
   RunsOr h x slot offset count next new = ReadRuns h x slot offset count new ⊎ ((answer : Answer) × (next ≡ nexts.Done answer))
 
-  then-runs : (h : List Entry) (x : ℕ) (op : Op) (next : Next) (new : Machine)
+  then-runs : (h : List Entry) (x : ℕ) (op : Op) (next : Step) (new : Machine)
       → ((slot offset count : ℕ) → op ≡ ops.Read slot offset count → RunsOr h x slot offset count next new)
       → ThenOf (λ k. ReadStory h x op (Busy k)) (λ a. ReadStory h x op (Over a)) next new
   then-runs h x op next new k = by next refl
     where
-      by : (n : Next) → next ≡ n → ThenOf (λ k. ReadStory h x op (Busy k)) (λ a. ReadStory h x op (Over a)) n new
+      by : (n : Step) → next ≡ n → ThenOf (λ k. ReadStory h x op (Busy k)) (λ a. ReadStory h x op (Over a)) n new
       by (nexts.Send call) is = λ slot offset count same. elim (k slot offset count same) [
         | inl runs ↦ runs
         | inr ends ↦ absurd (let no_way : nexts.Send call ≡ nexts.Done ends.0 = sym is ∙ ends.1 in cc)
@@ -72,7 +72,7 @@ module _ (m : Modes) (mounted : Mounted) (one : 1 ≤ mounted.rsize) where
   in-as : (f : List ℕ) (offset count : ℕ) (to new : Option Reading) → new ≡ to → ReadIn f offset count to → ReadIn f offset count new
   in-as f offset count to new is k = subst (ReadIn f offset count) (sym is) k
 
-  resumes-in : (f : List ℕ) (offset count : ℕ) (of : Option Reading) (room : Bool) (k : ReadFile) (pages : Pages) (back : Pending) (next : Next) (new : ReadFile) (later : Pages) → k.reading ≡ of
+  resumes-in : (f : List ℕ) (offset count : ℕ) (of : Option Reading) (room : Bool) (k : ReadFile) (pages : Pages) (back : Pending) (next : Step) (new : ReadFile) (later : Pages) → k.reading ≡ of
       → ReadIn f offset count k.reading → reads.ResumesIn of room k pages back next new later → ReadIn f offset count new.reading
   resumes-in f offset count None room k pages back next new later is at s = in-as f offset count k.reading new.reading (ap (λ (r : ReadFile). r.reading) s.machine) at
   resumes-in f offset count (Some r) room k pages back next new later is at s =
@@ -80,14 +80,14 @@ module _ (m : Modes) (mounted : Mounted) (one : 1 ≤ mounted.rsize) where
       (gone-at f offset count mounted.rsize mounted.noac one room (reading.settled r pages)
       (settled-at f offset count mounted.rsize mounted.noac one r pages (subst (ReadIn f offset count) is at)))
 
-  takes-in : (f : List ℕ) (offset count : ℕ) (of : Option Reading) (sent turn : Turn) (came : Result Reply Fault) (repeats : List Repeat) (k : ReadFile) (pages : Pages) (back : Pending) (next : Next)
+  takes-in : (f : List ℕ) (offset count : ℕ) (of : Option Reading) (sent turn : Turn) (came : Result Reply Fault) (repeats : List Repeat) (k : ReadFile) (pages : Pages) (back : Pending) (next : Step)
       (new : ReadFile) (later : Pages) → k.reading ≡ of → ReadIn f offset count k.reading → reads.TakesIn of sent turn came repeats k pages back next new later → ReadIn f offset count new.reading
   takes-in f offset count None sent turn came repeats k pages back next new later is at t = in-as f offset count k.reading new.reading (ap (λ (r : ReadFile). r.reading) t.machine) at
   takes-in f offset count (Some r) sent turn came repeats k pages back next new later is at t =
       in-as f offset count (Some t.state.reading) new.reading (ap (λ (q : ReadFile). q.reading) t.machine)
       (takes-at f offset count mounted.rsize mounted.noac one sent turn came repeats r pages back next t.state (subst (ReadIn f offset count) is at) t.step)
 
-  module _ (h : List Entry) (lane line slot offset count wsize : ℕ) (turn : Turn) (old : Shelf) (next : Next) (new : Machine) (after : Shelf) (given : Given m h lane old) where
+  module _ (h : List Entry) (lane line slot offset count wsize : ℕ) (turn : Turn) (old : Shelf) (next : Step) (new : Machine) (after : Shelf) (given : Given m h lane old) where
     abbrev own : ReadFile
     own = record { lane = lane; slot = slot; offset = offset; count = count; rsize = mounted.rsize; noac = mounted.noac; reading = None }
 
@@ -143,7 +143,7 @@ module _ (m : Modes) (mounted : Mounted) (one : 1 ≤ mounted.rsize) where
             of modes.C same ok = goes (ap can_read same) ok
             of modes.X same ok = goes (ap can_read same) ok
 
-  goes : (h : List Entry) (x slot offset count : ℕ) (machine : Machine) (wsize : ℕ) (turn : Turn) (old : Shelf) (next : Next) (new : Machine) (after : Shelf) → ReadRuns h x slot offset count machine
+  goes : (h : List Entry) (x slot offset count : ℕ) (machine : Machine) (wsize : ℕ) (turn : Turn) (old : Shelf) (next : Step) (new : Machine) (after : Shelf) → ReadRuns h x slot offset count machine
       → Resumes wsize machine turn old next new after → RunsOr h x slot offset count next new
   goes h x slot offset count machine wsize turn old next new after k r =
       let g = subst (λ (n : Machine). Resumes wsize n turn old next new after) k.is r in
@@ -154,7 +154,7 @@ module _ (m : Modes) (mounted : Mounted) (one : 1 ≤ mounted.rsize) where
         at = resumes-in k.held.o.file offset count k.of.reading turn.room k.of old.pages old.back next g.step.machine after.pages refl k.at g.step.step;
       })
 
-  hears : (h : List Entry) (x slot offset count : ℕ) (machine : Machine) (wsize : ℕ) (sent turn : Turn) (came : Result Reply Fault) (old : Shelf) (next : Next) (new : Machine) (after : Shelf)
+  hears : (h : List Entry) (x slot offset count : ℕ) (machine : Machine) (wsize : ℕ) (sent turn : Turn) (came : Result Reply Fault) (old : Shelf) (next : Step) (new : Machine) (after : Shelf)
       → ReadRuns h x slot offset count machine → Takes wsize machine sent turn came old next new after → RunsOr h x slot offset count next new
   hears h x slot offset count machine wsize sent turn came old next new after k t =
       let g = subst (λ (n : Machine). Takes wsize n sent turn came old next new after) k.is t in

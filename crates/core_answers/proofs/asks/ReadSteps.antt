@@ -1,5 +1,5 @@
 -- A read, step by step: its bytes lie in the pages that meet its range, and so does what it asks for next.
-use Rattle.core_answers.proofs.Prelude.{◌≡◌, ◌<◌, ◌≤◌, ◌+◌, ◌-◌, ◌/◌, ◌%◌, ◌==◌, ◌&&◌, ◌||◌, not, ℕ, zero, suc, Bool, true, false, List, length, Option, Some, None, Result, Ok, Err, refl, sym, ap, subst, ◌∙◌, arith, if◌then◌else◌, nat_lt, nat_tests, Attr, Pages, page_of, known_of, after_page, Pending, Fault, Reply, goes_again, fails_busy, Next, Repeat, Turn, Phase, Reading, Bytes, place_after, Said, part, refusal, got_by}
+use Rattle.core_answers.proofs.Prelude.{◌≡◌, ◌<◌, ◌≤◌, ◌+◌, ◌-◌, ◌/◌, ◌%◌, ◌==◌, ◌&&◌, ◌||◌, not, ℕ, zero, suc, Bool, true, false, List, length, Option, Some, None, Result, Ok, Err, refl, sym, ap, subst, ◌∙◌, arith, if◌then◌else◌, nat_lt, nat_tests, Attr, Pages, page_of, known_of, after_page, Pending, Fault, Reply, goes_again, fails_busy, Step, Repeat, Turn, Phase, Reading, Bytes, place_after, Said, part, refusal, got_by}
 use Rattle.file_ops.specs.Base.{is_whole, with_more}
 use Rattle.xdr_codec.specs.declared.blob.Memory as memory
 use Rattle.file_ops.specs.declared.gather.Found.{Found}
@@ -169,13 +169,13 @@ module _ (f : List ℕ) (offset count rsize : ℕ) (noac : Bool) (one : 1 ≤ rs
   state-as : (to new : reading.State) → new ≡ to → ReadAt to.reading → ReadAt new.reading
   state-as to new is k = subst (λ (s : reading.State). ReadAt s.reading) (sym is) k
 
-  heard-at : (p : Phase) (said : Option Said) (sent turn : Turn) (repeats : List Repeat) (r : Reading) (pages : Pages) (back : Pending) (next : Next) (new : reading.State) → r.phase ≡ p
+  heard-at : (p : Phase) (said : Option Said) (sent turn : Turn) (repeats : List Repeat) (r : Reading) (pages : Pages) (back : Pending) (next : Step) (new : reading.State) → r.phase ≡ p
       → ((s : Said) → said ≡ Some s → (n : ℕ) × (p ≡ phases.Asked n)) → ReadAt r → reading.TakesPart said sent turn repeats r pages back next new → ReadAt new.reading
   heard-at p None sent turn repeats r pages back next new is asked k t = state-as (record { reading = r; pages = pages }) new t.1 k
   heard-at p (Some said) sent turn repeats r pages back next new is asked k t =
       let n = asked said refl in state-as (reading.told sent turn said r pages) new t.1 (said-at n.0 sent turn said r pages (is ∙ n.1) k)
 
-  opened-at : (result : Result (Unit {0}) memory.Memory) (turn : Turn) (r : Reading) (pages : Pages) (back : Pending) (next : Next) (new : reading.State) → ReadAt r
+  opened-at : (result : Result (Unit {0}) memory.Memory) (turn : Turn) (r : Reading) (pages : Pages) (back : Pending) (next : Step) (new : reading.State) → ReadAt r
       → reading.AfterOpened result turn r pages back next new → ReadAt new.reading
   opened-at (Ok done) turn r pages back next new k a =
       state-as (reading.gone turn.room (reading.settled (record r { phase = phases.Pages }) pages)) new a.1
@@ -183,12 +183,12 @@ module _ (f : List ℕ) (offset count rsize : ℕ) (noac : Bool) (one : 1 ≤ rs
       (settled-at (record r { phase = phases.Pages }) pages (record { file = k.file; size = k.size; base = k.base; phase = tt })))
   opened-at (Err no_memory) turn r pages back next new k a = state-as (record { reading = r; pages = pages }) new a.1 k
 
-  attrs-at : (told : Result Attr Fault) (again : Bool) (sent turn : Turn) (r : Reading) (pages : Pages) (back : Pending) (next : Next) (new : reading.State) → ReadAt r
+  attrs-at : (told : Result Attr Fault) (again : Bool) (sent turn : Turn) (r : Reading) (pages : Pages) (back : Pending) (next : Step) (new : reading.State) → ReadAt r
       → reading.TakesAttrs again told sent turn r pages back next new → ReadAt new.reading
   attrs-at (Ok attr) again sent turn r pages back next new k t = opened-at t.result turn r t.later back next new k t.goes
   attrs-at (Err fault) again sent turn r pages back next new k t = state-as (record { reading = r; pages = pages }) new t.1 k
 
-  takes-in : (p : Phase) (sent turn : Turn) (came : Result Reply Fault) (repeats : List Repeat) (r : Reading) (pages : Pages) (back : Pending) (next : Next) (new : reading.State) → r.phase ≡ p
+  takes-in : (p : Phase) (sent turn : Turn) (came : Result Reply Fault) (repeats : List Repeat) (r : Reading) (pages : Pages) (back : Pending) (next : Step) (new : reading.State) → r.phase ≡ p
       → ReadAt r → reading.TakesIf (reading.waits_attrs p) sent turn came repeats r pages back next new → ReadAt new.reading
   takes-in phases.AskedAttrs sent turn came repeats r pages back next new is k t = attrs-at (got_by came) (goes_again (fails_busy (got_by came)) sent turn repeats) sent turn r pages back next new k t
   takes-in phases.Attrs sent turn came repeats r pages back next new is k t = heard-at phases.Attrs (reading.heard r.phase came) sent turn repeats r pages back next new is (nothing is) k t
@@ -210,6 +210,6 @@ module _ (f : List ℕ) (offset count rsize : ℕ) (noac : Bool) (one : 1 ≤ rs
       nothing : r.phase ≡ phases.Ended → (s : Said) → reading.heard r.phase came ≡ Some s → (n : ℕ) × (phases.Ended ≡ phases.Asked n)
       nothing at s some = absurd (let no_way : None ≡ Some s = sym (ap (λ (q : Phase). reading.heard q came) at) ∙ some in cc)
 
-  pub takes-at : (sent turn : Turn) (came : Result Reply Fault) (repeats : List Repeat) (r : Reading) (pages : Pages) (back : Pending) (next : Next) (new : reading.State) → ReadAt r
+  pub takes-at : (sent turn : Turn) (came : Result Reply Fault) (repeats : List Repeat) (r : Reading) (pages : Pages) (back : Pending) (next : Step) (new : reading.State) → ReadAt r
       → reading.Takes sent turn came repeats r pages back next new → ReadAt new.reading
   takes-at sent turn came repeats r pages back next new k t = takes-in r.phase sent turn came repeats r pages back next new refl k t

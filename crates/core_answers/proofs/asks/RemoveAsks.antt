@@ -1,10 +1,10 @@
 -- A remove asks for each call that is sent for it, or hides its file by it.
-use Rattle.core_answers.proofs.Prelude.{◌≡◌, ◌≤◌, ◌⊎◌, inl, inr, ℕ, false, List, [], ◌∷◌, ◌++◌, length, Option, Some, None, Result, refl, sym, ap, subst, ◌∙◌, arith, All-nil, Fault, Entry, Began, Call, Reply, Op, Asks, Asked, Rooted, PlaceOf, Terms, Asked-grow, Asked-wide, Next, Shelf, Deed, Look, Seek, Move, Remove, walk_of, Mounted, Machine, IsNamed, front_of, last_of, machine_of, Starts, Resumes, Takes, State, Busy, Over, Setup, removal_by, of_walk, in_flight, begins-unbegun, all-starts, all-resumes, all-takes, IsNameTold, NamesTold, names-later, IsHeard, heard-tells, end-leads, RemoveAwaits, front-last, Did, IsTold, TaleLaws, reached-good}
+use Rattle.core_answers.proofs.Prelude.{◌≡◌, ◌≤◌, ◌⊎◌, inl, inr, ℕ, false, List, [], ◌∷◌, ◌++◌, length, Option, Some, None, Result, refl, sym, ap, subst, ◌∙◌, arith, All-nil, Fault, Entry, Began, Call, Reply, Op, Asks, Asked, Rooted, PlaceOf, Terms, Asked-grow, Asked-wide, Step, Shelf, Deed, Look, Seek, Move, Remove, walk_of, Mounted, Machine, IsNamed, front_of, last_of, machine_of, Starts, Resumes, Takes, State, Busy, Over, Setup, removal_by, of_walk, in_flight, begins-unbegun, all-starts, all-resumes, all-takes, IsNameTold, NamesTold, names-later, IsHeard, heard-tells, end-leads, RemoveAwaits, front-last, Did, IsTold, TaleLaws, reached-good}
 use Rattle.nfs_dir_calls.specs.declared.keeping.DirKept.TheVariants as kept
 use Rattle.world_model.specs.declared.message.Reply.TheVariants as replies
 use Rattle.world_model.specs.declared.op.Op.TheVariants as ops
 use Rattle.claims.specs.Asks as asks
-use Rattle.client_shelf.specs.declared.next.Next.TheVariants as nexts
+use Rattle.client_shelf.specs.declared.step.Step.TheVariants as nexts
 use Rattle.name_ops.specs.Looking.{look_up}
 use Rattle.name_ops.specs.RemoveFile as removals
 use Rattle.name_ops.specs.Walking as walking
@@ -31,7 +31,7 @@ module _ (m : Mounted) where
   abbrev pub Shelved : List Entry → Shelf → Type 0
   Shelved h shelf = NamesTold h shelf.names
 
-  did : (h : List Entry) (x : ℕ) (op : Op) (next : Next) (new : Machine) (after : Shelf) → Shelved h after → RemoveStory h x op (Busy new) → Did NoCall Shelved RemoveStory h x op next new after
+  did : (h : List Entry) (x : ℕ) (op : Op) (next : Step) (new : Machine) (after : Shelf) → Shelved h after → RemoveStory h x op (Busy new) → Did NoCall Shelved RemoveStory h x op next new after
   did h x op (nexts.Send call) new after kept story = record { shelf = kept; asks = tt; then_ = story }
   did h x op nexts.Wait new after kept story = record { shelf = kept; asks = tt; then_ = story }
   did h x op (nexts.Done answer) new after kept story = record { shelf = kept; asks = tt; then_ = λ path is. tt }

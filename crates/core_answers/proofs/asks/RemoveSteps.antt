@@ -1,5 +1,5 @@
 -- A remove, step by step: its walk leads along its path, and then it does one thing after another there.
-use Rattle.core_answers.proofs.Prelude.{◌≡◌, ℕ, Bool, true, false, List, [], ◌∷◌, ◌++◌, length, Option, Some, None, Result, Ok, Err, refl, sym, ap, subst, ◌∙◌, arith, Attr, DirKept, eqb-true, Opens, Fault, Entry, Call, Reply, Asked, Asked-grow, Asked-wide, length_last, Next, Shelf, Turn, Deed, Look, Seek, Move, Remove, RemoveFile, Walk, WalkNext, found_by, look_again, Machine, NameMachine, WalkStep, go-step, took-step, NamesTold, WalkLeads, walk-later, go-leads, took-leads, IsHeard, RemoveAwaits}
+use Rattle.core_answers.proofs.Prelude.{◌≡◌, ℕ, Bool, true, false, List, [], ◌∷◌, ◌++◌, length, Option, Some, None, Result, Ok, Err, refl, sym, ap, subst, ◌∙◌, arith, Attr, DirKept, eqb-true, Opens, Fault, Entry, Call, Reply, Asked, Asked-grow, Asked-wide, length_last, Step, Shelf, Turn, Deed, Look, Seek, Move, Remove, RemoveFile, Walk, WalkStep, found_by, look_again, Machine, NameMachine, WalkMoves, go-step, took-step, NamesTold, WalkLeads, walk-later, go-leads, took-leads, IsHeard, RemoveAwaits}
 use Rattle.world_model.specs.Heard.{status_of}
 use Rattle.name_ops.specs.Looking.{look_up}
 use Rattle.core_facts.proofs.Tales.{IsWhy}
@@ -8,7 +8,7 @@ use Rattle.silly_rename.specs.Plans.{plan_of}
 use Rattle.world_model.specs.declared.answer.Fault.TheVariants as faults
 use Rattle.world_model.specs.declared.message.Reply.TheVariants as replies
 use Rattle.claims.specs.Hidden.{IsHidden}
-use Rattle.name_ops.specs.declared.walk.WalkNext.TheVariants as walks
+use Rattle.name_ops.specs.declared.walk.WalkStep.TheVariants as walks
 use Rattle.name_ops.specs.RemoveFile as removals
 use Rattle.name_ops.specs.Walking as walking
 use Rattle.op_machines.specs.declared.machine.Machine.TheVariants as machines
@@ -144,7 +144,7 @@ module _ (top : List ℕ) (h : List Entry) (x : ℕ) (front : List (List ℕ)) (
   does : (deed : Deed) (room : Bool) (m : RemoveFile) → IsRemove m → IsFine m.walk.spot.dir deed → walking.next_name m.walk ≡ None → IsRemove (removals.asked_after m deed room)
   does deed room m k fine none = record { name_is = k.name_is; walk = k.walk; deed = (fine, none) }
 
-  follows : (step : WalkNext) (room : Bool) (m : RemoveFile) (opens : Opens) (next : Next) (new : RemoveFile) → WalkStep step m.walk → IsRemove m
+  follows : (step : WalkStep) (room : Bool) (m : RemoveFile) (opens : Opens) (next : Step) (new : RemoveFile) → WalkMoves step m.walk → IsRemove m
       → removals.Follows step room m opens next new → IsRemove new
   follows (walks.Send call) room m opens next new s k f = remove-as m new f.1 k
   follows walks.Wait room m opens next new s k f = remove-as m new f.1 k
@@ -159,7 +159,7 @@ module _ (top : List ℕ) (h : List Entry) (x : ℕ) (front : List (List ℕ)) (
   none-yet : (w : Walk) (o : Option Deed) → o ≡ None → HasDeed o w
   none-yet w o is = subst (λ (d : Option Deed). HasDeed d w) (sym is) tt
 
-  goes : (deed : Option Deed) (m : RemoveFile) (turn : Turn) (old : Shelf) (next : Next) (new : RemoveFile) (after : Shelf) → m.deed ≡ deed → NamesTold h old.names → IsRemove m
+  goes : (deed : Option Deed) (m : RemoveFile) (turn : Turn) (old : Shelf) (next : Step) (new : RemoveFile) (after : Shelf) → m.deed ≡ deed → NamesTold h old.names → IsRemove m
       → removals.Goes deed m turn old next new after → IsRemove new
   goes (Some deed) m turn old next new after is t k g =
       let k_has = has m deed is k in
@@ -168,18 +168,18 @@ module _ (top : List ℕ) (h : List Entry) (x : ℕ) (front : List (List ℕ)) (
       follows (walking.go_next m.walk turn old) turn.room (record m { walk = walking.go_after m.walk turn old }) old.opens next new (go-step m.walk turn old)
       (record { name_is = k.name_is; walk = go-leads top h front m.walk turn old t k.walk; deed = none-yet (walking.go_after m.walk turn old) m.deed is }) g.follows
 
-  resumes : (asked : Bool) (m : RemoveFile) (turn : Turn) (old : Shelf) (next : Next) (new : RemoveFile) (after : Shelf) → NamesTold h old.names → IsRemove m
+  resumes : (asked : Bool) (m : RemoveFile) (turn : Turn) (old : Shelf) (next : Step) (new : RemoveFile) (after : Shelf) → NamesTold h old.names → IsRemove m
       → removals.Resumes asked m turn old next new after → IsRemove new
   resumes true m turn old next new after t k r = remove-as m new r.machine_is k
   resumes false m turn old next new after t k r = goes m.deed m turn old next new after refl t k r
 
-  plans : (is_open : Bool) (file : List ℕ) (m : RemoveFile) (room : Bool) (old : Shelf) (next : Next) (new : RemoveFile) (after : Shelf) → IsRemove m → walking.next_name m.walk ≡ None
+  plans : (is_open : Bool) (file : List ℕ) (m : RemoveFile) (room : Bool) (old : Shelf) (next : Step) (new : RemoveFile) (after : Shelf) → IsRemove m → walking.next_name m.walk ≡ None
       → IsFound h x m.walk.spot.dir last file → removals.Plans is_open file m room old next new after → IsRemove new
   plans is_open file m room old next new after k none found p =
       let deed : Deed = removals.deed_of file (plan_of is_open old.counter) in
       remove-as (removals.asked_after m deed room) new p.machine_is (does deed room m k (plan-fine is_open m.walk.spot.dir file old.counter found) none)
 
-  looked : (again : Bool) (told : Result (List ℕ) Fault) (m : RemoveFile) (room : Bool) (old : Shelf) (next : Next) (new : RemoveFile) (after : Shelf) → IsRemove m
+  looked : (again : Bool) (told : Result (List ℕ) Fault) (m : RemoveFile) (room : Bool) (old : Shelf) (next : Step) (new : RemoveFile) (after : Shelf) → IsRemove m
       → walking.next_name m.walk ≡ None → ((file : List ℕ) → told ≡ Ok file → IsFound h x m.walk.spot.dir last file) → removals.FollowsLook again told m room old next new after → IsRemove new
   looked true told m room old next new after k none found f = remove-as m new f.machine_is k
   looked false (Ok file) m room old next new after k none found f = plans f.is_open file m room old next new after k none (found file refl) f.plans
@@ -190,7 +190,7 @@ module _ (top : List ℕ) (h : List Entry) (x : ℕ) (front : List (List ℕ)) (
   missed true file to m room new k hidden none free is = remove-as (removals.asked_after m (Move file to) room) new is (does (Move file to) room m k (hidden.0, hidden.1, free refl) none)
   missed false file to m room new k hidden none free is = remove-as m new is k
 
-  sought : (again : Bool) (told : Result (List ℕ) Fault) (file to : List ℕ) (m : RemoveFile) (room : Bool) (old : Shelf) (next : Next) (new : RemoveFile) (after : Shelf) → IsRemove m
+  sought : (again : Bool) (told : Result (List ℕ) Fault) (file to : List ℕ) (m : RemoveFile) (room : Bool) (old : Shelf) (next : Step) (new : RemoveFile) (after : Shelf) → IsRemove m
       → IsHidden to × IsFound h x m.walk.spot.dir last file → walking.next_name m.walk ≡ None
       → ((fault : Fault) → told ≡ Err fault → removals.is_missing fault ≡ true → IsFree h x m.walk.spot.dir to) → removals.FollowsSeek again told file to m room old next new after → IsRemove new
   sought true told file to m room old next new after k hidden none free f = remove-as m new f.machine_is k
@@ -198,7 +198,7 @@ module _ (top : List ℕ) (h : List Entry) (x : ℕ) (front : List (List ℕ)) (
   sought false (Err fault) file to m room old next new after k hidden none free f =
       missed (removals.is_missing fault) file to m room new k hidden none (free fault refl) f.machine_is
 
-  deed-takes : (deed : Deed) (m : RemoveFile) (sent turn : Turn) (came : Result Reply Fault) (old : Shelf) (next : Next) (new : RemoveFile) (after : Shelf) (call : Call) → IsRemove m
+  deed-takes : (deed : Deed) (m : RemoveFile) (sent turn : Turn) (came : Result Reply Fault) (old : Shelf) (next : Step) (new : RemoveFile) (after : Shelf) (call : Call) → IsRemove m
       → IsFine m.walk.spot.dir deed → walking.next_name m.walk ≡ None → call ≡ removals.call_of m deed → IsSince h x came call → IsWhySince h x came call → removals.TakesDeed deed m sent turn came old next new after
       → IsRemove new
   deed-takes Look m sent turn came old next new after call k fine none e since why t =
@@ -210,13 +210,13 @@ module _ (top : List ℕ) (h : List Entry) (x : ℕ) (front : List (List ℕ)) (
   deed-takes (Move file to) m sent turn came old next new after call k fine none e since why t = remove-as m new t.0 k
   deed-takes Remove m sent turn came old next new after call k fine none e since why t = remove-as m new t.0 k
 
-  takes-if : (asked : Bool) (deed : Deed) (m : RemoveFile) (sent turn : Turn) (came : Result Reply Fault) (old : Shelf) (next : Next) (new : RemoveFile) (after : Shelf) (call : Call) → IsRemove m
+  takes-if : (asked : Bool) (deed : Deed) (m : RemoveFile) (sent turn : Turn) (came : Result Reply Fault) (old : Shelf) (next : Step) (new : RemoveFile) (after : Shelf) (call : Call) → IsRemove m
       → IsFine m.walk.spot.dir deed → walking.next_name m.walk ≡ None → call ≡ removals.call_of m deed → IsSince h x came call → IsWhySince h x came call
       → removals.TakesIf asked deed m sent turn came old next new after → IsRemove new
   takes-if true deed m sent turn came old next new after call k fine none e since why t = deed-takes deed m sent turn came old next new after call k fine none e since why t
   takes-if false deed m sent turn came old next new after call k fine none e since why t = remove-as m new t.machine_is k
 
-  takes : (deed : Option Deed) (m : RemoveFile) (sent turn : Turn) (came : Result Reply Fault) (old : Shelf) (next : Next) (new : RemoveFile) (after : Shelf) (call : Call) → m.deed ≡ deed
+  takes : (deed : Option Deed) (m : RemoveFile) (sent turn : Turn) (came : Result Reply Fault) (old : Shelf) (next : Step) (new : RemoveFile) (after : Shelf) (call : Call) → m.deed ≡ deed
       → NamesTold h old.names → IsRemove m → RemoveAwaits deed m call → IsSince h x came call → IsWhySince h x came call → IsHeard top h came call → removals.Takes deed m sent turn came old next new after → IsRemove new
   takes (Some deed) m sent turn came old next new after call is told k e since why heard t =
       let k_has = has m deed is k in
@@ -228,11 +228,11 @@ module _ (top : List ℕ) (h : List Entry) (x : ℕ) (front : List (List ℕ)) (
         deed = none-yet t.walked.walk t.walked.deed (ap (λ (w : RemoveFile). w.deed) t.walked_is ∙ is);
       }) t.follows
 
-  pub remove-goes : (m : RemoveFile) (turn : Turn) (old : Shelf) (next : Next) (new : NameMachine) (after : Shelf) → NamesTold h old.names → IsRemove m
+  pub remove-goes : (m : RemoveFile) (turn : Turn) (old : Shelf) (next : Step) (new : NameMachine) (after : Shelf) → NamesTold h old.names → IsRemove m
       → steps.RemoveGoes m turn old next new after → RemoveRuns (machines.Name new)
   remove-goes m turn old next new after t k g = record { m = g.machine; is = ap machines.Name g.machine_is; story = resumes m.asked m turn old next g.machine after t k g.step }
 
-  pub remove-takes : (m : RemoveFile) (sent turn : Turn) (came : Result Reply Fault) (old : Shelf) (next : Next) (new : NameMachine) (after : Shelf) (call : Call) → NamesTold h old.names
+  pub remove-takes : (m : RemoveFile) (sent turn : Turn) (came : Result Reply Fault) (old : Shelf) (next : Step) (new : NameMachine) (after : Shelf) (call : Call) → NamesTold h old.names
       → IsRemove m → RemoveAwaits m.deed m call → IsSince h x came call → IsWhySince h x came call → IsHeard top h came call → steps.RemoveTakes m sent turn came old next new after → RemoveRuns (machines.Name new)
   remove-takes m sent turn came old next new after call t k e since why heard g =
       record { m = g.machine; is = ap machines.Name g.machine_is; story = takes m.deed m sent turn came old next g.machine after call refl t k e since why heard g.step }

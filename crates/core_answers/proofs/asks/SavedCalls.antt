@@ -1,5 +1,5 @@
 -- Which calls a save makes: WRITEs and COMMITs of its file, which stays the same.
-use Rattle.core_answers.proofs.Prelude.{◌≡◌, ◌⊎◌, inl, inr, ◌+◌, ◌&&◌, ℕ, Bool, true, false, List, [], ◌∷◌, Option, Some, None, Result, Ok, Err, refl, sym, ap, subst, nat_lt, Verdict, AllStable, SendAgain, Verf, Fault, Memory, Call, Reply, Next, Repeat, Turn, goes_again, chosen, piece_of, Pending, of_file, Sent, Segments, Sending, Committing, Resending, CommittingAgain, Saving, commit_told}
+use Rattle.core_answers.proofs.Prelude.{◌≡◌, ◌⊎◌, inl, inr, ◌+◌, ◌&&◌, ℕ, Bool, true, false, List, [], ◌∷◌, Option, Some, None, Result, Ok, Err, refl, sym, ap, subst, nat_lt, Verdict, AllStable, SendAgain, Verf, Fault, Memory, Call, Reply, Step, Repeat, Turn, goes_again, chosen, piece_of, Pending, of_file, Sent, Segments, Sending, Committing, Resending, CommittingAgain, Saving, commit_told}
 use Rattle.std.specs.Prelude.{◌==◌}
 use Rattle.file_ops.specs.declared.saving.Phase.{Phase}
 use Rattle.file_ops.specs.Saves as saves
@@ -11,7 +11,7 @@ abbrev pub Saves : List ℕ → Call → Type 0
 Saves f call = ((piece : Sent) × (call ≡ saves.write_of f piece)) ⊎ (call ≡ saves.commit_of f)
 
 -- A step of a save as one of a sync: it asks for such a call alone, and its file stays.
-pub record SavesOn (f : List ℕ) (next : Next) (new : Saving) : Type 0 where
+pub record SavesOn (f : List ℕ) (next : Step) (new : Saving) : Type 0 where
   pub file : new.file ≡ f
   pub asks : Sends next (Saves f)
 

@@ -1,5 +1,5 @@
 -- A record that is sent: for which operation, which machine waits for its reply, and for which call.
-use Rattle.core_answers.proofs.Prelude.{◌+◌, ◌≡◌, ◌<◌, ◌≤◌, ◌⊎◌, inl, inr, ℕ, List, [], ◌∷◌, ◌++◌, length, Bool, true, false, Some, None, slice_get, refl, sym, ap, subst, ◌∙◌, arith, append_assoc, next_xid, waiting_at, waits_early, Entry, Began, Answered, Dialed, Executed, Foreign, Flushed, Reboot, Delivered, Failed, Clock, Call, Op, At, SpellsCallBy, UnderWay, At-grow, At-below, At-back, At-cases, Next, Shelf, Machine, State, Busy, Lane, Setup, View, calls_for, in_flight, IsUnbegun, StepsTo, Reaches, begins, goes, loses, sent_now, calls-some, reached-count, ExpectLaws, lanes-under-way, Rows, reached-rows, Did, TaleLaws, reached-good}
+use Rattle.core_answers.proofs.Prelude.{◌+◌, ◌≡◌, ◌<◌, ◌≤◌, ◌⊎◌, inl, inr, ℕ, List, [], ◌∷◌, ◌++◌, length, Bool, true, false, Some, None, slice_get, refl, sym, ap, subst, ◌∙◌, arith, append_assoc, next_xid, waiting_at, waits_early, Entry, Began, Answered, Dialed, Executed, Foreign, Flushed, Reboot, Delivered, Failed, Clock, Call, Op, At, SpellsCallBy, UnderWay, At-grow, At-below, At-back, At-cases, Step, Shelf, Machine, State, Busy, Lane, Setup, View, calls_for, in_flight, IsUnbegun, StepsTo, Reaches, begins, goes, loses, sent_now, calls-some, reached-count, ExpectLaws, lanes-under-way, Rows, reached-rows, Did, TaleLaws, reached-good}
 use Rattle.rpc_retry.proofs.Lookups.{at_sent}
 use Rattle.world_model.specs.declared.entry.Entry.TheVariants.{Sent}
 use Rattle.core_facts.specs.Counted.{IsOfOperation}
@@ -8,7 +8,7 @@ use Rattle.core_facts.proofs.Counting.{IsKnown, known-only}
 use Rattle.core_facts.proofs.LaneMarks.{reached-lanes}
 use Rattle.core_facts.proofs.Tales.{IsExpected}
 use Rattle.rpc_retry.proofs.Records.{waits_late}
-use Rattle.client_shelf.specs.declared.next.Next.TheVariants as nexts
+use Rattle.client_shelf.specs.declared.step.Step.TheVariants as nexts
 use Rattle.client_core.specs.Steps.{SendsIf}
 use Rattle.core_facts.proofs.Owning.{reached-owned}
 use Rattle.core_answers.proofs.asks.Limits.{reached-limit}
@@ -51,7 +51,7 @@ NoShelf h shelf = Unit {0}
 abbrev pub NoStory : List Entry → ℕ → Op → State → Type 0
 NoStory h x op state = Unit {0}
 
-did-nothing : (h : List Entry) (x : ℕ) (op : Op) (next : Next) (new : Machine) (after : Shelf) → Did NoCall NoShelf NoStory h x op next new after
+did-nothing : (h : List Entry) (x : ℕ) (op : Op) (next : Step) (new : Machine) (after : Shelf) → Did NoCall NoShelf NoStory h x op next new after
 did-nothing h x op (nexts.Send call) new after = record { shelf = tt; asks = tt; then_ = tt }
 did-nothing h x op nexts.Wait new after = record { shelf = tt; asks = tt; then_ = tt }
 did-nothing h x op (nexts.Done answer) new after = record { shelf = tt; asks = tt; then_ = tt }

@@ -1,12 +1,12 @@
 -- A sync, a close or a truncate works on the file that its slot holds as it begins.
-use Rattle.core_answers.proofs.Prelude.{◌≡◌, ◌⊎◌, inl, inr, ℕ, Bool, true, false, List, [], ◌∷◌, ◌++◌, length, Option, Some, None, option_map, Result, Ok, refl, sym, ap, subst, ◌∙◌, if◌then◌else◌, Mode, Opened, of_file, last_end, Answer, Fault, Entry, Began, Reply, Op, Modes, goes_again, is_first, Next, Shelf, Turn, CloseFile, Closing, Removal, Saving, SyncFile, Syncing, TruncateFile, Truncating, refusal_of, remove_busy, of_open, in_mode, joined, by-step, Mounted, FileMachine, Machine, machine_of, Starts, Resumes, Takes, State, Busy, Over, Held, held-later, held-begins, Given, ThenOf}
+use Rattle.core_answers.proofs.Prelude.{◌≡◌, ◌⊎◌, inl, inr, ℕ, Bool, true, false, List, [], ◌∷◌, ◌++◌, length, Option, Some, None, option_map, Result, Ok, refl, sym, ap, subst, ◌∙◌, if◌then◌else◌, Mode, Opened, of_file, last_end, Answer, Fault, Entry, Began, Reply, Op, Modes, goes_again, is_first, Step, Shelf, Turn, CloseFile, Closing, Removal, Saving, SyncFile, Syncing, TruncateFile, Truncating, refusal_of, remove_busy, of_open, in_mode, joined, by-step, Mounted, FileMachine, Machine, machine_of, Starts, Resumes, Takes, State, Busy, Over, Held, held-later, held-begins, Given, ThenOf}
 use Rattle.std.specs.FinMap as finite
 use Rattle.nfs_types.specs.declared.mode.Mode.TheVariants as modes
 use Rattle.world_model.specs.declared.answer.Answer.TheVariants as answers
 use Rattle.world_model.specs.declared.answer.Fault.TheVariants as faults
 use Rattle.world_model.specs.declared.op.Op.TheVariants as ops
 use Rattle.claims.specs.Rights.{can_write}
-use Rattle.client_shelf.specs.declared.next.Next.TheVariants as nexts
+use Rattle.client_shelf.specs.declared.step.Step.TheVariants as nexts
 use Rattle.file_ops.specs.declared.close_file.Closing.TheVariants as closing
 use Rattle.file_ops.specs.declared.sync_file.Syncing.TheVariants as syncing
 use Rattle.file_ops.specs.declared.truncate_file.Truncating.TheVariants as truncating
@@ -52,18 +52,18 @@ module _ (f : List ℕ) where
       (λ result j is. sync-as syncing.Idle state is tt)
       gives k is
 
-  sync-queues : (b : Bool) (wsize lane : ℕ) (turn : Turn) (s : Saving) (was : Shelf) (next : Next) (state : Syncing) (after : Shelf) → s.file ≡ f
+  sync-queues : (b : Bool) (wsize lane : ℕ) (turn : Turn) (s : Saving) (was : Shelf) (next : Step) (state : Syncing) (after : Shelf) → s.file ≡ f
       → syncs.QueuesIf b wsize lane turn s was next state after → SyncAt state
   sync-queues true wsize lane turn s was next state after is q =
       sync-follows q.gives q.saved state (goes-on f wsize turn.xid turn.room false s was.back q.gives q.saved after.back is q.goes) q.follows.state_is
   sync-queues false wsize lane turn s was next state after is q = sync-as (syncing.Saves s) state q.state_is is
 
-  sync-resumes : (at : Syncing) (wsize : ℕ) (m : SyncFile) (turn : Turn) (old : Shelf) (next : Next) (state : Syncing) (after : Shelf) → SyncAt at
+  sync-resumes : (at : Syncing) (wsize : ℕ) (m : SyncFile) (turn : Turn) (old : Shelf) (next : Step) (state : Syncing) (after : Shelf) → SyncAt at
       → syncs.Resumes at wsize m turn old next state after → SyncAt state
   sync-resumes syncing.Idle wsize m turn old next state after k r = sync-as syncing.Idle state r.state_is tt
   sync-resumes (syncing.Saves s) wsize m turn old next state after k r = sync-queues (is_first m.lane old.order) wsize m.lane turn s old next state after k r
 
-  sync-takes : (at : Syncing) (wsize : ℕ) (m : SyncFile) (sent turn : Turn) (came : Result Reply Fault) (old : Shelf) (next : Next) (state : Syncing) (after : Shelf) → SyncAt at
+  sync-takes : (at : Syncing) (wsize : ℕ) (m : SyncFile) (sent turn : Turn) (came : Result Reply Fault) (old : Shelf) (next : Step) (state : Syncing) (after : Shelf) → SyncAt at
       → syncs.Takes at wsize m sent turn came old next state after → SyncAt state
   sync-takes syncing.Idle wsize m sent turn came old next state after k t = sync-as syncing.Idle state t.state_is tt
   sync-takes (syncing.Saves s) wsize m sent turn came old next state after k t =
@@ -78,7 +78,7 @@ module _ (f : List ℕ) where
   close-asks true removal state k is = close-as (closing.Removing removal) state is k
   close-asks false removal state k is = close-as (closing.ToRemove removal) state is k
 
-  close-ends : (place : Option (List ℕ × List ℕ)) (lane : ℕ) (room : Bool) (file : List ℕ) (why : Option Fault) (was : Shelf) (next : Next) (state : Closing) (new : Shelf) → file ≡ f
+  close-ends : (place : Option (List ℕ × List ℕ)) (lane : ℕ) (room : Bool) (file : List ℕ) (why : Option Fault) (was : Shelf) (next : Step) (state : Closing) (new : Shelf) → file ≡ f
       → closes.EndsAt place lane room file why was next state new → CloseAt state
   close-ends None lane room file why was next state new is e = close-as closing.Idle state e.state_is tt
   close-ends (Some place) lane room file why was next state new is e = close-asks room (record { file = file; dir = place.0; name = place.1; refusal = why }) state is e.state_is
@@ -87,7 +87,7 @@ module _ (f : List ℕ) where
   close-waits true s is = is
   close-waits false s is = is
 
-  close-follows : (gives : _) (lane slot : ℕ) (room begun : Bool) (saved : Saving) (was : Shelf) (next : Next) (state : Closing) (new : Shelf) → SavesOn f (syncs.sync_next gives) saved
+  close-follows : (gives : _) (lane slot : ℕ) (room begun : Bool) (saved : Saving) (was : Shelf) (next : Step) (state : Closing) (new : Shelf) → SavesOn f (syncs.sync_next gives) saved
       → closes.Follows gives lane slot room begun saved was next state new → CloseAt state
   close-follows gives lane slot room begun saved was next state new k e = by-step
       (λ g. SavesOn f (syncs.sync_next g) saved → closes.Follows g lane slot room begun saved was next state new → CloseAt state)
@@ -96,27 +96,27 @@ module _ (f : List ℕ) where
       (λ result j l. close-ends l.place lane room saved.file (refusal_of result) l.freed next state new j.file l.ends)
       gives k e
 
-  close-goes : (wsize lane slot : ℕ) (turn : Turn) (begun : Bool) (s : Saving) (was : Shelf) (next : Next) (state : Closing) (new : Shelf) → s.file ≡ f
+  close-goes : (wsize lane slot : ℕ) (turn : Turn) (begun : Bool) (s : Saving) (was : Shelf) (next : Step) (state : Closing) (new : Shelf) → s.file ≡ f
       → closes.GoesOn wsize lane slot turn begun s was next state new → CloseAt state
   close-goes wsize lane slot turn begun s was next state new is g =
       close-follows g.gives lane slot turn.room begun g.saved g.gone next state new (goes-on f wsize turn.xid turn.room false s was.back g.gives g.saved g.gone.back is g.goes) g.follows
 
-  close-begins : (end : Option ℕ) (wsize lane slot : ℕ) (turn : Turn) (s : Saving) (was : Shelf) (next : Next) (state : Closing) (new : Shelf) → s.file ≡ f
+  close-begins : (end : Option ℕ) (wsize lane slot : ℕ) (turn : Turn) (s : Saving) (was : Shelf) (next : Step) (state : Closing) (new : Shelf) → s.file ≡ f
       → closes.Begins end wsize lane slot turn s was next state new → CloseAt state
   close-begins None wsize lane slot turn s was next state new is b = close-ends b.place lane turn.room s.file None b.freed next state new is b.ends
   close-begins (Some end) wsize lane slot turn s was next state new is b = close-goes wsize lane slot turn false s was next state new is b
 
-  close-queues : (b : Bool) (wsize lane slot : ℕ) (turn : Turn) (s : Saving) (was : Shelf) (next : Next) (state : Closing) (new : Shelf) → s.file ≡ f
+  close-queues : (b : Bool) (wsize lane slot : ℕ) (turn : Turn) (s : Saving) (was : Shelf) (next : Step) (state : Closing) (new : Shelf) → s.file ≡ f
       → closes.QueuesIf b wsize lane slot turn s was next state new → CloseAt state
   close-queues true wsize lane slot turn s was next state new is q = close-begins (last_end (of_file s.file was.back).segments) wsize lane slot turn s was next state new is q
   close-queues false wsize lane slot turn s was next state new is q = close-as (closing.Queued s) state q.state_is is
 
-  close-on : (b : Bool) (wsize lane slot : ℕ) (turn : Turn) (s : Saving) (was : Shelf) (next : Next) (state : Closing) (new : Shelf) → s.file ≡ f
+  close-on : (b : Bool) (wsize lane slot : ℕ) (turn : Turn) (s : Saving) (was : Shelf) (next : Step) (state : Closing) (new : Shelf) → s.file ≡ f
       → closes.GoesOnIf b wsize lane slot turn s was next state new → CloseAt state
   close-on true wsize lane slot turn s was next state new is g = close-goes wsize lane slot turn true s was next state new is g
   close-on false wsize lane slot turn s was next state new is g = close-as (closing.Saves s) state g.state_is is
 
-  close-resumes : (at : Closing) (wsize : ℕ) (m : CloseFile) (turn : Turn) (old : Shelf) (next : Next) (state : Closing) (after : Shelf) → CloseAt at
+  close-resumes : (at : Closing) (wsize : ℕ) (m : CloseFile) (turn : Turn) (old : Shelf) (next : Step) (state : Closing) (after : Shelf) → CloseAt at
       → closes.Resumes at wsize m turn old next state after → CloseAt state
   close-resumes closing.Idle wsize m turn old next state after k r = close-as closing.Idle state r.state_is tt
   close-resumes (closing.Queued s) wsize m turn old next state after k r = close-queues (is_first m.lane old.order) wsize m.lane m.slot turn s old next state after k r
@@ -124,12 +124,12 @@ module _ (f : List ℕ) where
   close-resumes (closing.ToRemove removal) wsize m turn old next state after k r = close-asks turn.room removal state k r.state_is
   close-resumes (closing.Removing removal) wsize m turn old next state after k r = close-as (closing.Removing removal) state r.state_is k
 
-  close-removed : (again : Bool) (lane : ℕ) (removal : Removal) (was : Shelf) (next : Next) (state : Closing) (new : Shelf) → removal.file ≡ f
+  close-removed : (again : Bool) (lane : ℕ) (removal : Removal) (was : Shelf) (next : Step) (state : Closing) (new : Shelf) → removal.file ≡ f
       → closes.EndsIf again lane removal was next state new → CloseAt state
   close-removed true lane removal was next state new k e = close-as (closing.Removing removal) state e.state_is k
   close-removed false lane removal was next state new k e = close-as closing.Idle state e.state_is tt
 
-  close-takes : (at : Closing) (wsize : ℕ) (m : CloseFile) (sent turn : Turn) (came : Result Reply Fault) (old : Shelf) (next : Next) (state : Closing) (after : Shelf) → CloseAt at
+  close-takes : (at : Closing) (wsize : ℕ) (m : CloseFile) (sent turn : Turn) (came : Result Reply Fault) (old : Shelf) (next : Step) (state : Closing) (after : Shelf) → CloseAt at
       → closes.Takes at wsize m sent turn came old next state after → CloseAt state
   close-takes closing.Idle wsize m sent turn came old next state after k t = close-as closing.Idle state t.state_is tt
   close-takes (closing.Queued s) wsize m sent turn came old next state after k t = close-as (closing.Queued s) state t.state_is k
@@ -172,7 +172,7 @@ WorksAt (ops.Close slot) f (files.Close m) = CloseAt f m.state
 WorksAt (ops.Truncate slot size) f (files.Truncate m) = (m.size ≡ size) × CutAt f m.state
 WorksAt op f machine = ⊥
 
-file-goes : (op : Op) (f : List ℕ) (m : FileMachine) (wsize : ℕ) (turn : Turn) (old : Shelf) (next : Next) (new : FileMachine) (after : Shelf) → WorksAt op f m
+file-goes : (op : Op) (f : List ℕ) (m : FileMachine) (wsize : ℕ) (turn : Turn) (old : Shelf) (next : Step) (new : FileMachine) (after : Shelf) → WorksAt op f m
     → steps.Resumes wsize m turn old next new after → WorksAt op f new
 file-goes (ops.Sync slot) f (files.Sync m) wsize turn old next new after k r =
     subst (WorksAt (ops.Sync slot) f) (sym r.machine_is) (sync-resumes f m.state wsize m turn old next r.state after k r.step)
@@ -182,7 +182,7 @@ file-goes (ops.Truncate slot size) f (files.Truncate m) wsize turn old next new 
     subst (WorksAt (ops.Truncate slot size) f) (sym r.machine_is) (k.0, cut-resumes f m.state m turn old (truncates.resumed_state m.state m turn old) k.1 refl)
 file-goes op f m wsize turn old next new after k r = absurd k
 
-file-hears : (op : Op) (f : List ℕ) (m : FileMachine) (wsize : ℕ) (sent turn : Turn) (came : Result Reply Fault) (old : Shelf) (next : Next) (new : FileMachine) (after : Shelf) → WorksAt op f m
+file-hears : (op : Op) (f : List ℕ) (m : FileMachine) (wsize : ℕ) (sent turn : Turn) (came : Result Reply Fault) (old : Shelf) (next : Step) (new : FileMachine) (after : Shelf) → WorksAt op f m
     → steps.Takes wsize m sent turn came old next new after → WorksAt op f new
 file-hears (ops.Sync slot) f (files.Sync m) wsize sent turn came old next new after k t =
     subst (WorksAt (ops.Sync slot) f) (sym t.machine_is) (sync-takes f m.state wsize m sent turn came old next t.state after k t.step)
@@ -215,14 +215,14 @@ abbrev pub SlotStory : Modes → List Entry → ℕ → Op → State → Type 0
 SlotStory m h x op state = IsWorker op → StateStory m h x op state
 
 -- it runs so, or has its answer
-abbrev RunsOr : Modes → List Entry → ℕ → Op → Next → Machine → Type 0
+abbrev RunsOr : Modes → List Entry → ℕ → Op → Step → Machine → Type 0
 RunsOr m h x op next new = SlotRuns m h x op new ⊎ ((answer : Answer) × (next ≡ nexts.Done answer))
 
-then-runs : (m : Modes) (h : List Entry) (x : ℕ) (op : Op) (next : Next) (new : Machine) → (IsWorker op → RunsOr m h x op next new)
+then-runs : (m : Modes) (h : List Entry) (x : ℕ) (op : Op) (next : Step) (new : Machine) → (IsWorker op → RunsOr m h x op next new)
     → ThenOf (λ k. SlotStory m h x op (Busy k)) (λ a. SlotStory m h x op (Over a)) next new
 then-runs m h x op next new k = by next refl
   where
-    by : (n : Next) → next ≡ n → ThenOf (λ k. SlotStory m h x op (Busy k)) (λ a. SlotStory m h x op (Over a)) n new
+    by : (n : Step) → next ≡ n → ThenOf (λ k. SlotStory m h x op (Busy k)) (λ a. SlotStory m h x op (Over a)) n new
     by (nexts.Send call) is = λ works. elim (k works) [
       | inl runs ↦ runs
       | inr ends ↦ absurd (let no_way : nexts.Send call ≡ nexts.Done ends.0 = sym is ∙ ends.1 in cc)
@@ -233,7 +233,7 @@ then-runs m h x op next new k = by next refl
     ]
     by (nexts.Done answer) is = λ works. tt
 
-module _ (m : Modes) (mounted : Mounted) (h : List Entry) (lane line : ℕ) (wsize : ℕ) (turn : Turn) (old : Shelf) (next : Next) (new : Machine) (after : Shelf) (given : Given m h lane old) where
+module _ (m : Modes) (mounted : Mounted) (h : List Entry) (lane line : ℕ) (wsize : ℕ) (turn : Turn) (old : Shelf) (next : Step) (new : Machine) (after : Shelf) (given : Given m h lane old) where
   abbrev Later : Op → List Entry
   Later op = h ++ Began lane line op ∷ []
 
@@ -306,20 +306,20 @@ module _ (m : Modes) (mounted : Mounted) (h : List Entry) (lane line : ℕ) (wsi
           of modes.X same = runs o there (ap can_write same) (is ∙ ap (at-begin) (found modes.X same))
 
 -- at its first step
-begins : (m : Modes) (mounted : Mounted) (h : List Entry) (lane line : ℕ) (op : Op) (wsize : ℕ) (turn : Turn) (old : Shelf) (next : Next) (new : Machine) (after : Shelf) → Given m h lane old
+begins : (m : Modes) (mounted : Mounted) (h : List Entry) (lane line : ℕ) (op : Op) (wsize : ℕ) (turn : Turn) (old : Shelf) (next : Step) (new : Machine) (after : Shelf) → Given m h lane old
     → Starts wsize (machine_of mounted lane op) turn old next new after → IsWorker op → RunsOr m (h ++ Began lane line op ∷ []) (length h) op next new
 begins m mounted h lane line (ops.Sync slot) wsize turn old next new after given s works = sync-begins m mounted h lane line wsize turn old next new after given slot s
 begins m mounted h lane line (ops.Close slot) wsize turn old next new after given s works = close-starts m mounted h lane line wsize turn old next new after given slot s
 begins m mounted h lane line (ops.Truncate slot size) wsize turn old next new after given s works = cut-begins m mounted h lane line wsize turn old next new after given slot size s
 begins m mounted h lane line op wsize turn old next new after given s works = absurd works
 
-goes : (m : Modes) (h : List Entry) (x : ℕ) (op : Op) (machine : Machine) (wsize : ℕ) (turn : Turn) (old : Shelf) (next : Next) (new : Machine) (after : Shelf) → SlotRuns m h x op machine
+goes : (m : Modes) (h : List Entry) (x : ℕ) (op : Op) (machine : Machine) (wsize : ℕ) (turn : Turn) (old : Shelf) (next : Step) (new : Machine) (after : Shelf) → SlotRuns m h x op machine
     → Resumes wsize machine turn old next new after → RunsOr m h x op next new
 goes m h x op machine wsize turn old next new after k r =
     let g = subst (λ (n : Machine). Resumes wsize n turn old next new after) k.is r in
     inl (record { held = k.held; of = g.machine; is = g.machine_is; works = file-goes op k.held.o.file k.of wsize turn old next g.machine after k.works g.step })
 
-hears : (m : Modes) (h : List Entry) (x : ℕ) (op : Op) (machine : Machine) (wsize : ℕ) (sent turn : Turn) (came : Result Reply Fault) (old : Shelf) (next : Next) (new : Machine) (after : Shelf)
+hears : (m : Modes) (h : List Entry) (x : ℕ) (op : Op) (machine : Machine) (wsize : ℕ) (sent turn : Turn) (came : Result Reply Fault) (old : Shelf) (next : Step) (new : Machine) (after : Shelf)
     → SlotRuns m h x op machine → Takes wsize machine sent turn came old next new after → RunsOr m h x op next new
 hears m h x op machine wsize sent turn came old next new after k t =
     let g = subst (λ (n : Machine). Takes wsize n sent turn came old next new after) k.is t in

@@ -1,8 +1,8 @@
 -- A stat asks for each call that is sent for it.
-use Rattle.core_answers.proofs.Prelude.{◌≡◌, ◌≤◌, inl, inr, ℕ, Bool, true, false, List, [], ◌∷◌, ◌++◌, length, Result, refl, sym, subst, arith, All-nil, Fault, Entry, Began, Call, Reply, Op, Asks, Rooted, Terms, Asked-wide, Next, Shelf, walk_of, Mounted, Machine, machine_of, Starts, Resumes, Takes, State, Busy, Over, Setup, own_or, of_walk, in_flight, begins-unbegun, OwnOr, all-starts, all-resumes, all-takes, IsNameTold, NamesTold, names-later, IsHeard, heard-tells, end-leads, Did, IsTold, TaleLaws, reached-good}
+use Rattle.core_answers.proofs.Prelude.{◌≡◌, ◌≤◌, inl, inr, ℕ, Bool, true, false, List, [], ◌∷◌, ◌++◌, length, Result, refl, sym, subst, arith, All-nil, Fault, Entry, Began, Call, Reply, Op, Asks, Rooted, Terms, Asked-wide, Step, Shelf, walk_of, Mounted, Machine, machine_of, Starts, Resumes, Takes, State, Busy, Over, Setup, own_or, of_walk, in_flight, begins-unbegun, OwnOr, all-starts, all-resumes, all-takes, IsNameTold, NamesTold, names-later, IsHeard, heard-tells, end-leads, Did, IsTold, TaleLaws, reached-good}
 use Rattle.world_model.specs.declared.op.Op.TheVariants as ops
 use Rattle.claims.specs.Asks as asks
-use Rattle.client_shelf.specs.declared.next.Next.TheVariants as nexts
+use Rattle.client_shelf.specs.declared.step.Step.TheVariants as nexts
 use Rattle.name_ops.specs.Stat as stats
 use Rattle.op_machines.specs.declared.machine.Machine.TheVariants as machines
 use Rattle.core_answers.specs.asks.StatCalls.{StatsAsk}
@@ -24,7 +24,7 @@ module _ (m : Mounted) where
   abbrev pub Shelved : List Entry → Shelf → Type 0
   Shelved h shelf = NamesTold h shelf.names
 
-  did : (h : List Entry) (x : ℕ) (op : Op) (next : Next) (new : Machine) (after : Shelf) → Shelved h after → StatStory h x op (Busy new) → Did NoCall Shelved StatStory h x op next new after
+  did : (h : List Entry) (x : ℕ) (op : Op) (next : Step) (new : Machine) (after : Shelf) → Shelved h after → StatStory h x op (Busy new) → Did NoCall Shelved StatStory h x op next new after
   did h x op (nexts.Send call) new after kept story = record { shelf = kept; asks = tt; then_ = story }
   did h x op nexts.Wait new after kept story = record { shelf = kept; asks = tt; then_ = story }
   did h x op (nexts.Done answer) new after kept story = record { shelf = kept; asks = tt; then_ = λ path is. tt }

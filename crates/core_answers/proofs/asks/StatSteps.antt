@@ -1,7 +1,7 @@
 -- A stat, step by step: its walk leads along its path, and it asks for attributes at the end.
-use Rattle.core_answers.proofs.Prelude.{◌≡◌, ℕ, Bool, true, false, List, [], ◌∷◌, ◌++◌, Option, Some, None, Result, refl, sym, ap, subst, ◌∙◌, if◌then◌else◌, Attr, Fault, Entry, Call, Reply, Next, Shelf, Turn, Stat, WalkNext, Machine, NameMachine, WalkStep, go-step, took-step, OwnOr, NamesTold, WalkLeads, walk-later, go-leads, took-leads, IsHeard}
+use Rattle.core_answers.proofs.Prelude.{◌≡◌, ℕ, Bool, true, false, List, [], ◌∷◌, ◌++◌, Option, Some, None, Result, refl, sym, ap, subst, ◌∙◌, if◌then◌else◌, Attr, Fault, Entry, Call, Reply, Step, Shelf, Turn, Stat, WalkStep, Machine, NameMachine, WalkMoves, go-step, took-step, OwnOr, NamesTold, WalkLeads, walk-later, go-leads, took-leads, IsHeard}
 use Rattle.attr_cache.specs.Attrs as attrs
-use Rattle.name_ops.specs.declared.walk.WalkNext.TheVariants as walks
+use Rattle.name_ops.specs.declared.walk.WalkStep.TheVariants as walks
 use Rattle.name_ops.specs.Stat as stats
 use Rattle.name_ops.specs.Walking as walking
 use Rattle.op_machines.specs.declared.machine.Machine.TheVariants as machines
@@ -26,7 +26,7 @@ module _ (top : List ℕ) (h : List Entry) (path : List (List ℕ)) where
   ask-story None true s idle l none = record { walk = l; done = λ is. none }
   ask-story None false s idle l none = on-way s idle l
 
-  follow-story : (step : WalkNext) (turn : Turn) (known : attrs.Attrs) (s : Stat) → s.asked ≡ false → WalkLeads top h path s.walk → WalkStep step s.walk
+  follow-story : (step : WalkStep) (turn : Turn) (known : attrs.Attrs) (s : Stat) → s.asked ≡ false → WalkLeads top h path s.walk → WalkMoves step s.walk
       → IsStat (stats.follow_after step turn known s)
   follow-story (walks.Send call) turn known s idle l k = on-way s idle l
   follow-story walks.Wait turn known s idle l k = on-way s idle l
@@ -42,7 +42,7 @@ module _ (top : List ℕ) (h : List Entry) (path : List (List ℕ)) where
       by false is = follow-story (walking.go_next s.walk turn old) turn old.attrs (record s { walk = walking.go_after s.walk turn old }) is
           (go-leads top h path s.walk turn old t k.walk) (go-step s.walk turn old)
 
-  took-story : (b : Bool) (s : Stat) (sent turn : Turn) (came : Result Reply Fault) (old : Shelf) (next : Next) (new : Stat) (after : Shelf) (call : Call) → s.asked ≡ b → NamesTold h old.names
+  took-story : (b : Bool) (s : Stat) (sent turn : Turn) (came : Result Reply Fault) (old : Shelf) (next : Step) (new : Stat) (after : Shelf) (call : Call) → s.asked ≡ b → NamesTold h old.names
       → IsStat s → OwnOr b stats.get_attr s.walk call → IsHeard top h came call → stats.StatTakes b s sent turn came old next new after → IsStat new
   took-story true s sent turn came old next new after call is t k e heard r = subst IsStat (sym r.0) k
   took-story false s sent turn came old next new after call is t k e heard r =
@@ -51,11 +51,11 @@ module _ (top : List ℕ) (h : List Entry) (path : List (List ℕ)) where
       (took-leads top h path s.walk sent turn came old r.step r.walked.walk after call t k.walk e heard r.takes)
       (took-step s.walk sent turn came old r.step r.walked.walk after r.takes))
 
-  pub stat-goes : (s : Stat) (turn : Turn) (old : Shelf) (next : Next) (new : NameMachine) (after : Shelf) → NamesTold h old.names → IsStat s → steps.StatGoes s turn old next new after
+  pub stat-goes : (s : Stat) (turn : Turn) (old : Shelf) (next : Step) (new : NameMachine) (after : Shelf) → NamesTold h old.names → IsStat s → steps.StatGoes s turn old next new after
       → StatRuns (machines.Name new)
   stat-goes s turn old next new after t k g = record { s = stats.stat_after s turn old; is = ap machines.Name g.machine_is; story = goes-story s turn old t k }
 
-  pub stat-takes : (s : Stat) (sent turn : Turn) (came : Result Reply Fault) (old : Shelf) (next : Next) (new : NameMachine) (after : Shelf) (call : Call) → NamesTold h old.names → IsStat s
+  pub stat-takes : (s : Stat) (sent turn : Turn) (came : Result Reply Fault) (old : Shelf) (next : Step) (new : NameMachine) (after : Shelf) (call : Call) → NamesTold h old.names → IsStat s
       → OwnOr s.asked stats.get_attr s.walk call → IsHeard top h came call → steps.StatTakes s sent turn came old next new after → StatRuns (machines.Name new)
   stat-takes s sent turn came old next new after call t k e heard g = record {
     s = g.machine;

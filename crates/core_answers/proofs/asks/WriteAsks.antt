@@ -1,8 +1,8 @@
 -- A call that is sent for a write is one that makes room.
-use Rattle.core_answers.proofs.Prelude.{◌≡◌, ◌≤◌, inl, inr, ℕ, List, [], ◌∷◌, ◌++◌, length, Result, sym, ap, subst, ◌∙◌, arith, Fault, Entry, Began, Call, Reply, Op, UnderWay, Next, Shelf, Turn, WriteFile, Writing, Mounted, Machine, machine_of, Starts, Resumes, Takes, State, Busy, Over, of_writing, in_flight, begins-unbegun, ThenOf, good-over}
+use Rattle.core_answers.proofs.Prelude.{◌≡◌, ◌≤◌, inl, inr, ℕ, List, [], ◌∷◌, ◌++◌, length, Result, sym, ap, subst, ◌∙◌, arith, Fault, Entry, Began, Call, Reply, Op, UnderWay, Step, Shelf, Turn, WriteFile, Writing, Mounted, Machine, machine_of, Starts, Resumes, Takes, State, Busy, Over, of_writing, in_flight, begins-unbegun, ThenOf, good-over}
 use Rattle.core_facts.proofs.Stories.{StoryLaws, over-laws, Always}
 use Rattle.world_model.specs.declared.op.Op.TheVariants as ops
-use Rattle.client_shelf.specs.declared.next.Next.TheVariants as nexts
+use Rattle.client_shelf.specs.declared.step.Step.TheVariants as nexts
 use Rattle.file_ops.specs.declared.write_file.Writing.TheVariants as writing
 use Rattle.op_machines.specs.declared.file_machine.FileMachine.TheVariants as files
 use Rattle.op_machines.specs.declared.machine.Machine.TheVariants as machines
@@ -31,24 +31,24 @@ StateStory (Over answer) = Unit {0}
 abbrev WriteStory : List Entry → ℕ → Op → State → Type 0
 WriteStory h x op state = IsStore op → StateStory state
 
-then-writes : (h : List Entry) (x : ℕ) (op : Op) (next : Next) (new : Machine) → (IsStore op → IsWrite new)
+then-writes : (h : List Entry) (x : ℕ) (op : Op) (next : Step) (new : Machine) → (IsStore op → IsWrite new)
     → ThenOf (λ m. WriteStory h x op (Busy m)) (λ a. WriteStory h x op (Over a)) next new
 then-writes h x op (nexts.Send call) new k = k
 then-writes h x op nexts.Wait new k = k
 then-writes h x op (nexts.Done answer) new k = λ stores. tt
 
-begins : (m : Mounted) (lane : ℕ) (op : Op) (wsize : ℕ) (turn : Turn) (old : Shelf) (next : Next) (new : Machine) (after : Shelf) → Starts wsize (machine_of m lane op) turn old next new after
+begins : (m : Mounted) (lane : ℕ) (op : Op) (wsize : ℕ) (turn : Turn) (old : Shelf) (next : Step) (new : Machine) (after : Shelf) → Starts wsize (machine_of m lane op) turn old next new after
     → IsStore op → IsWrite new
 begins m lane (ops.Write slot offset text) wsize turn old next new after s stores = record { of = s.step.machine; is = s.machine_is ∙ ap machines.File s.step.machine_is }
 begins m lane (ops.Fill slot offset count byte) wsize turn old next new after s stores = record { of = s.step.machine; is = s.machine_is ∙ ap machines.File s.step.machine_is }
 begins m lane op wsize turn old next new after s stores = absurd stores
 
-goes : (machine : Machine) (wsize : ℕ) (turn : Turn) (old : Shelf) (next : Next) (new : Machine) (after : Shelf) → IsWrite machine → Resumes wsize machine turn old next new after → IsWrite new
+goes : (machine : Machine) (wsize : ℕ) (turn : Turn) (old : Shelf) (next : Step) (new : Machine) (after : Shelf) → IsWrite machine → Resumes wsize machine turn old next new after → IsWrite new
 goes machine wsize turn old next new after k r =
     let g = subst (λ (n : Machine). Resumes wsize n turn old next new after) k.is r in
     record { of = record k.of { state = g.step.state }; is = g.machine_is ∙ ap machines.File g.step.machine_is }
 
-hears : (machine : Machine) (wsize : ℕ) (sent turn : Turn) (came : Result Reply Fault) (old : Shelf) (next : Next) (new : Machine) (after : Shelf) → IsWrite machine
+hears : (machine : Machine) (wsize : ℕ) (sent turn : Turn) (came : Result Reply Fault) (old : Shelf) (next : Step) (new : Machine) (after : Shelf) → IsWrite machine
     → Takes wsize machine sent turn came old next new after → IsWrite new
 hears machine wsize sent turn came old next new after k t =
     let g = subst (λ (n : Machine). Takes wsize n sent turn came old next new after) k.is t in

@@ -1,5 +1,5 @@
 -- Each attribute that is kept was shown by a reply.
-use Rattle.core_answers.proofs.Prelude.{◌≡◌, ◌≤◌, ℕ, List, [], ◌∷◌, ◌++◌, length, inl, inr, Result, arith, Attrs, KeptAttr, Fault, Entry, Began, Clock, Call, Reply, Heard-wide, At-grow, length_last, Next, Send, Wait, Done, Shelf, machine_of, Mounted, Machine, Setup, ThenOf, HadShown, IsAnswered}
+use Rattle.core_answers.proofs.Prelude.{◌≡◌, ◌≤◌, ℕ, List, [], ◌∷◌, ◌++◌, length, inl, inr, Result, arith, Attrs, KeptAttr, Fault, Entry, Began, Clock, Call, Reply, Heard-wide, At-grow, length_last, Step, Send, Wait, Done, Shelf, machine_of, Mounted, Machine, Setup, ThenOf, HadShown, IsAnswered}
 use Rattle.attr_cache.specs.Attrs.{nothing_learnt}
 use Rattle.world_model.proofs.Growth.{Heard-grow}
 use Rattle.core_answers.specs.bonds.Kept.{WasShown, LastAtMost, AttrsShown}
@@ -82,7 +82,7 @@ no-story m E K laws = record {
   lost = λ h x op shown. tt;
 }
   where
-    nothing-told : (next : Next) (new : Machine) → ThenOf (λ k. Unit {0}) (λ a. Unit {0}) next new
+    nothing-told : (next : Step) (new : Machine) → ThenOf (λ k. Unit {0}) (λ a. Unit {0}) next new
     nothing-told (Send call) new = tt
     nothing-told Wait new = tt
     nothing-told (Done answer) new = tt

@@ -1,5 +1,5 @@
 -- What an operation on files learns of attributes was shown by what came of its call.
-use Rattle.core_answers.proofs.Prelude.{◌≡◌, ℕ, Bool, true, false, List, Option, Some, None, Result, Ok, Err, inl, inr, refl, ap, ◌∙◌, if◌then◌else◌, Attrs, KeptAttr, Attr, DirKept, FileKept, Fault, Call, Reply, of_object, of_file, last_end, is_first, goes_again, Next, Shelf, Turn, Closing, CloseFile, Removal, Opening, OpeningNext, OpeningStep, PutFile, Putting, Phase, Reading, Saving, SyncFile, Syncing, TruncateFile, Truncating, WriteFile, Writing, is_full, remove_busy, refusal_of, file_to_write, part, refusal, said_to, breaks_rule, file_at, joined, got_by, by-step, ends_as, FileMachine}
+use Rattle.core_answers.proofs.Prelude.{◌≡◌, ℕ, Bool, true, false, List, Option, Some, None, Result, Ok, Err, inl, inr, refl, ap, ◌∙◌, if◌then◌else◌, Attrs, KeptAttr, Attr, DirKept, FileKept, Fault, Call, Reply, of_object, of_file, last_end, is_first, goes_again, Step, Shelf, Turn, Closing, CloseFile, Removal, Opening, OpeningStep, OpeningPhase, PutFile, Putting, Phase, Reading, Saving, SyncFile, Syncing, TruncateFile, Truncating, WriteFile, Writing, is_full, remove_busy, refusal_of, file_to_write, part, refusal, said_to, breaks_rule, file_at, joined, got_by, by-step, ends_as, FileMachine}
 use Rattle.claims.specs.Shown.{of_given}
 use Rattle.file_ops.specs.Closings.{removed_of}
 use Rattle.nfs_dir_calls.specs.declared.keeping.DirKept.TheVariants as dir_kept
@@ -9,10 +9,10 @@ use Rattle.world_model.specs.declared.answer.Fault.TheVariants as faults
 use Rattle.world_model.specs.declared.message.Reply.TheVariants as replies
 use Rattle.client_shelf.specs.Learning.{Learns}
 use Rattle.client_shelf.specs.Unmade.{is_unmade, came_unmade}
-use Rattle.client_shelf.specs.declared.next.Next.TheVariants as nexts
+use Rattle.client_shelf.specs.declared.step.Step.TheVariants as nexts
 use Rattle.file_ops.specs.declared.close_file.Closing.TheVariants as closing
-use Rattle.file_ops.specs.declared.opening.OpeningNext.TheVariants as openings
-use Rattle.file_ops.specs.declared.opening.OpeningStep.TheVariants as opening_steps
+use Rattle.file_ops.specs.declared.opening.OpeningStep.TheVariants as openings
+use Rattle.file_ops.specs.declared.opening.OpeningPhase.TheVariants as opening_steps
 use Rattle.file_ops.specs.declared.put_file.Putting.TheVariants as putting
 use Rattle.file_ops.specs.declared.reading.Phase.TheVariants as phases
 use Rattle.file_ops.specs.declared.sync_file.Syncing.TheVariants as syncing
@@ -48,13 +48,13 @@ room-same told lane shelf = by-step (λ g. SameAttrs shelf (writes.room_shelf g 
     ended (Ok done) = refl
     ended (Err fault) = refl
 
-saves-same : (b : Bool) (wsize lane : ℕ) (file : List ℕ) (saving : Saving) (turn : Turn) (shelf : Shelf) (next : Next) (new : Writing) (after : Shelf)
+saves-same : (b : Bool) (wsize lane : ℕ) (file : List ℕ) (saving : Saving) (turn : Turn) (shelf : Shelf) (next : Step) (new : Writing) (after : Shelf)
     → writes.SavesIf b wsize lane file saving turn shelf next new after → SameAttrs shelf after
 saves-same true wsize lane file saving turn shelf next new after s =
     same-as shelf (writes.room_shelf s.told lane (record shelf { back = s.back })) after s.leads.shelf_is (room-same s.told lane (record shelf { back = s.back }))
 saves-same false wsize lane file saving turn shelf next new after s = same-as shelf shelf after s.shelf_is refl
 
-pub writes-same : (b : Bool) (wsize lane : ℕ) (file : List ℕ) (offset : ℕ) (bytes : List ℕ) (turn : Turn) (shelf : Shelf) (next : Next) (new : Writing) (after : Shelf)
+pub writes-same : (b : Bool) (wsize lane : ℕ) (file : List ℕ) (offset : ℕ) (bytes : List ℕ) (turn : Turn) (shelf : Shelf) (next : Step) (new : Writing) (after : Shelf)
     → writes.WritesIf b wsize lane file offset bytes turn shelf next new after → SameAttrs shelf after
 writes-same true wsize lane file offset bytes turn shelf next new after (inl s) =
     saves-same (is_first lane (joined lane s.of shelf).order) wsize lane file (saves.begun s.of shelf.seq) turn (joined lane s.of shelf) next new after s.saves
@@ -62,19 +62,19 @@ writes-same true wsize lane file offset bytes turn shelf next new after (inr s) 
 writes-same false wsize lane file offset bytes turn shelf next new after (inl a) = ap (λ (s : Shelf). s.attrs) a.leads.shelf_is
 writes-same false wsize lane file offset bytes turn shelf next new after (inr s) = same-as shelf shelf after s.shelf_is refl
 
-write-starts : (found : Result (List ℕ) Fault) (wsize : ℕ) (m : WriteFile) (turn : Turn) (old : Shelf) (next : Next) (new : WriteFile) (after : Shelf)
+write-starts : (found : Result (List ℕ) Fault) (wsize : ℕ) (m : WriteFile) (turn : Turn) (old : Shelf) (next : Step) (new : WriteFile) (after : Shelf)
     → writes.StartsAt found wsize m turn old next new after → SameAttrs old after
 write-starts (Err fault) wsize m turn old next new after s = same-as old old after s.refuses.shelf_is refl
 write-starts (Ok file) wsize m turn old next new after (inl s) =
     writes-same (is_full (writes.text_bytes m.text) old.back) wsize m.lane file m.offset (writes.text_bytes m.text) turn old next new.state after s.writes
 write-starts (Ok file) wsize m turn old next new after (inr s) = same-as old old after s.refuses.shelf_is refl
 
-pub write-resumes : (at : Writing) (wsize lane : ℕ) (turn : Turn) (old : Shelf) (next : Next) (new : Writing) (after : Shelf) → writes.ResumesIn at wsize lane turn old next new after
+pub write-resumes : (at : Writing) (wsize lane : ℕ) (turn : Turn) (old : Shelf) (next : Step) (new : Writing) (after : Shelf) → writes.ResumesIn at wsize lane turn old next new after
     → SameAttrs old after
 write-resumes writing.Idle wsize lane turn old next new after r = same-as old old after r.shelf_is refl
 write-resumes (writing.Room file saving) wsize lane turn old next new after r = saves-same (is_first lane old.order) wsize lane file saving turn old next new after r
 
-write-follows : (told : _) (wsize : ℕ) (m : WriteFile) (file : List ℕ) (saved : Saving) (turn : Turn) (shelf : Shelf) (next : Next) (new : Writing) (after : Shelf)
+write-follows : (told : _) (wsize : ℕ) (m : WriteFile) (file : List ℕ) (saved : Saving) (turn : Turn) (shelf : Shelf) (next : Step) (new : Writing) (after : Shelf)
     → writes.Follows told wsize m file saved turn shelf next new after → SameAttrs shelf after
 write-follows told wsize m file saved turn shelf next new after f = by-step
     (λ g. writes.Follows g wsize m file saved turn shelf next new after → SameAttrs shelf after)
@@ -86,68 +86,68 @@ write-follows told wsize m file saved turn shelf next new after f = by-step
 
 -- ---- syncs
 
-sync-queues : (b : Bool) (wsize lane : ℕ) (turn : Turn) (saving : Saving) (old : Shelf) (next : Next) (state : Syncing) (new : Shelf)
+sync-queues : (b : Bool) (wsize lane : ℕ) (turn : Turn) (saving : Saving) (old : Shelf) (next : Step) (state : Syncing) (new : Shelf)
     → syncs.QueuesIf b wsize lane turn saving old next state new → SameAttrs old new
 sync-queues true wsize lane turn saving old next state new q = ap (λ (s : Shelf). s.attrs) q.others
 sync-queues false wsize lane turn saving old next state new q = same-as old old new q.shelf_is refl
 
-sync-starts : (found : Option (List ℕ)) (wsize : ℕ) (m : SyncFile) (turn : Turn) (old : Shelf) (next : Next) (state : Syncing) (new : Shelf)
+sync-starts : (found : Option (List ℕ)) (wsize : ℕ) (m : SyncFile) (turn : Turn) (old : Shelf) (next : Step) (state : Syncing) (new : Shelf)
     → syncs.StartsAt found wsize m turn old next state new → SameAttrs old new
 sync-starts None wsize m turn old next state new s = same-as old old new s.shelf_is refl
 sync-starts (Some file) wsize m turn old next state new s =
     sync-queues (is_first m.lane (joined m.lane file old).order) wsize m.lane turn (saves.begun file old.seq) (joined m.lane file old) next state new s
 
-sync-resumes : (at : Syncing) (wsize : ℕ) (m : SyncFile) (turn : Turn) (old : Shelf) (next : Next) (state : Syncing) (new : Shelf)
+sync-resumes : (at : Syncing) (wsize : ℕ) (m : SyncFile) (turn : Turn) (old : Shelf) (next : Step) (state : Syncing) (new : Shelf)
     → syncs.Resumes at wsize m turn old next state new → SameAttrs old new
 sync-resumes syncing.Idle wsize m turn old next state new r = same-as old old new r.shelf_is refl
 sync-resumes (syncing.Saves saving) wsize m turn old next state new r = sync-queues (is_first m.lane old.order) wsize m.lane turn saving old next state new r
 
 -- ---- closes
 
-close-ends-at : (place : Option (List ℕ × List ℕ)) (lane : ℕ) (room : Bool) (file : List ℕ) (why : Option Fault) (old : Shelf) (next : Next) (state : Closing) (new : Shelf)
+close-ends-at : (place : Option (List ℕ × List ℕ)) (lane : ℕ) (room : Bool) (file : List ℕ) (why : Option Fault) (old : Shelf) (next : Step) (state : Closing) (new : Shelf)
     → closes.EndsAt place lane room file why old next state new → SameAttrs old new
 close-ends-at None lane room file why old next state new e = ap (λ (s : Shelf). s.attrs) e.others
 close-ends-at (Some place) lane room file why old next state new e = same-as old old new e.shelf_is refl
 
-close-frees : (lane slot : ℕ) (room : Bool) (file : List ℕ) (why : Option Fault) (old : Shelf) (next : Next) (state : Closing) (new : Shelf)
+close-frees : (lane slot : ℕ) (room : Bool) (file : List ℕ) (why : Option Fault) (old : Shelf) (next : Step) (state : Closing) (new : Shelf)
     → closes.Frees lane slot room file why old next state new → SameAttrs old new
 close-frees lane slot room file why old next state new f =
     then-same old f.freed new (ap (λ (s : Shelf). s.attrs) f.slot_is) (close-ends-at f.place lane room file why f.freed next state new f.ends)
 
-close-follows : (gives : _) (lane slot : ℕ) (room begun : Bool) (saving : Saving) (old : Shelf) (next : Next) (state : Closing) (new : Shelf)
+close-follows : (gives : _) (lane slot : ℕ) (room begun : Bool) (saving : Saving) (old : Shelf) (next : Step) (state : Closing) (new : Shelf)
     → closes.Follows gives lane slot room begun saving old next state new → SameAttrs old new
 close-follows gives lane slot room begun saving old next state new f = by-step
     (λ g. closes.Follows g lane slot room begun saving old next state new → SameAttrs old new)
     (λ call l. same-as old old new l.2 refl) (λ l. same-as old old new l.2 refl)
     (λ result l. close-frees lane slot room saving.file (refusal_of result) old next state new l) gives f
 
-close-on : (wsize lane slot : ℕ) (turn : Turn) (begun : Bool) (saving : Saving) (old : Shelf) (next : Next) (state : Closing) (new : Shelf)
+close-on : (wsize lane slot : ℕ) (turn : Turn) (begun : Bool) (saving : Saving) (old : Shelf) (next : Step) (state : Closing) (new : Shelf)
     → closes.GoesOn wsize lane slot turn begun saving old next state new → SameAttrs old new
 close-on wsize lane slot turn begun saving old next state new g =
     then-same old g.gone new (ap (λ (s : Shelf). s.attrs) g.others) (close-follows g.gives lane slot turn.room begun g.saved g.gone next state new g.follows)
 
-close-begins : (end : Option ℕ) (wsize lane slot : ℕ) (turn : Turn) (saving : Saving) (old : Shelf) (next : Next) (state : Closing) (new : Shelf)
+close-begins : (end : Option ℕ) (wsize lane slot : ℕ) (turn : Turn) (saving : Saving) (old : Shelf) (next : Step) (state : Closing) (new : Shelf)
     → closes.Begins end wsize lane slot turn saving old next state new → SameAttrs old new
 close-begins None wsize lane slot turn saving old next state new b = close-frees lane slot turn.room saving.file None old next state new b
 close-begins (Some end) wsize lane slot turn saving old next state new b = close-on wsize lane slot turn false saving old next state new b
 
-close-queues : (b : Bool) (wsize lane slot : ℕ) (turn : Turn) (saving : Saving) (old : Shelf) (next : Next) (state : Closing) (new : Shelf)
+close-queues : (b : Bool) (wsize lane slot : ℕ) (turn : Turn) (saving : Saving) (old : Shelf) (next : Step) (state : Closing) (new : Shelf)
     → closes.QueuesIf b wsize lane slot turn saving old next state new → SameAttrs old new
 close-queues true wsize lane slot turn saving old next state new q = close-begins (last_end (of_file saving.file old.back).segments) wsize lane slot turn saving old next state new q
 close-queues false wsize lane slot turn saving old next state new q = same-as old old new q.shelf_is refl
 
-close-starts : (found : Option (List ℕ)) (wsize : ℕ) (m : CloseFile) (turn : Turn) (old : Shelf) (next : Next) (state : Closing) (new : Shelf)
+close-starts : (found : Option (List ℕ)) (wsize : ℕ) (m : CloseFile) (turn : Turn) (old : Shelf) (next : Step) (state : Closing) (new : Shelf)
     → closes.StartsAt found wsize m turn old next state new → SameAttrs old new
 close-starts None wsize m turn old next state new s = same-as old old new s.shelf_is refl
 close-starts (Some file) wsize m turn old next state new s =
     close-queues (is_first m.lane (joined m.lane file old).order) wsize m.lane m.slot turn (saves.begun file old.seq) (joined m.lane file old) next state new s
 
-close-if : (b : Bool) (wsize lane slot : ℕ) (turn : Turn) (saving : Saving) (old : Shelf) (next : Next) (state : Closing) (new : Shelf)
+close-if : (b : Bool) (wsize lane slot : ℕ) (turn : Turn) (saving : Saving) (old : Shelf) (next : Step) (state : Closing) (new : Shelf)
     → closes.GoesOnIf b wsize lane slot turn saving old next state new → SameAttrs old new
 close-if true wsize lane slot turn saving old next state new g = close-on wsize lane slot turn true saving old next state new g
 close-if false wsize lane slot turn saving old next state new g = same-as old old new g.shelf_is refl
 
-close-resumes : (at : Closing) (wsize : ℕ) (m : CloseFile) (turn : Turn) (old : Shelf) (next : Next) (state : Closing) (new : Shelf)
+close-resumes : (at : Closing) (wsize : ℕ) (m : CloseFile) (turn : Turn) (old : Shelf) (next : Step) (state : Closing) (new : Shelf)
     → closes.Resumes at wsize m turn old next state new → SameAttrs old new
 close-resumes closing.Idle wsize m turn old next state new r = same-as old old new r.shelf_is refl
 close-resumes (closing.Queued saving) wsize m turn old next state new r = close-queues (is_first m.lane old.order) wsize m.lane m.slot turn saving old next state new r
@@ -157,22 +157,22 @@ close-resumes (closing.Removing removal) wsize m turn old next state new r = sam
 
 -- ---- puts
 
-put-ends : (lane : ℕ) (file : List ℕ) (why : Option Fault) (old : Shelf) (next : Next) (state : Putting) (new : Shelf) → puts.Ends lane file why old next state new → SameAttrs old new
+put-ends : (lane : ℕ) (file : List ℕ) (why : Option Fault) (old : Shelf) (next : Step) (state : Putting) (new : Shelf) → puts.Ends lane file why old next state new → SameAttrs old new
 put-ends lane file why old next state new e = ap (λ (s : Shelf). s.attrs) e.others
 
-put-follows : (gives : _) (lane : ℕ) (saving : Saving) (old : Shelf) (next : Next) (state : Putting) (new : Shelf) → puts.Follows gives lane saving old next state new → SameAttrs old new
+put-follows : (gives : _) (lane : ℕ) (saving : Saving) (old : Shelf) (next : Step) (state : Putting) (new : Shelf) → puts.Follows gives lane saving old next state new → SameAttrs old new
 put-follows gives lane saving old next state new f = by-step
     (λ g. puts.Follows g lane saving old next state new → SameAttrs old new)
     (λ call l. same-as old old new l.2 refl) (λ l. same-as old old new l.2 refl)
     (λ result l. put-ends lane saving.file (refusal_of result) old next state new l) gives f
 
-put-queues : (b : Bool) (wsize lane : ℕ) (turn : Turn) (saving : Saving) (old : Shelf) (next : Next) (state : Putting) (new : Shelf)
+put-queues : (b : Bool) (wsize lane : ℕ) (turn : Turn) (saving : Saving) (old : Shelf) (next : Step) (state : Putting) (new : Shelf)
     → puts.QueuesIf b wsize lane turn saving old next state new → SameAttrs old new
 put-queues true wsize lane turn saving old next state new q =
     then-same old q.gone new (ap (λ (s : Shelf). s.attrs) q.others) (put-follows q.gives lane q.saved q.gone next state new q.follows)
 put-queues false wsize lane turn saving old next state new q = same-as old old new q.shelf_is refl
 
-after-write : (told : Next) (wsize lane : ℕ) (file : List ℕ) (turn : Turn) (old : Shelf) (next : Next) (state : Putting) (new : Shelf)
+after-write : (told : Step) (wsize lane : ℕ) (file : List ℕ) (turn : Turn) (old : Shelf) (next : Step) (state : Putting) (new : Shelf)
     → puts.AfterWrite told wsize lane file turn old next state new → SameAttrs old new
 after-write (nexts.Send call) wsize lane file turn old next state new a = same-as old old new a.2 refl
 after-write nexts.Wait wsize lane file turn old next state new a = same-as old old new a.2 refl
@@ -180,7 +180,7 @@ after-write (nexts.Done (answers.Done value)) wsize lane file turn old next stat
     put-queues (is_first lane (joined lane file old).order) wsize lane turn (saves.begun file old.seq) (joined lane file old) next state new a
 after-write (nexts.Done (answers.Refused fault)) wsize lane file turn old next state new a = put-ends lane file (Some fault) old next state new a
 
-adds-same : (wsize : ℕ) (m : PutFile) (file : List ℕ) (turn : Turn) (old : Shelf) (next : Next) (new : PutFile) (after : Shelf) → puts.AddsBytes wsize m file turn old next new after
+adds-same : (wsize : ℕ) (m : PutFile) (file : List ℕ) (turn : Turn) (old : Shelf) (next : Step) (new : PutFile) (after : Shelf) → puts.AddsBytes wsize m file turn old next new after
     → SameAttrs old after
 adds-same wsize m file turn old next new after a =
     then-same old a.mid after
@@ -188,14 +188,14 @@ adds-same wsize m file turn old next new after a =
     (puts.put_at m.write.lane file old) a.told a.written a.mid a.writes)
     (after-write a.told wsize m.write.lane file turn a.mid next new.state after a.goes.follows)
 
-after-opening : (step : OpeningNext) (wsize : ℕ) (m : PutFile) (turn : Turn) (old : Shelf) (next : Next) (new : PutFile) (after : Shelf)
+after-opening : (step : OpeningStep) (wsize : ℕ) (m : PutFile) (turn : Turn) (old : Shelf) (next : Step) (new : PutFile) (after : Shelf)
     → puts.AfterOpening step wsize m turn old next new after → SameAttrs old after
 after-opening (openings.Send call) wsize m turn old next new after a = same-as old old after a.2 refl
 after-opening openings.Wait wsize m turn old next new after a = same-as old old after a.shelf_is refl
 after-opening (openings.Ended (Ok file)) wsize m turn old next new after a = adds-same wsize m file turn old next new after a
 after-opening (openings.Ended (Err fault)) wsize m turn old next new after a = same-as old old after a.2 refl
 
-put-resumes : (at : Putting) (wsize : ℕ) (m : PutFile) (turn : Turn) (old : Shelf) (next : Next) (new : PutFile) (after : Shelf) → puts.Resumes at wsize m turn old next new after
+put-resumes : (at : Putting) (wsize : ℕ) (m : PutFile) (turn : Turn) (old : Shelf) (next : Step) (new : PutFile) (after : Shelf) → puts.Resumes at wsize m turn old next new after
     → SameAttrs old after
 put-resumes putting.Idle wsize m turn old next new after r = same-as old old after r.shelf_is refl
 put-resumes putting.Opens wsize m turn old next new after r = same-as old old after r.2 refl
@@ -210,7 +210,7 @@ begun-same : (found : Result (List ℕ) Fault) (m : TruncateFile) (old : Shelf) 
 begun-same (Ok file) m old = refl
 begun-same (Err fault) m old = refl
 
-pub file-starts : (m : FileMachine) (wsize : ℕ) (turn : Turn) (old : Shelf) (next : Next) (new : FileMachine) (after : Shelf) → steps.Starts wsize m turn old next new after
+pub file-starts : (m : FileMachine) (wsize : ℕ) (turn : Turn) (old : Shelf) (next : Step) (new : FileMachine) (after : Shelf) → steps.Starts wsize m turn old next new after
     → SameAttrs old after
 file-starts (files.Open m) wsize turn old next new after s = same-as old old after s.shelf_is refl
 file-starts (files.Read m) wsize turn old next new after s = ap (λ (x : Shelf). x.attrs) s.others
@@ -221,7 +221,7 @@ file-starts (files.Truncate m) wsize turn old next new after s =
     same-as old (truncates.started_shelf m old) after s.shelf_is (begun-same (truncates.found_file m old) m old)
 file-starts (files.Put m) wsize turn old next new after s = same-as old old after s.shelf_is refl
 
-pub file-resumes : (m : FileMachine) (wsize : ℕ) (turn : Turn) (old : Shelf) (next : Next) (new : FileMachine) (after : Shelf) → steps.Resumes wsize m turn old next new after
+pub file-resumes : (m : FileMachine) (wsize : ℕ) (turn : Turn) (old : Shelf) (next : Step) (new : FileMachine) (after : Shelf) → steps.Resumes wsize m turn old next new after
     → SameAttrs old after
 file-resumes (files.Open m) wsize turn old next new after s = same-as old old after s.shelf_is refl
 file-resumes (files.Read m) wsize turn old next new after s = ap (λ (x : Shelf). x.attrs) s.others
@@ -284,7 +284,7 @@ module _ (P : List ℕ × KeptAttr → Type 0) (most : ℕ) (call : Call) (now :
   got-attrs (Ok attr) file old new told l g = learns-good P most file (Some attr) now old new l (λ a is. told a (let same : attr ≡ a = cc in ap Ok same)) g
   got-attrs (Err fault) file old new told l g = good-as P most old new l g
 
-  notes : (step : OpeningStep) (o : Opening) (came : Result Reply Fault) (old new : Attrs) → StepOn step o.dir call → Tells P most call now came
+  notes : (step : OpeningPhase) (o : Opening) (came : Result Reply Fault) (old new : Attrs) → StepOn step o.dir call → Tells P most call now came
       → opening.NotesAttrs o now came step old new → Good P most old → Good P most new
   notes opening_steps.Look o came old new on told l g = looked came o.dir old new on told l g
   notes opening_steps.Make o came old new on told l g = created came o.dir old new on told l g
@@ -385,23 +385,23 @@ module _ (P : List ℕ × KeptAttr → Type 0) (most : ℕ) (call : Call) (sent 
   save-learns : (saving : Saving) (old new : Attrs) → SaveOn saving call → Learns saving.file (after_of came) sent.now old new → Good P most old → Good P most new
   save-learns saving old new on l g = learns-good P most saving.file (after_of came) sent.now old new l (after-fits P most call sent.now came saving.file on told) g
 
-  pub write-takes : (at : Writing) (wsize : ℕ) (m : WriteFile) (old : Shelf) (next : Next) (new : Writing) (after : Shelf) → WriteOn at call
+  pub write-takes : (at : Writing) (wsize : ℕ) (m : WriteFile) (old : Shelf) (next : Step) (new : Writing) (after : Shelf) → WriteOn at call
       → writes.TakesIn at wsize m sent turn came old next new after → Stays old after
   write-takes writing.Idle wsize m old next new after on t g = same-good old after (same-as old old after t.shelf_is refl) g
   write-takes (writing.Room file saving) wsize m old next new after on t g =
       good-as P most t.attrs after.attrs (write-follows t.told wsize m file t.saved turn _ next new after t.follows) (save-learns saving old.attrs t.attrs on t.learns g)
 
-  sync-takes : (at : Syncing) (wsize : ℕ) (m : SyncFile) (old : Shelf) (next : Next) (new : Syncing) (after : Shelf) → SyncOn at call
+  sync-takes : (at : Syncing) (wsize : ℕ) (m : SyncFile) (old : Shelf) (next : Step) (new : Syncing) (after : Shelf) → SyncOn at call
       → syncs.Takes at wsize m sent turn came old next new after → Stays old after
   sync-takes syncing.Idle wsize m old next new after on t g = same-good old after (same-as old old after t.shelf_is refl) g
   sync-takes (syncing.Saves saving) wsize m old next new after on t g = save-learns saving old.attrs after.attrs on t.attrs g
 
-  removes-if : (again : Bool) (lane : ℕ) (removal : Removal) (old : Shelf) (next : Next) (state : Closing) (new : Shelf) → closes.EndsIf again lane removal old next state new
+  removes-if : (again : Bool) (lane : ℕ) (removal : Removal) (old : Shelf) (next : Step) (state : Closing) (new : Shelf) → closes.EndsIf again lane removal old next state new
       → SameAttrs old new
   removes-if true lane removal old next state new e = same-as old old new e.shelf_is refl
   removes-if false lane removal old next state new e = ap (λ (s : Shelf). s.attrs) e.others
 
-  close-takes : (at : Closing) (wsize : ℕ) (m : CloseFile) (old : Shelf) (next : Next) (state : Closing) (after : Shelf) → CloseOn at call
+  close-takes : (at : Closing) (wsize : ℕ) (m : CloseFile) (old : Shelf) (next : Step) (state : Closing) (after : Shelf) → CloseOn at call
       → closes.Takes at wsize m sent turn came old next state after → Stays old after
   close-takes closing.Idle wsize m old next state after on t g = same-good old after (same-as old old after t.shelf_is refl) g
   close-takes (closing.Queued saving) wsize m old next state after on t g = same-good old after (same-as old old after t.shelf_is refl) g
@@ -412,7 +412,7 @@ module _ (P : List ℕ × KeptAttr → Type 0) (most : ℕ) (call : Call) (sent 
       same-good t.took after (removes-if (goes_again (remove_busy came) sent turn old.repeats) m.lane removal t.took next state after t.ends)
       (renews-unless P most (came_unmade came) removal.dir (removed_of came) sent.now old.attrs t.took.attrs t.attrs (removed-fits P most call sent.now came removal.dir on told) g)
 
-  put-takes : (at : Putting) (wsize : ℕ) (m : PutFile) (old : Shelf) (next : Next) (new : PutFile) (after : Shelf) → PutOn at m.opening m.write.state call
+  put-takes : (at : Putting) (wsize : ℕ) (m : PutFile) (old : Shelf) (next : Step) (new : PutFile) (after : Shelf) → PutOn at m.opening m.write.state call
       → puts.Takes at wsize m sent turn came old next new after → Stays old after
   put-takes putting.Idle wsize m old next new after on t g = same-good old after (same-as old old after t.shelf_is refl) g
   put-takes putting.Opens wsize m old next new after on t g =
@@ -425,7 +425,7 @@ module _ (P : List ℕ × KeptAttr → Type 0) (most : ℕ) (call : Call) (sent 
       same-good t.0.took after (put-follows t.0.gives m.write.lane t.0.saved t.0.took next new.state after t.0.follows)
       (save-learns saving old.attrs t.0.took.attrs on t.0.attrs g)
 
-  pub file-takes : (m : FileMachine) (wsize : ℕ) (old : Shelf) (next : Next) (new : FileMachine) (after : Shelf) → FileAsks m call
+  pub file-takes : (m : FileMachine) (wsize : ℕ) (old : Shelf) (next : Step) (new : FileMachine) (after : Shelf) → FileAsks m call
       → steps.Takes wsize m sent turn came old next new after → Stays old after
   file-takes (files.Open m) wsize old next new after on t g = notes P most call sent.now m.opening.step m.opening came old.attrs after.attrs on told t.attrs g
   file-takes (files.Read m) wsize old next new after on t g =

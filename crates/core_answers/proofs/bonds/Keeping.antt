@@ -1,6 +1,6 @@
 -- What the steps of operations keep of the shelf, and of themselves, holds along a history: what they take is known to answer the call that they
 -- wait for. It is an instance of the engine.
-use Rattle.core_answers.proofs.Prelude.{HadStory, ◌≡◌, ◌<◌, ◌≤◌, ℕ, List, [], ◌∷◌, ◌++◌, length, Result, Ok, Refused, Fault, Answer, Entry, Began, Call, Reply, Op, IsLost, Ended, Next, Shelf, Turn, machine_of, Mounted, Machine, Starts, Resumes, Takes, State, Busy, Over, Setup, IsFresh, View, Reaches, ThenOf, time_next}
+use Rattle.core_answers.proofs.Prelude.{HadStory, ◌≡◌, ◌<◌, ◌≤◌, ℕ, List, [], ◌∷◌, ◌++◌, length, Result, Ok, Refused, Fault, Answer, Entry, Began, Call, Reply, Op, IsLost, Ended, Step, Shelf, Turn, machine_of, Mounted, Machine, Starts, Resumes, Takes, State, Busy, Over, Setup, IsFresh, View, Reaches, ThenOf, time_next}
 use Rattle.core_answers.proofs.engine.Laws.{LaneLaws, then-placed, Anyhow, anyhow-around, anyhow-back, anyhow-gives}
 use Rattle.core_answers.proofs.engine.Told.{AskLaws, ShelfLaws, IsLate, ToldSince}
 use Rattle.world_model.specs.declared.answer.Fault.TheVariants as faults
@@ -9,13 +9,13 @@ use Rattle.core_answers.proofs.engine.Lanes as lanes
 -- A fact of the shelf, and one of an operation, which began at a place, that its steps keep, and each entry.
 pub record BondLaws (machine_of : ℕ → Op → Machine) (E : Machine → Call → Type 0) (K : List Entry → Shelf → Type 0) (S : List Entry → ℕ → Op → State → Type 0) : Type 0 where
   pub shelf : ShelfLaws E K
-  pub starts : (h : List Entry) (lane line : ℕ) (op : Op) (wsize : ℕ) (turn : Turn) (old : Shelf) (next : Next) (new : Machine) (after : Shelf)
+  pub starts : (h : List Entry) (lane line : ℕ) (op : Op) (wsize : ℕ) (turn : Turn) (old : Shelf) (next : Step) (new : Machine) (after : Shelf)
       → K (h ++ Began lane line op ∷ []) old → time_next h ≤ turn.now → Starts wsize (machine_of lane op) turn old next new after
       → ThenOf (λ m. S (h ++ Began lane line op ∷ []) (length h) op (Busy m)) (λ a. S (h ++ Began lane line op ∷ []) (length h) op (Over a)) next new
-  pub resumes : (h : List Entry) (x : ℕ) (op : Op) (machine : Machine) (wsize : ℕ) (turn : Turn) (old : Shelf) (next : Next) (new : Machine) (after : Shelf)
+  pub resumes : (h : List Entry) (x : ℕ) (op : Op) (machine : Machine) (wsize : ℕ) (turn : Turn) (old : Shelf) (next : Step) (new : Machine) (after : Shelf)
       → K h old → x < length h → IsLate h x turn.now → S h x op (Busy machine) → Resumes wsize machine turn old next new after
       → ThenOf (λ m. S h x op (Busy m)) (λ a. S h x op (Over a)) next new
-  pub takes : (h : List Entry) (x : ℕ) (op : Op) (machine : Machine) (call : Call) (wsize : ℕ) (sent turn : Turn) (came : Result Reply Fault) (old : Shelf) (next : Next)
+  pub takes : (h : List Entry) (x : ℕ) (op : Op) (machine : Machine) (call : Call) (wsize : ℕ) (sent turn : Turn) (came : Result Reply Fault) (old : Shelf) (next : Step)
       (new : Machine) (after : Shelf) → K h old → K h after → x < length h → IsLate h x turn.now → S h x op (Busy machine) → E machine call
       → ((reply : Reply) → came ≡ Ok reply → ToldSince h x call sent.now reply) → Takes wsize machine sent turn came old next new after
       → ThenOf (λ m. S h x op (Busy m)) (λ a. S h x op (Over a)) next new

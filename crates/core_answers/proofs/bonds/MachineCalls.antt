@@ -1,11 +1,11 @@
 -- On which object the call is made for which an operation waits.
-use Rattle.core_answers.proofs.Prelude.{◌≡◌, ◌≤◌, ◌+◌, ◌-◌, ℕ, Bool, true, false, List, Option, Some, None, Result, refl, sym, ap, subst, ◌∙◌, arith, if◌then◌else◌, Fault, Call, Reply, Next, Shelf, Turn, Deed, Walk, WalkNext, Machine, NameMachine, Opener, PathMachine, file_of, slot_taken, begun_at, placed, Starts, Resumes, Takes, of_name, of_walk, visit_by, own_or, removal_by, in_flight, IsCounted, Counts, counts-calls, of_path, path-file, path-walk, walk-takes, AskedOf}
+use Rattle.core_answers.proofs.Prelude.{◌≡◌, ◌≤◌, ◌+◌, ◌-◌, ℕ, Bool, true, false, List, Option, Some, None, Result, refl, sym, ap, subst, ◌∙◌, arith, if◌then◌else◌, Fault, Call, Reply, Step, Shelf, Turn, Deed, Walk, WalkStep, Machine, NameMachine, Opener, PathMachine, file_of, slot_taken, begun_at, placed, Starts, Resumes, Takes, of_name, of_walk, visit_by, own_or, removal_by, in_flight, IsCounted, Counts, counts-calls, of_path, path-file, path-walk, walk-takes, AskedOf}
 use Rattle.core_facts.specs.InFlight.{pair_by, one_if, of_names, of_file, FileCounted}
 use Rattle.core_facts.proofs.NameCounts.{unasked}
 use Rattle.world_model.specs.declared.answer.Answer.TheVariants as answers
 use Rattle.world_model.specs.declared.answer.Fault.TheVariants as faults
-use Rattle.client_shelf.specs.declared.next.Next.TheVariants as nexts
-use Rattle.name_ops.specs.declared.walk.WalkNext.TheVariants as walks
+use Rattle.client_shelf.specs.declared.step.Step.TheVariants as nexts
+use Rattle.name_ops.specs.declared.walk.WalkStep.TheVariants as walks
 use Rattle.name_ops.specs.Walking as walking
 use Rattle.op_machines.specs.declared.machine.Machine.TheVariants as machines
 use Rattle.op_machines.specs.declared.name_machine.NameMachine.TheVariants as names
@@ -28,7 +28,7 @@ Asks (machines.Path m) call = PathAsks m call
 Asks (machines.Name m) call = NameAsks m call
 
 -- a step that waits asks for nothing
-asked-by : {S : Type 0} → (E : S → Call → Type 0) (next : Next) (new : S) → ((next ≡ nexts.Wait → ⊥) → AskedOf E next new) → AskedOf E next new
+asked-by : {S : Type 0} → (E : S → Call → Type 0) (next : Step) (new : S) → ((next ≡ nexts.Wait → ⊥) → AskedOf E next new) → AskedOf E next new
 asked-by E (nexts.Send call) new a = a (λ is. absurd cc)
 asked-by E nexts.Wait new a = tt
 asked-by E (nexts.Done answer) new a = tt
@@ -46,7 +46,7 @@ placed-none dir (openers.Put m) = refl
 arrived-on : (m : PathMachine) (opener : Opener) (call : Call) → m.arrived ≡ true → FileAsks (file_of opener) call → PathAsks (record m { opener = opener }) call
 arrived-on m opener call is on = subst (λ b. PathOn b (record m { opener = opener }) call) (sym is) on
 
-then-resumes : (wsize : ℕ) (m : PathMachine) (turn : Turn) (old : Shelf) (next : Next) (new : PathMachine) (after : Shelf) → m.arrived ≡ true → (next ≡ nexts.Wait → ⊥)
+then-resumes : (wsize : ℕ) (m : PathMachine) (turn : Turn) (old : Shelf) (next : Step) (new : PathMachine) (after : Shelf) → m.arrived ≡ true → (next ≡ nexts.Wait → ⊥)
     → paths.ThenResumes wsize m turn old next new after → Asking PathAsks (FileAsks (file_of m.opener)) (of_file (file_of m.opener)) next new
 then-resumes wsize m turn old next new after there goes t =
     subst (λ k. Asking PathAsks (FileAsks (file_of m.opener)) (of_file (file_of m.opener)) next k) (sym t.machine_is)
@@ -54,7 +54,7 @@ then-resumes wsize m turn old next new after there goes t =
     (file-resumes-asking (file_of m.opener) wsize turn old next (file_of t.opener) after (opener-counted m.opener) goes t.step))
 
 -- the calls that the machine waits for after its walk made a step
-follows-asked : (step : WalkNext) (wsize : ℕ) (m : PathMachine) (turn : Turn) (old : Shelf) (next : Next) (new : PathMachine) (after : Shelf) → m.arrived ≡ false → WalkAsked step m.walk
+follows-asked : (step : WalkStep) (wsize : ℕ) (m : PathMachine) (turn : Turn) (old : Shelf) (next : Step) (new : PathMachine) (after : Shelf) → m.arrived ≡ false → WalkAsked step m.walk
     → paths.Follows step wsize m turn old next new after → AskedOf PathAsks next new
 follows-asked (walks.Send call) wsize m turn old next new after on_way a f =
     asked-sends PathAsks call next new f.0 (subst (λ k. PathAsks k call) (sym f.1) (subst (λ b. PathOn b m call) (sym on_way) a.1))
@@ -63,27 +63,27 @@ follows-asked (walks.At dir) wsize m turn old next new after on_way a f =
     asked-by PathAsks next new (λ goes. (then-resumes wsize (record m { opener = placed dir m.opener; arrived = true }) turn old next new after refl goes f).asked)
 follows-asked (walks.Refused fault) wsize m turn old next new after on_way a f = asked-done PathAsks (answers.Refused fault) next new f.0
 
-path-resumes-asked : (b : Bool) (wsize : ℕ) (m : PathMachine) (turn : Turn) (old : Shelf) (next : Next) (new : PathMachine) (after : Shelf) → m.arrived ≡ b
+path-resumes-asked : (b : Bool) (wsize : ℕ) (m : PathMachine) (turn : Turn) (old : Shelf) (next : Step) (new : PathMachine) (after : Shelf) → m.arrived ≡ b
     → paths.PathResumes b wsize m turn old next new after → AskedOf PathAsks next new
 path-resumes-asked true wsize m turn old next new after is r = asked-by PathAsks next new (λ goes. (then-resumes wsize m turn old next new after is goes r).asked)
 path-resumes-asked false wsize m turn old next new after is r =
     follows-asked (walking.go_next m.walk turn old) wsize (record m { walk = walking.go_after m.walk turn old }) turn (walking.go_shelf m.walk turn old) next new after is
     (go-walk m.walk turn old) r
 
-path-starts-asked : (taken : Bool) (wsize : ℕ) (m : PathMachine) (turn : Turn) (old : Shelf) (next : Next) (new : PathMachine) (after : Shelf) → paths.StartsIf taken wsize m turn old next new after
+path-starts-asked : (taken : Bool) (wsize : ℕ) (m : PathMachine) (turn : Turn) (old : Shelf) (next : Step) (new : PathMachine) (after : Shelf) → paths.StartsIf taken wsize m turn old next new after
     → AskedOf PathAsks next new
 path-starts-asked true wsize m turn old next new after s = asked-done PathAsks (answers.Refused faults.Slot) next new s.0
 path-starts-asked false wsize m turn old next new after s =
     path-resumes-asked m.arrived wsize (record m { opener = begun_at (turn.moment - 1) m.opener }) turn old next new after refl s
 
 -- a walk that goes on asks where it waits for nothing
-walk-none : (b : Bool) (wsize : ℕ) (m : PathMachine) (turn : Turn) (old : Shelf) (next : Next) (new : PathMachine) (after : Shelf) → m.walk.asked ≡ b → (next ≡ nexts.Wait → ⊥)
+walk-none : (b : Bool) (wsize : ℕ) (m : PathMachine) (turn : Turn) (old : Shelf) (next : Step) (new : PathMachine) (after : Shelf) → m.walk.asked ≡ b → (next ≡ nexts.Wait → ⊥)
     → paths.Follows (if b then walks.Wait else walking.on_next m.walk turn old.attrs old.names) wsize (record m { walk = walking.go_after m.walk turn old }) turn
     (walking.go_shelf m.walk turn old) next new after → of_walk m.walk ≡ 0
 walk-none true wsize m turn old next new after is goes f = absurd (goes f.0)
 walk-none false wsize m turn old next new after is goes f = unasked m.walk is
 
-path-resumes : (b : Bool) (wsize : ℕ) (m : PathMachine) (turn : Turn) (old : Shelf) (next : Next) (new : PathMachine) (after : Shelf) → m.arrived ≡ b → (next ≡ nexts.Wait → ⊥)
+path-resumes : (b : Bool) (wsize : ℕ) (m : PathMachine) (turn : Turn) (old : Shelf) (next : Step) (new : PathMachine) (after : Shelf) → m.arrived ≡ b → (next ≡ nexts.Wait → ⊥)
     → paths.PathResumes b wsize m turn old next new after → Asking PathAsks (PathOn b m) (of_path m) next new
 path-resumes true wsize m turn old next new after is goes r =
     subst (λ n. Asking PathAsks (FileAsks (file_of m.opener)) n next new) (sym (path-file m is)) (then-resumes wsize m turn old next new after is goes r)
@@ -91,7 +91,7 @@ path-resumes false wsize m turn old next new after is goes r =
     alone PathAsks (WalkOn m.walk) (of_path m) next new (path-walk m is ∙ walk-none m.walk.asked wsize m turn old next new after refl goes r)
     (path-resumes-asked false wsize m turn old next new after is r)
 
-path-takes : (b : Bool) (wsize : ℕ) (m : PathMachine) (sent turn : Turn) (came : Result Reply Fault) (old : Shelf) (next : Next) (new : PathMachine) (after : Shelf) (others : ℕ)
+path-takes : (b : Bool) (wsize : ℕ) (m : PathMachine) (sent turn : Turn) (came : Result Reply Fault) (old : Shelf) (next : Step) (new : PathMachine) (after : Shelf) (others : ℕ)
     → m.arrived ≡ b → of_path m ≡ others + 1 → paths.PathTakes b wsize m sent turn came old next new after → Asking PathAsks (PathOn b m) others next new
 path-takes true wsize m sent turn came old next new after others is one t =
     subst (λ k. Asking PathAsks (FileAsks (file_of m.opener)) others next k) (sym t.machine_is)
@@ -145,7 +145,7 @@ names-most (names.Link m) = pair-most m.pair.asked m.pair.first.asked m.pair.sec
 names-most (names.SymLink m) = visit-most m.visit.asked (of_walk m.visit.walk) (walk-most m.visit.walk)
 names-most (names.List m) = visit-most m.visit.asked (of_walk m.visit.walk) (walk-most m.visit.walk)
 
-single : (Old : Call → Type 0) (others : ℕ) (next : Next) (m : NameMachine) → (next ≡ nexts.Wait → ⊥) → Counts next others (machines.Name m) → AskedOf NameAsks next m
+single : (Old : Call → Type 0) (others : ℕ) (next : Step) (m : NameMachine) → (next ≡ nexts.Wait → ⊥) → Counts next others (machines.Name m) → AskedOf NameAsks next m
     → Asking Asks Old others next (machines.Name m)
 single Old others (nexts.Send call) m goes c a =
     let more = c.0 in
@@ -156,15 +156,15 @@ single Old others (nexts.Done answer) m goes c a = record { asked = tt; kept = t
 
 -- ---- any operation
 
-as-machine : {S : Type 0} → (E : S → Call → Type 0) (Old : Call → Type 0) (others : ℕ) (next : Next) (state : S) (to new : Machine) → ((call : Call) → E state call → Asks to call) → new ≡ to
+as-machine : {S : Type 0} → (E : S → Call → Type 0) (Old : Call → Type 0) (others : ℕ) (next : Step) (state : S) (to new : Machine) → ((call : Call) → E state call → Asks to call) → new ≡ to
     → Asking E Old others next state → Asking Asks Old others next new
 as-machine E Old others next state to new on is a = subst (λ k. Asking Asks Old others next k) (sym is) (asking-for E Asks Old others next state to on a)
 
-asked-machine : {S : Type 0} → (E : S → Call → Type 0) (next : Next) (state : S) (to new : Machine) → ((call : Call) → E state call → Asks to call) → new ≡ to → AskedOf E next state
+asked-machine : {S : Type 0} → (E : S → Call → Type 0) (next : Step) (state : S) (to new : Machine) → ((call : Call) → E state call → Asks to call) → new ≡ to → AskedOf E next state
     → AskedOf Asks next new
 asked-machine E next state to new on is a = subst (λ k. AskedOf Asks next k) (sym is) (asked-for E Asks next state to on a)
 
-pub asks-starts : (m : Machine) (wsize : ℕ) (turn : Turn) (old : Shelf) (next : Next) (new : Machine) (after : Shelf) → Starts wsize m turn old next new after → AskedOf Asks next new
+pub asks-starts : (m : Machine) (wsize : ℕ) (turn : Turn) (old : Shelf) (next : Step) (new : Machine) (after : Shelf) → Starts wsize m turn old next new after → AskedOf Asks next new
 asks-starts (machines.File m) wsize turn old next new after s =
     asked-machine FileAsks next s.machine (machines.File s.machine) new (λ call on. on) s.machine_is (file-starts-asked m wsize turn old next s.machine after s.step)
 asks-starts (machines.Path m) wsize turn old next new after s =
@@ -173,7 +173,7 @@ asks-starts (machines.Path m) wsize turn old next new after s =
 asks-starts (machines.Name m) wsize turn old next new after s =
     asked-machine NameAsks next s.machine (machines.Name s.machine) new (λ call on. on) s.machine_is (name-goes-asked m turn old next s.machine after s.step)
 
-pub asks-resumes : (m : Machine) (wsize : ℕ) (turn : Turn) (old : Shelf) (next : Next) (new : Machine) (after : Shelf) → IsCounted m → (next ≡ nexts.Wait → ⊥)
+pub asks-resumes : (m : Machine) (wsize : ℕ) (turn : Turn) (old : Shelf) (next : Step) (new : Machine) (after : Shelf) → IsCounted m → (next ≡ nexts.Wait → ⊥)
     → Resumes wsize m turn old next new after → Asking Asks (Asks m) (in_flight m) next new
 asks-resumes (machines.File m) wsize turn old next new after right goes s =
     as-machine FileAsks (FileAsks m) (of_file m) next s.machine (machines.File s.machine) new (λ call on. on) s.machine_is
@@ -187,7 +187,7 @@ asks-resumes (machines.Name m) wsize turn old next new after right goes s =
     (subst (λ k. Counts next (of_names m) k) s.machine_is (counts-calls.resume wsize (machines.Name m) turn old next new after s right))
     (name-goes-asked m turn old next s.machine after s.step))
 
-pub asks-takes : (m : Machine) (wsize : ℕ) (sent turn : Turn) (came : Result Reply Fault) (old : Shelf) (next : Next) (new : Machine) (after : Shelf) (others : ℕ) → in_flight m ≡ others + 1
+pub asks-takes : (m : Machine) (wsize : ℕ) (sent turn : Turn) (came : Result Reply Fault) (old : Shelf) (next : Step) (new : Machine) (after : Shelf) (others : ℕ) → in_flight m ≡ others + 1
     → Takes wsize m sent turn came old next new after → Asking Asks (Asks m) others next new
 asks-takes (machines.File m) wsize sent turn came old next new after others one s =
     as-machine FileAsks (FileAsks m) others next s.machine (machines.File s.machine) new (λ call on. on) s.machine_is

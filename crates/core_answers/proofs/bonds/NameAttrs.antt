@@ -1,5 +1,5 @@
 -- What an operation on names learns of attributes was shown by what came of its call.
-use Rattle.core_answers.proofs.Prelude.{◌≡◌, ℕ, nat_eq, Bool, true, false, List, Option, Some, None, Result, Ok, Err, inl, inr, refl, ap, subst, ◌∙◌, if◌then◌else◌, Attrs, KeptAttr, Attr, DirKept, FileKept, Fault, Value, Call, Reply, of_object, Next, Shelf, Turn, DirDeed, Link, ListDir, Pair, PairNext, Deed, Look, Seek, Move, Remove, RemoveFile, Rename, Stat, SymLink, Visit, VisitNext, Walk, WalkNext, access_attr, deed_told, linked_told, TakesLink, moved_told, TakesText, TakesRename, TakesShow, sym_link_call, sym_linked_told, ChangesByCopy, TakesSymLink, lacking, NameMachine}
+use Rattle.core_answers.proofs.Prelude.{◌≡◌, ℕ, nat_eq, Bool, true, false, List, Option, Some, None, Result, Ok, Err, inl, inr, refl, ap, subst, ◌∙◌, if◌then◌else◌, Attrs, KeptAttr, Attr, DirKept, FileKept, Fault, Value, Call, Reply, of_object, Step, Shelf, Turn, DirDeed, Link, ListDir, Pair, PairStep, Deed, Look, Seek, Move, Remove, RemoveFile, Rename, Stat, SymLink, Visit, VisitStep, Walk, WalkStep, access_attr, deed_told, linked_told, TakesLink, moved_told, TakesText, TakesRename, TakesShow, sym_link_call, sym_linked_told, ChangesByCopy, TakesSymLink, lacking, NameMachine}
 use Rattle.claims.specs.Shown.{of_target, of_given}
 use Rattle.name_ops.specs.Moving.{given_to, to_of, RenewsMoved}
 use Rattle.name_ops.specs.ReadLink.{text_attr}
@@ -11,7 +11,7 @@ use Rattle.world_model.specs.declared.message.Reply.TheVariants as replies
 use Rattle.name_ops.specs.declared.dir_change.DirDeed.TheVariants as deeds
 use Rattle.name_ops.specs.declared.moving.Moved.{Moved}
 use Rattle.name_ops.specs.declared.told.Told.{Told}
-use Rattle.name_ops.specs.declared.walk.WalkNext.TheVariants as walks
+use Rattle.name_ops.specs.declared.walk.WalkStep.TheVariants as walks
 use Rattle.name_ops.specs.Changing as changing
 use Rattle.name_ops.specs.ListDir.{page_attr, TakesList}
 use Rattle.name_ops.specs.Looking as looking
@@ -45,7 +45,7 @@ visit-same v turn old = same-if v.asked old old (go_shelf v.walk turn old) refl 
 stat-same : (m : Stat) (turn : Turn) (old : Shelf) → SameAttrs old (stats.stat_shelf m turn old)
 stat-same m turn old = same-if m.asked old old (go_shelf m.walk turn old) refl refl
 
-first-same : (step : WalkNext) (p : Pair) (turn : Turn) (old : Shelf) → SameAttrs old (pairs.first_shelf step p turn old)
+first-same : (step : WalkStep) (p : Pair) (turn : Turn) (old : Shelf) → SameAttrs old (pairs.first_shelf step p turn old)
 first-same (walks.Send call) p turn old = refl
 first-same walks.Wait p turn old = refl
 first-same (walks.At first) p turn old = refl
@@ -56,15 +56,15 @@ pair-same p turn old =
     same-if (pairs.waits p) old old (pairs.on_shelf p turn old) refl
     (first-same (go_next p.first turn old) (pairs.walked_first p turn old) turn (go_shelf p.first turn old))
 
-goes-same : (deed : Option Deed) (m : RemoveFile) (turn : Turn) (old : Shelf) (next : Next) (new : RemoveFile) (after : Shelf) → removals.Goes deed m turn old next new after → SameAttrs old after
+goes-same : (deed : Option Deed) (m : RemoveFile) (turn : Turn) (old : Shelf) (next : Step) (new : RemoveFile) (after : Shelf) → removals.Goes deed m turn old next new after → SameAttrs old after
 goes-same (Some deed) m turn old next new after g = same-as old old after g.shelf_is refl
 goes-same None m turn old next new after g = same-as old (go_shelf m.walk turn old) after g.shelf_is refl
 
-remove-same : (asked : Bool) (m : RemoveFile) (turn : Turn) (old : Shelf) (next : Next) (new : RemoveFile) (after : Shelf) → removals.Resumes asked m turn old next new after → SameAttrs old after
+remove-same : (asked : Bool) (m : RemoveFile) (turn : Turn) (old : Shelf) (next : Step) (new : RemoveFile) (after : Shelf) → removals.Resumes asked m turn old next new after → SameAttrs old after
 remove-same true m turn old next new after r = same-as old old after r.shelf_is refl
 remove-same false m turn old next new after r = goes-same m.deed m turn old next new after r
 
-pub name-goes : (m : NameMachine) (turn : Turn) (old : Shelf) (next : Next) (new : NameMachine) (after : Shelf) → NameGoes m turn old next new after → SameAttrs old after
+pub name-goes : (m : NameMachine) (turn : Turn) (old : Shelf) (next : Step) (new : NameMachine) (after : Shelf) → NameGoes m turn old next new after → SameAttrs old after
 name-goes (machines.Change m) turn old next new after s = same-as old (visit_shelf m.visit turn old) after s.shelf_is (visit-same m.visit turn old)
 name-goes (machines.Stat m) turn old next new after s = same-as old (stats.stat_shelf m turn old) after s.shelf_is (stat-same m turn old)
 name-goes (machines.Access m) turn old next new after s = same-as old (visit_shelf m.visit turn old) after s.shelf_is (visit-same m.visit turn old)
@@ -282,7 +282,7 @@ module _ (P : List ℕ × KeptAttr → Type 0) (most : ℕ) (call : Call) (sent 
   followed-same false w (Ok found) s = refl
   followed-same false w (Err fault) s = refl
 
-  pub walk-takes : (name : Option (List ℕ)) (w : Walk) (old : Shelf) (next : WalkNext) (new : Walk) (after : Shelf) → IsOn w.spot.dir call
+  pub walk-takes : (name : Option (List ℕ)) (w : Walk) (old : Shelf) (next : WalkStep) (new : Walk) (after : Shelf) → IsOn w.spot.dir call
       → Takes name w sent turn came old next new after → Stays old after
   walk-takes (Some name) w old next new after on t g =
       same-good t.heard after
@@ -291,30 +291,30 @@ module _ (P : List ℕ × KeptAttr → Type 0) (most : ℕ) (call : Call) (sent 
       (looked P most call sent.now came w.spot.dir old.attrs t.heard.attrs on told t.hears.attrs g)
   walk-takes None w old next new after on t g = same-good old after (same-as old old after t.shelf_is refl) g
 
-  visit-takes : (v : Visit) (old : Shelf) (next : VisitNext) (new : Visit) (after : Shelf) → IsOn v.walk.spot.dir call → VisitTakes v sent turn came old next new after → Stays old after
+  visit-takes : (v : Visit) (old : Shelf) (next : VisitStep) (new : Visit) (after : Shelf) → IsOn v.walk.spot.dir call → VisitTakes v sent turn came old next new after → Stays old after
   visit-takes v old next new after on t g = walk-takes (waiting_name v.walk) v.walk old t.step t.walked.walk after on t.takes g
 
-  changes : (dir : List ℕ) (again : Call) (said : Told) (old : Shelf) (next : Next) (after : Shelf) → Fits P most call sent.now dir said
+  changes : (dir : List ℕ) (again : Call) (said : Told) (old : Shelf) (next : Step) (after : Shelf) → Fits P most call sent.now dir said
       → changing.Changes dir again said sent turn old next after → Stays old after
   changes dir again said old next after f c g = learns-told P most call sent.now said.unmade said dir old.attrs after.attrs f c.attrs g
 
-  change-takes : (asked : Bool) (own : List ℕ → Call) (said : Told) (v : Visit) (old : Shelf) (next : Next) (new : Visit) (after : Shelf) → IsOn v.walk.spot.dir call
+  change-takes : (asked : Bool) (own : List ℕ → Call) (said : Told) (v : Visit) (old : Shelf) (next : Step) (new : Visit) (after : Shelf) → IsOn v.walk.spot.dir call
       → Fits P most call sent.now v.walk.spot.dir said → changing.TakesChange asked own said v sent turn came old next new after → Stays old after
   change-takes true own said v old next new after on f t g = changes v.walk.spot.dir (own v.walk.spot.dir) said old next after f t.1 g
   change-takes false own said v old next new after on f t g = visit-takes v old t.step new after on t.takes g
 
-  show-takes : (asked : Bool) (own : List ℕ → Call) (attr : Option Attr) (said : Result Value Fault) (v : Visit) (old : Shelf) (next : Next) (new : Visit) (after : Shelf)
+  show-takes : (asked : Bool) (own : List ℕ → Call) (attr : Option Attr) (said : Result Value Fault) (v : Visit) (old : Shelf) (next : Step) (new : Visit) (after : Shelf)
       → IsOn v.walk.spot.dir call → MayOf P most sent.now v.walk.spot.dir attr → TakesShow asked own attr said v sent turn came old next new after → Stays old after
   show-takes true own attr said v old next new after on f t g = learns-good P most v.walk.spot.dir attr sent.now old.attrs after.attrs t.1.attrs f g
   show-takes false own attr said v old next new after on f t g = visit-takes v old t.step new after on t.takes g
 
-  text-takes : (asked : Bool) (v : Visit) (old : Shelf) (next : Next) (new : Visit) (after : Shelf) → IsOn v.walk.spot.dir call → TakesText asked v sent turn came old next new after
+  text-takes : (asked : Bool) (v : Visit) (old : Shelf) (next : Step) (new : Visit) (after : Shelf) → IsOn v.walk.spot.dir call → TakesText asked v sent turn came old next new after
       → Stays old after
   text-takes true v old next new after on t g =
       learns-good P most v.walk.spot.dir (text_attr came) sent.now old.attrs after.attrs t.1.shows.attrs (text-fits P most call sent.now came v.walk.spot.dir on told) g
   text-takes false v old next new after on t g = visit-takes v old t.step new after on t.takes g
 
-  sym-link-takes : (asked : Bool) (m : SymLink) (old : Shelf) (next : Next) (new : Visit) (after : Shelf) → IsOn m.visit.walk.spot.dir call
+  sym-link-takes : (asked : Bool) (m : SymLink) (old : Shelf) (next : Step) (new : Visit) (after : Shelf) → IsOn m.visit.walk.spot.dir call
       → TakesSymLink asked m sent turn came old next new after → Stays old after
   sym-link-takes true m old next new after on t g = by t.1
     where
@@ -326,13 +326,13 @@ module _ (P : List ℕ × KeptAttr → Type 0) (most : ℕ) (call : Call) (sent 
       by (inr c) = changes m.visit.walk.spot.dir _ (lacking (sym_linked_told came)) old next after (record { object = fits.object; place = fits.place }) c.1 g
   sym-link-takes false m old next new after on t g = visit-takes m.visit old t.step new after on t.takes g
 
-  list-takes : (asked : Bool) (m : ListDir) (old : Shelf) (next : Next) (new : ListDir) (after : Shelf) → IsOn m.visit.walk.spot.dir call
+  list-takes : (asked : Bool) (m : ListDir) (old : Shelf) (next : Step) (new : ListDir) (after : Shelf) → IsOn m.visit.walk.spot.dir call
       → TakesList asked m sent turn came old next new after → Stays old after
   list-takes true m old next new after on t g =
       learns-good P most m.visit.walk.spot.dir (page_attr came) sent.now old.attrs after.attrs t.attrs (page-fits P most call sent.now came m.visit.walk.spot.dir on told) g
   list-takes false m old next new after on t g = visit-takes m.visit old t.walks.step t.visit after on t.walks.takes g
 
-  stat-takes : (asked : Bool) (m : Stat) (old : Shelf) (next : Next) (new : Stat) (after : Shelf) → IsOn m.walk.spot.dir call → stats.StatTakes asked m sent turn came old next new after
+  stat-takes : (asked : Bool) (m : Stat) (old : Shelf) (next : Step) (new : Stat) (after : Shelf) → IsOn m.walk.spot.dir call → stats.StatTakes asked m sent turn came old next new after
       → Stays old after
   stat-takes true m old next new after on t g =
       learns-good P most m.walk.spot.dir (stats.got_attr came) sent.now old.attrs after.attrs t.1.attrs (got-fits P most call sent.now came m.walk.spot.dir on told) g
@@ -340,21 +340,21 @@ module _ (P : List ℕ × KeptAttr → Type 0) (most : ℕ) (call : Call) (sent 
 
   -- ---- two walks and a call
 
-  pair-takes : (first : Bool) (p : Pair) (old : Shelf) (next : PairNext) (new : Pair) (after : Shelf) → PairAsks false first p call → pairs.PairTakes first p sent turn came old next new after
+  pair-takes : (first : Bool) (p : Pair) (old : Shelf) (next : PairStep) (new : Pair) (after : Shelf) → PairAsks false first p call → pairs.PairTakes first p sent turn came old next new after
       → Stays old after
   pair-takes true p old next new after on t g =
       same-good t.heard after (same-as t.heard (pairs.first_shelf t.step t.walked turn t.heard) after t.shelf_is (first-same t.step t.walked turn t.heard))
       (walk-takes (waiting_name p.first) p.first old t.step t.walked.first t.heard on t.takes g)
   pair-takes false p old next new after on t g = walk-takes (waiting_name p.second) p.second old t.step t.walked.second after on t.takes g
 
-  rename-takes : (asked : Bool) (m : Rename) (old : Shelf) (next : Next) (new : Pair) (after : Shelf) → PairAsks asked m.pair.first.asked m.pair call
+  rename-takes : (asked : Bool) (m : Rename) (old : Shelf) (next : Step) (new : Pair) (after : Shelf) → PairAsks asked m.pair.first.asked m.pair call
       → TakesRename asked m sent turn came old next new after → Stays old after
   rename-takes true m old next new after on t g =
       renews-both P most call sent.now (moved_told came).unmade m.pair.first.spot.dir m.pair.second.spot.dir (moved_told came) old.attrs after.attrs
       (moved-fits P most call sent.now came m.pair.first.spot.dir m.pair.second.spot.dir on told) t.1.attrs g
   rename-takes false m old next new after on t g = pair-takes m.pair.first.asked m.pair old t.step new after on t.takes g
 
-  link-takes : (asked : Bool) (m : Link) (old : Shelf) (next : Next) (new : Pair) (after : Shelf) → PairAsks asked m.pair.first.asked m.pair call
+  link-takes : (asked : Bool) (m : Link) (old : Shelf) (next : Step) (new : Pair) (after : Shelf) → PairAsks asked m.pair.first.asked m.pair call
       → TakesLink asked m sent turn came old next new after → Stays old after
   link-takes true m old next new after on t g =
       changes m.pair.second.spot.dir _ (linked_told m.pair.first.spot.dir came) old next after
@@ -363,23 +363,23 @@ module _ (P : List ℕ × KeptAttr → Type 0) (most : ℕ) (call : Call) (sent 
 
   -- ---- removals of names
 
-  plans-same : (is_open : Bool) (file : List ℕ) (m : RemoveFile) (room : Bool) (old : Shelf) (next : Next) (new : RemoveFile) (after : Shelf)
+  plans-same : (is_open : Bool) (file : List ℕ) (m : RemoveFile) (room : Bool) (old : Shelf) (next : Step) (new : RemoveFile) (after : Shelf)
       → removals.Plans is_open file m room old next new after → SameAttrs old after
   plans-same is_open file m room old next new after p = ap (λ (s : Shelf). s.attrs) p.shelf_is
 
-  look-same : (again : Bool) (said : Result (List ℕ) Fault) (m : RemoveFile) (room : Bool) (old : Shelf) (next : Next) (new : RemoveFile) (after : Shelf)
+  look-same : (again : Bool) (said : Result (List ℕ) Fault) (m : RemoveFile) (room : Bool) (old : Shelf) (next : Step) (new : RemoveFile) (after : Shelf)
       → removals.FollowsLook again said m room old next new after → SameAttrs old after
   look-same true said m room old next new after f = same-as old old after f.shelf_is refl
   look-same false (Ok file) m room old next new after f = plans-same f.is_open file m room old next new after f.plans
   look-same false (Err fault) m room old next new after f = same-as old old after f.shelf_is refl
 
-  seek-same : (again : Bool) (said : Result (List ℕ) Fault) (file to : List ℕ) (m : RemoveFile) (room : Bool) (old : Shelf) (next : Next) (new : RemoveFile) (after : Shelf)
+  seek-same : (again : Bool) (said : Result (List ℕ) Fault) (file to : List ℕ) (m : RemoveFile) (room : Bool) (old : Shelf) (next : Step) (new : RemoveFile) (after : Shelf)
       → removals.FollowsSeek again said file to m room old next new after → SameAttrs old after
   seek-same true said file to m room old next new after f = same-as old old after f.shelf_is refl
   seek-same false (Ok found) file to m room old next new after f = plans-same true file m room old next new after f
   seek-same false (Err fault) file to m room old next new after f = same-as old old after f.shelf_is refl
 
-  deed-takes : (deed : Deed) (m : RemoveFile) (old : Shelf) (next : Next) (new : RemoveFile) (after : Shelf) → DeedAsks (Some deed) m.walk.spot.dir call
+  deed-takes : (deed : Deed) (m : RemoveFile) (old : Shelf) (next : Step) (new : RemoveFile) (after : Shelf) → DeedAsks (Some deed) m.walk.spot.dir call
       → removals.TakesDeed deed m sent turn came old next new after → Stays old after
   deed-takes Look m old next new after on t g =
       same-good t.heard after (look-same (looking.look_again sent turn came old) (looking.found_by came) m turn.room t.heard next new after t.follows)
@@ -393,19 +393,19 @@ module _ (P : List ℕ × KeptAttr → Type 0) (most : ℕ) (call : Call) (sent 
   deed-takes Remove m old next new after on t g =
       changes m.walk.spot.dir _ (removals.removed_told came) old next after (file-removed-fits P most call sent.now came m.walk.spot.dir on told) t.1 g
 
-  asked-takes : (asked : Bool) (deed : Deed) (m : RemoveFile) (old : Shelf) (next : Next) (new : RemoveFile) (after : Shelf) → DeedAsks (Some deed) m.walk.spot.dir call
+  asked-takes : (asked : Bool) (deed : Deed) (m : RemoveFile) (old : Shelf) (next : Step) (new : RemoveFile) (after : Shelf) → DeedAsks (Some deed) m.walk.spot.dir call
       → removals.TakesIf asked deed m sent turn came old next new after → Stays old after
   asked-takes true deed m old next new after on t g = deed-takes deed m old next new after on t g
   asked-takes false deed m old next new after on t g = same-good old after (same-as old old after t.shelf_is refl) g
 
-  remove-takes : (deed : Option Deed) (m : RemoveFile) (old : Shelf) (next : Next) (new : RemoveFile) (after : Shelf) → DeedAsks deed m.walk.spot.dir call
+  remove-takes : (deed : Option Deed) (m : RemoveFile) (old : Shelf) (next : Step) (new : RemoveFile) (after : Shelf) → DeedAsks deed m.walk.spot.dir call
       → removals.Takes deed m sent turn came old next new after → Stays old after
   remove-takes (Some deed) m old next new after on t g = asked-takes m.asked deed m old next new after on t g
   remove-takes None m old next new after on t g = walk-takes (waiting_name m.walk) m.walk old t.step t.walked.walk after on t.takes g
 
   -- ---- any of them
 
-  pub name-takes : (m : NameMachine) (old : Shelf) (next : Next) (new : NameMachine) (after : Shelf) → NameAsks m call → NameTakes m sent turn came old next new after → Stays old after
+  pub name-takes : (m : NameMachine) (old : Shelf) (next : Step) (new : NameMachine) (after : Shelf) → NameAsks m call → NameTakes m sent turn came old next new after → Stays old after
   name-takes (machines.Change m) old next new after on t g =
       change-takes m.visit.asked _ (deed_told m.deed came) m.visit old next t.visit after on (deed-fits P most call sent.now m.deed came m.visit.walk.spot.dir on told) t.step g
   name-takes (machines.Stat m) old next new after on t g = stat-takes m.asked m old next t.machine after on t.step g

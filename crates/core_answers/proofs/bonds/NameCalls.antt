@@ -1,5 +1,5 @@
 -- On which objects the calls of operations on names are made.
-use Rattle.core_answers.proofs.Prelude.{◌≡◌, ◌||◌, ℕ, Bool, true, false, List, Option, Some, None, Result, Ok, Err, inl, inr, refl, sym, ap, subst, ◌∙◌, if◌then◌else◌, Attr, ListFault, Step, More, End, page_step, Opens, Answer, Fault, Value, Call, Reply, fails_busy, goes_again, Next, Shelf, Turn, DirDeed, Link, ListDir, Pair, PairNext, Deed, Look, Seek, Move, Remove, RemoveFile, Rename, Stat, SymLink, Visit, VisitNext, Walk, WalkNext, access_call, access_attr, access_told, deed_call, deed_told, link_call, linked_told, TakesLink, found_by, look_again, moved_told, text_call, TakesText, rename_call, TakesRename, shown_answer, TakesShow, sym_link_call, sym_linked_told, ChangesByCopy, TakesSymLink, lacking, NameMachine, AskedOf}
+use Rattle.core_answers.proofs.Prelude.{◌≡◌, ◌||◌, ℕ, Bool, true, false, List, Option, Some, None, Result, Ok, Err, inl, inr, refl, sym, ap, subst, ◌∙◌, if◌then◌else◌, Attr, ListFault, ListStep, More, End, page_step, Opens, Answer, Fault, Value, Call, Reply, fails_busy, goes_again, Step, Shelf, Turn, DirDeed, Link, ListDir, Pair, PairStep, Deed, Look, Seek, Move, Remove, RemoveFile, Rename, Stat, SymLink, Visit, VisitStep, Walk, WalkStep, access_call, access_attr, access_told, deed_call, deed_told, link_call, linked_told, TakesLink, found_by, look_again, moved_told, text_call, TakesText, rename_call, TakesRename, shown_answer, TakesShow, sym_link_call, sym_linked_told, ChangesByCopy, TakesSymLink, lacking, NameMachine, AskedOf}
 use Rattle.name_ops.specs.SymLink.{CopiesBy}
 use Rattle.attr_cache.specs.Attrs as attrs
 use Rattle.name_cache.specs.Names as known_names
@@ -7,12 +7,12 @@ use Rattle.silly_rename.specs.Plans.{plan_of}
 use Rattle.world_model.specs.declared.answer.Answer.TheVariants as answers
 use Rattle.world_model.specs.declared.answer.Fault.TheVariants as faults
 use Rattle.world_model.specs.declared.answer.Value.TheVariants as values
-use Rattle.client_shelf.specs.declared.next.Next.TheVariants as nexts
+use Rattle.client_shelf.specs.declared.step.Step.TheVariants as nexts
 use Rattle.name_ops.specs.declared.dir_change.DirDeed.TheVariants as deeds
-use Rattle.name_ops.specs.declared.pair.PairNext.TheVariants as two
+use Rattle.name_ops.specs.declared.pair.PairStep.TheVariants as two
 use Rattle.name_ops.specs.declared.told.Told.{Told}
-use Rattle.name_ops.specs.declared.visit.VisitNext.TheVariants as visits
-use Rattle.name_ops.specs.declared.walk.WalkNext.TheVariants as walks
+use Rattle.name_ops.specs.declared.visit.VisitStep.TheVariants as visits
+use Rattle.name_ops.specs.declared.walk.WalkStep.TheVariants as walks
 use Rattle.name_ops.specs.Changing as changing
 use Rattle.name_ops.specs.ListDir as listing
 use Rattle.name_ops.specs.Pairs as pairs
@@ -70,32 +70,32 @@ NameAsks (machines.List m) call = ListOn m call
 
 -- ---- what a step asks for
 
-pub asked-as : {S : Type 0} → (E : S → Call → Type 0) (to next : Next) (state new : S) → next ≡ to → new ≡ state → AskedOf E to state → AskedOf E next new
+pub asked-as : {S : Type 0} → (E : S → Call → Type 0) (to next : Step) (state new : S) → next ≡ to → new ≡ state → AskedOf E to state → AskedOf E next new
 asked-as E to next state new is at a = subst (λ n. AskedOf E n new) (sym is) (subst (λ s. AskedOf E to s) (sym at) a)
 
-pub asked-done : {S : Type 0} → (E : S → Call → Type 0) (answer : Answer) (next : Next) (new : S) → next ≡ nexts.Done answer → AskedOf E next new
+pub asked-done : {S : Type 0} → (E : S → Call → Type 0) (answer : Answer) (next : Step) (new : S) → next ≡ nexts.Done answer → AskedOf E next new
 asked-done E answer next new is = subst (λ n. AskedOf E n new) (sym is) tt
 
-pub asked-waits : {S : Type 0} → (E : S → Call → Type 0) (next : Next) (new : S) → next ≡ nexts.Wait → AskedOf E next new
+pub asked-waits : {S : Type 0} → (E : S → Call → Type 0) (next : Step) (new : S) → next ≡ nexts.Wait → AskedOf E next new
 asked-waits E next new is = subst (λ n. AskedOf E n new) (sym is) tt
 
-pub asked-sends : {S : Type 0} → (E : S → Call → Type 0) (call : Call) (next : Next) (new : S) → next ≡ nexts.Send call → E new call → AskedOf E next new
+pub asked-sends : {S : Type 0} → (E : S → Call → Type 0) (call : Call) (next : Step) (new : S) → next ≡ nexts.Send call → E new call → AskedOf E next new
 asked-sends E call next new is on = subst (λ n. AskedOf E n new) (sym is) on
 
-pub asked-again : {S : Type 0} → (E : S → Call → Type 0) (again : Bool) (call : Call) (answer : Answer) (next : Next) (new : S)
+pub asked-again : {S : Type 0} → (E : S → Call → Type 0) (again : Bool) (call : Call) (answer : Answer) (next : Step) (new : S)
     → next ≡ (if again then nexts.Send call else nexts.Done answer) → E new call → AskedOf E next new
 asked-again E true call answer next new is on = asked-sends E call next new is on
 asked-again E false call answer next new is on = asked-done E answer next new is
 
 -- the same of another state
-pub asked-for : {S T : Type 0} → (E : S → Call → Type 0) (F : T → Call → Type 0) (next : Next) (s : S) (t : T) → ((call : Call) → E s call → F t call) → AskedOf E next s → AskedOf F next t
+pub asked-for : {S T : Type 0} → (E : S → Call → Type 0) (F : T → Call → Type 0) (next : Step) (s : S) (t : T) → ((call : Call) → E s call → F t call) → AskedOf E next s → AskedOf F next t
 asked-for E F (nexts.Send call) s t same a = same call a
 asked-for E F nexts.Wait s t same a = tt
 asked-for E F (nexts.Done answer) s t same a = tt
 
 -- ---- walks
 
-abbrev pub WalkAsked : WalkNext → Walk → Type 0
+abbrev pub WalkAsked : WalkStep → Walk → Type 0
 WalkAsked (walks.Send call) w = (w.asked ≡ true) × IsOn w.spot.dir call
 WalkAsked walks.Wait w = Unit {0}
 WalkAsked (walks.At object) w = (w.asked ≡ false) × (object ≡ w.spot.dir)
@@ -131,7 +131,7 @@ asked-some : (b : Bool) (w : Walk) (name : List ℕ) → (if b then walking.next
 asked-some true w name is = refl
 asked-some false w name is = absurd cc
 
-takes-name : (name : Option (List ℕ)) (w : Walk) (sent turn : Turn) (came : Result Reply Fault) (old : Shelf) (next : WalkNext) (new : Walk) (after : Shelf)
+takes-name : (name : Option (List ℕ)) (w : Walk) (sent turn : Turn) (came : Result Reply Fault) (old : Shelf) (next : WalkStep) (new : Walk) (after : Shelf)
     → walking.waiting_name w ≡ name → walking.Takes name w sent turn came old next new after → WalkAsked next new
 takes-name (Some name) w sent turn came old next new after waits t =
     subst (λ n. WalkAsked n new) (sym t.next_is)
@@ -139,19 +139,19 @@ takes-name (Some name) w sent turn came old next new after waits t =
     (followed-walk (look_again sent turn came old) w name (found_by came) turn t.heard (asked-some w.asked w name waits)))
 takes-name None w sent turn came old next new after waits t = subst (λ n. WalkAsked n new) (sym t.next_is) tt
 
-pub took-walk : (w : Walk) (sent turn : Turn) (came : Result Reply Fault) (old : Shelf) (next : WalkNext) (new : Walk) (after : Shelf)
+pub took-walk : (w : Walk) (sent turn : Turn) (came : Result Reply Fault) (old : Shelf) (next : WalkStep) (new : Walk) (after : Shelf)
     → walking.Takes (walking.waiting_name w) w sent turn came old next new after → WalkAsked next new
 took-walk w sent turn came old next new after t = takes-name (walking.waiting_name w) w sent turn came old next new after refl t
 
 -- ---- a walk and a call
 
-abbrev VisitAsked : VisitNext → Visit → Type 0
+abbrev VisitAsked : VisitStep → Visit → Type 0
 VisitAsked (visits.Look call) v = IsOn v.walk.spot.dir call
 VisitAsked visits.Wait v = Unit {0}
 VisitAsked (visits.Ask object) v = object ≡ v.walk.spot.dir
 VisitAsked (visits.Refused fault) v = Unit {0}
 
-follow-visit : (step : WalkNext) (room : Bool) (v : Visit) → WalkAsked step v.walk → VisitAsked (visiting.follow_next step room) (visiting.follow_after step room v)
+follow-visit : (step : WalkStep) (room : Bool) (v : Visit) → WalkAsked step v.walk → VisitAsked (visiting.follow_next step room) (visiting.follow_after step room v)
 follow-visit (walks.Send call) room v a = a.1
 follow-visit walks.Wait room v a = tt
 follow-visit (walks.At object) true v a = a.1
@@ -167,7 +167,7 @@ visit-if false v turn shelf = follow-visit (walking.go_next v.walk turn shelf) t
 visit-goes : (v : Visit) (turn : Turn) (shelf : Shelf) → VisitAsked (visiting.visit_next v turn shelf) (visiting.visit_after v turn shelf)
 visit-goes v turn shelf = visit-if v.asked v turn shelf
 
-visit-took : (v : Visit) (sent turn : Turn) (came : Result Reply Fault) (old : Shelf) (next : VisitNext) (new : Visit) (after : Shelf)
+visit-took : (v : Visit) (sent turn : Turn) (came : Result Reply Fault) (old : Shelf) (next : VisitStep) (new : Visit) (after : Shelf)
     → visiting.VisitTakes v sent turn came old next new after → VisitAsked next new
 visit-took v sent turn came old next new after t =
     subst (λ n. VisitAsked n new) (sym t.next_is)
@@ -178,41 +178,41 @@ visit-took v sent turn came old next new after t =
 abbrev pub OnIts : (List ℕ → Call) → Type 0
 OnIts own = (object : List ℕ) → IsOn object (own object)
 
-next-by : (own : List ℕ → Call) (step : VisitNext) (v : Visit) → OnIts own → VisitAsked step v → AskedOf VisitOn (visiting.next_by own step) v
+next-by : (own : List ℕ → Call) (step : VisitStep) (v : Visit) → OnIts own → VisitAsked step v → AskedOf VisitOn (visiting.next_by own step) v
 next-by own (visits.Look look) v on a = a
 next-by own visits.Wait v on a = tt
 next-by own (visits.Ask object) v on a = on object ∙ ap Some a
 next-by own (visits.Refused fault) v on a = tt
 
-visit-asks : (own : List ℕ → Call) (v : Visit) (turn : Turn) (shelf : Shelf) (next : Next) (new : Visit) → OnIts own → next ≡ visiting.next_by own (visiting.visit_next v turn shelf)
+visit-asks : (own : List ℕ → Call) (v : Visit) (turn : Turn) (shelf : Shelf) (next : Step) (new : Visit) → OnIts own → next ≡ visiting.next_by own (visiting.visit_next v turn shelf)
     → new ≡ visiting.visit_after v turn shelf → AskedOf VisitOn next new
 visit-asks own v turn shelf next new on is at =
     asked-as VisitOn (visiting.next_by own (visiting.visit_next v turn shelf)) next (visiting.visit_after v turn shelf) new is at
     (next-by own (visiting.visit_next v turn shelf) (visiting.visit_after v turn shelf) on (visit-goes v turn shelf))
 
-walks-ask : (own : List ℕ → Call) (v : Visit) (sent turn : Turn) (came : Result Reply Fault) (old : Shelf) (next : Next) (new : Visit) (after : Shelf) → OnIts own
+walks-ask : (own : List ℕ → Call) (v : Visit) (sent turn : Turn) (came : Result Reply Fault) (old : Shelf) (next : Step) (new : Visit) (after : Shelf) → OnIts own
     → visiting.Walks own v sent turn came old next new after → AskedOf VisitOn next new
 walks-ask own v sent turn came old next new after on w =
     subst (λ n. AskedOf VisitOn n new) (sym w.next_is) (next-by own w.step new on (visit-took v sent turn came old w.step new after w.takes))
 
 -- the call on the object again, from the same visit
-own-again : (own : List ℕ → Call) (again : Bool) (answer : Answer) (v : Visit) (next : Next) (new : Visit) → OnIts own → new ≡ v
+own-again : (own : List ℕ → Call) (again : Bool) (answer : Answer) (v : Visit) (next : Step) (new : Visit) → OnIts own → new ≡ v
     → next ≡ (if again then nexts.Send (own v.walk.spot.dir) else nexts.Done answer) → AskedOf VisitOn next new
 own-again own again answer v next new on same is = asked-again VisitOn again (own v.walk.spot.dir) answer next new is (subst (λ w. VisitOn w (own v.walk.spot.dir)) (sym same) (on v.walk.spot.dir))
 
-change-asks : (asked : Bool) (own : List ℕ → Call) (told : Told) (v : Visit) (sent turn : Turn) (came : Result Reply Fault) (old : Shelf) (next : Next) (new : Visit) (after : Shelf)
+change-asks : (asked : Bool) (own : List ℕ → Call) (told : Told) (v : Visit) (sent turn : Turn) (came : Result Reply Fault) (old : Shelf) (next : Step) (new : Visit) (after : Shelf)
     → OnIts own → changing.TakesChange asked own told v sent turn came old next new after → AskedOf VisitOn next new
 change-asks true own told v sent turn came old next new after on t =
     own-again own (goes_again (changing.told_busy told.refusal) sent turn old.repeats) (changing.answer_of told.refusal) v next new on t.0 t.1.next_is
 change-asks false own told v sent turn came old next new after on t = walks-ask own v sent turn came old next new after on t
 
-show-asks : (asked : Bool) (own : List ℕ → Call) (attr : Option Attr) (told : Result Value Fault) (v : Visit) (sent turn : Turn) (came : Result Reply Fault) (old : Shelf) (next : Next)
+show-asks : (asked : Bool) (own : List ℕ → Call) (attr : Option Attr) (told : Result Value Fault) (v : Visit) (sent turn : Turn) (came : Result Reply Fault) (old : Shelf) (next : Step)
     (new : Visit) (after : Shelf) → OnIts own → TakesShow asked own attr told v sent turn came old next new after → AskedOf VisitOn next new
 show-asks true own attr told v sent turn came old next new after on t =
     own-again own (goes_again (fails_busy told) sent turn old.repeats) (shown_answer told) v next new on t.0 t.1.next_is
 show-asks false own attr told v sent turn came old next new after on t = walks-ask own v sent turn came old next new after on t
 
-text-asks : (asked : Bool) (v : Visit) (sent turn : Turn) (came : Result Reply Fault) (old : Shelf) (next : Next) (new : Visit) (after : Shelf)
+text-asks : (asked : Bool) (v : Visit) (sent turn : Turn) (came : Result Reply Fault) (old : Shelf) (next : Step) (new : Visit) (after : Shelf)
     → TakesText asked v sent turn came old next new after → AskedOf VisitOn next new
 text-asks true v sent turn came old next new after t =
     own-again text_call (goes_again (fails_busy t.1.told) sent turn old.repeats) (shown_answer t.1.told) v next new (λ d. refl) t.0 t.1.shows.next_is
@@ -220,14 +220,14 @@ text-asks false v sent turn came old next new after t = walks-ask text_call v se
 
 -- ---- a call with a copy
 
-copies-by : (own : List ℕ → Call) (step : VisitNext) (next : Next) (v : Visit) → OnIts own → VisitAsked step v → CopiesBy own step next → AskedOf VisitOn next v
+copies-by : (own : List ℕ → Call) (step : VisitStep) (next : Step) (v : Visit) → OnIts own → VisitAsked step v → CopiesBy own step next → AskedOf VisitOn next v
 copies-by own (visits.Look look) next v on a e = asked-sends VisitOn look next v e a
 copies-by own visits.Wait next v on a e = asked-waits VisitOn next v e
 copies-by own (visits.Ask object) next v on a (inl e) = asked-sends VisitOn (own object) next v e (on object ∙ ap Some a)
 copies-by own (visits.Ask object) next v on a (inr e) = asked-done VisitOn (answers.Refused faults.Memory) next v e
 copies-by own (visits.Refused fault) next v on a e = asked-done VisitOn (answers.Refused fault) next v e
 
-sym-link-asks : (asked : Bool) (m : SymLink) (sent turn : Turn) (came : Result Reply Fault) (old : Shelf) (next : Next) (new : Visit) (after : Shelf)
+sym-link-asks : (asked : Bool) (m : SymLink) (sent turn : Turn) (came : Result Reply Fault) (old : Shelf) (next : Step) (new : Visit) (after : Shelf)
     → TakesSymLink asked m sent turn came old next new after → AskedOf VisitOn next new
 sym-link-asks true m sent turn came old next new after t = by t.1
   where
@@ -248,7 +248,7 @@ ask-stat (Some attr) object room m is = tt
 ask-stat None object true m is = ap Some is
 ask-stat None object false m is = tt
 
-follow-stat : (step : WalkNext) (turn : Turn) (known : attrs.Attrs) (m : Stat) → WalkAsked step m.walk → AskedOf StatOn (stats.follow_next step turn known) (stats.follow_after step turn known m)
+follow-stat : (step : WalkStep) (turn : Turn) (known : attrs.Attrs) (m : Stat) → WalkAsked step m.walk → AskedOf StatOn (stats.follow_next step turn known) (stats.follow_after step turn known m)
 follow-stat (walks.Send call) turn known m a = a.1
 follow-stat walks.Wait turn known m a = tt
 follow-stat (walks.At object) turn known m a = ask-stat (attrs.looked object turn.now known) object turn.room m a.1
@@ -260,7 +260,7 @@ stat-if : (b : Bool) (m : Stat) (turn : Turn) (shelf : Shelf)
 stat-if true m turn shelf = tt
 stat-if false m turn shelf = follow-stat (walking.go_next m.walk turn shelf) turn shelf.attrs (record m { walk = walking.go_after m.walk turn shelf }) (go-walk m.walk turn shelf)
 
-stat-asks : (asked : Bool) (m : Stat) (sent turn : Turn) (came : Result Reply Fault) (old : Shelf) (next : Next) (new : Stat) (after : Shelf)
+stat-asks : (asked : Bool) (m : Stat) (sent turn : Turn) (came : Result Reply Fault) (old : Shelf) (next : Step) (new : Stat) (after : Shelf)
     → stats.StatTakes asked m sent turn came old next new after → AskedOf StatOn next new
 stat-asks true m sent turn came old next new after t =
     asked-again StatOn (goes_again (fails_busy (stats.got_told came)) sent turn old.repeats) (stats.get_attr m.walk.spot.dir) (shown_answer (stats.got_told came)) next new t.1.next_is
@@ -271,7 +271,7 @@ stat-asks false m sent turn came old next new after t =
 
 -- ---- listings
 
-goes-on : (step : Step) (room : Bool) (m : ListDir) (next : Next) (new : ListDir) → listing.GoesOn step room m next new → AskedOf ListOn next new
+goes-on : (step : ListStep) (room : Bool) (m : ListDir) (next : Step) (new : ListDir) → listing.GoesOn step room m next new → AskedOf ListOn next new
 goes-on (More cookie verf) room m next new g =
     asked-as ListOn (listing.more_next (record { cookie = cookie; verf = verf }) room m) next (listing.more_after (record { cookie = cookie; verf = verf }) room m) new g.0 g.1 (by room)
   where
@@ -280,18 +280,18 @@ goes-on (More cookie verf) room m next new g =
     by false = tt
 goes-on End room m next new g = asked-done ListOn (answers.Done (values.Names g.names)) next new g.next_is
 
-takes-step : (step : Result Step ListFault) (heard : _) (room : Bool) (m : ListDir) (next : Next) (new : ListDir) → listing.TakesStep step heard room m next new → AskedOf ListOn next new
+takes-step : (step : Result ListStep ListFault) (heard : _) (room : Bool) (m : ListDir) (next : Step) (new : ListDir) → listing.TakesStep step heard room m next new → AskedOf ListOn next new
 takes-step (Ok step) heard room m next new t = goes-on step room _ next new t
 takes-step (Err fault) heard room m next new t = asked-done ListOn _ next new t.0
 
-follows-page : (heard : Result _ Fault) (again room : Bool) (m : ListDir) (next : Next) (new : ListDir) → listing.Follows heard again room m next new → AskedOf ListOn next new
+follows-page : (heard : Result _ Fault) (again room : Bool) (m : ListDir) (next : Step) (new : ListDir) → listing.Follows heard again room m next new → AskedOf ListOn next new
 follows-page (Ok heard) again room m next new (inl t) = asked-done ListOn _ next new t.0
 follows-page (Ok heard) again room m next new (inr t) = takes-step (page_step m.listing heard.page heard.verf heard.eof) heard room m next new t
 follows-page (Err fault) again room m next new f =
     asked-again ListOn again (listing.page_call m.place m.visit.walk.spot.dir) (answers.Refused fault) next new f.0
     (subst (λ k. ListOn k (listing.page_call m.place m.visit.walk.spot.dir)) (sym f.1) refl)
 
-list-asks : (asked : Bool) (m : ListDir) (sent turn : Turn) (came : Result Reply Fault) (old : Shelf) (next : Next) (new : ListDir) (after : Shelf)
+list-asks : (asked : Bool) (m : ListDir) (sent turn : Turn) (came : Result Reply Fault) (old : Shelf) (next : Step) (new : ListDir) (after : Shelf)
     → listing.TakesList asked m sent turn came old next new after → AskedOf ListOn next new
 list-asks true m sent turn came old next new after t =
     follows-page (listing.page_heard came) (goes_again (fails_busy (listing.page_heard came)) sent turn old.repeats) turn.room m next new t.follows
@@ -302,7 +302,7 @@ list-asks false m sent turn came old next new after t =
 
 -- ---- two walks and a call
 
-abbrev PairAsked : PairNext → Pair → Type 0
+abbrev PairAsked : PairStep → Pair → Type 0
 PairAsked (two.Look call) p = PairOn p call
 PairAsked two.Wait p = Unit {0}
 PairAsked (two.Ask first second) p = (p.asked ≡ true) × (first ≡ p.first.spot.dir) × (second ≡ p.second.spot.dir)
@@ -314,7 +314,7 @@ on-first p call idle first on = subst (λ b. PairAsks b p.first.asked p call) (s
 on-second : (p : Pair) (call : Call) → p.asked ≡ false → p.first.asked ≡ false → IsOn p.second.spot.dir call → PairOn p call
 on-second p call idle first on = subst (λ b. PairAsks b p.first.asked p call) (sym idle) (subst (λ b. PairAsks false b p call) (sym first) on)
 
-led-second : (first : List ℕ) (step : WalkNext) (room : Bool) (p : Pair) → p.asked ≡ false → p.first.asked ≡ false → first ≡ p.first.spot.dir → WalkAsked step p.second
+led-second : (first : List ℕ) (step : WalkStep) (room : Bool) (p : Pair) → p.asked ≡ false → p.first.asked ≡ false → first ≡ p.first.spot.dir → WalkAsked step p.second
     → PairAsked (pairs.led_second first step room) (pairs.second_kept step room p)
 led-second first (walks.Send call) room p idle done is a = on-second p call idle done a.1
 led-second first walks.Wait room p idle done is a = tt
@@ -322,7 +322,7 @@ led-second first (walks.At second) true p idle done is a = (refl, is, a.1)
 led-second first (walks.At second) false p idle done is a = tt
 led-second first (walks.Refused fault) room p idle done is a = tt
 
-led-first : (step : WalkNext) (p : Pair) (turn : Turn) (shelf : Shelf) → p.asked ≡ false → WalkAsked step p.first
+led-first : (step : WalkStep) (p : Pair) (turn : Turn) (shelf : Shelf) → p.asked ≡ false → WalkAsked step p.first
     → PairAsked (pairs.led_first step p turn shelf) (pairs.first_kept step p turn shelf)
 led-first (walks.Send call) p turn shelf idle a = on-first p call idle a.0 a.1
 led-first walks.Wait p turn shelf idle a = tt
@@ -339,7 +339,7 @@ pair-if false false p turn shelf is = led-first (walking.go_next p.first turn sh
 pair-goes : (p : Pair) (turn : Turn) (shelf : Shelf) → PairAsked (pairs.pair_next p turn shelf) (pairs.pair_after p turn shelf)
 pair-goes p turn shelf = pair-if p.asked p.second.asked p turn shelf refl
 
-pair-took : (first : Bool) (p : Pair) (sent turn : Turn) (came : Result Reply Fault) (old : Shelf) (next : PairNext) (new : Pair) (after : Shelf) → p.asked ≡ false → p.first.asked ≡ first
+pair-took : (first : Bool) (p : Pair) (sent turn : Turn) (came : Result Reply Fault) (old : Shelf) (next : PairStep) (new : Pair) (after : Shelf) → p.asked ≡ false → p.first.asked ≡ first
     → pairs.PairTakes first p sent turn came old next new after → PairAsked next new
 pair-took true p sent turn came old next new after idle on_way t =
     subst (λ n. PairAsked n new) (sym t.next_is)
@@ -354,7 +354,7 @@ pair-took false p sent turn came old next new after idle done t =
 abbrev pub OnBoth : (List ℕ → List ℕ → Call) → Type 0
 OnBoth own = (first second : List ℕ) → AreOn first second (own first second)
 
-next-by-pair : (own : List ℕ → List ℕ → Call) (step : PairNext) (p : Pair) → OnBoth own → PairAsked step p → AskedOf PairOn (pairs.next_by own step) p
+next-by-pair : (own : List ℕ → List ℕ → Call) (step : PairStep) (p : Pair) → OnBoth own → PairAsked step p → AskedOf PairOn (pairs.next_by own step) p
 next-by-pair own (two.Look look) p on a = a
 next-by-pair own two.Wait p on a = tt
 next-by-pair own (two.Ask first second) p on a =
@@ -362,20 +362,20 @@ next-by-pair own (two.Ask first second) p on a =
     (record { first = (on first second).first ∙ ap Some a.1; second = (on first second).second ∙ ap Some a.2 })
 next-by-pair own (two.Refused fault) p on a = tt
 
-pair-asks : (own : List ℕ → List ℕ → Call) (p : Pair) (turn : Turn) (shelf : Shelf) (next : Next) (new : Pair) → OnBoth own → next ≡ pairs.next_by own (pairs.pair_next p turn shelf)
+pair-asks : (own : List ℕ → List ℕ → Call) (p : Pair) (turn : Turn) (shelf : Shelf) (next : Step) (new : Pair) → OnBoth own → next ≡ pairs.next_by own (pairs.pair_next p turn shelf)
     → new ≡ pairs.pair_after p turn shelf → AskedOf PairOn next new
 pair-asks own p turn shelf next new on is at =
     asked-as PairOn (pairs.next_by own (pairs.pair_next p turn shelf)) next (pairs.pair_after p turn shelf) new is at
     (next-by-pair own (pairs.pair_next p turn shelf) (pairs.pair_after p turn shelf) on (pair-goes p turn shelf))
 
-pair-walks-ask : (own : List ℕ → List ℕ → Call) (p : Pair) (sent turn : Turn) (came : Result Reply Fault) (old : Shelf) (next : Next) (new : Pair) (after : Shelf) → OnBoth own
+pair-walks-ask : (own : List ℕ → List ℕ → Call) (p : Pair) (sent turn : Turn) (came : Result Reply Fault) (old : Shelf) (next : Step) (new : Pair) (after : Shelf) → OnBoth own
     → p.asked ≡ false → pairs.Walks own p sent turn came old next new after → AskedOf PairOn next new
 pair-walks-ask own p sent turn came old next new after on idle w =
     subst (λ n. AskedOf PairOn n new) (sym w.next_is)
     (next-by-pair own w.step new on (pair-took p.first.asked p sent turn came old w.step new after idle refl w.takes))
 
 -- the call on both again, from the same pair
-both-again : (own : List ℕ → List ℕ → Call) (again : Bool) (answer : Answer) (p : Pair) (next : Next) (new : Pair) → OnBoth own → p.asked ≡ true → new ≡ p
+both-again : (own : List ℕ → List ℕ → Call) (again : Bool) (answer : Answer) (p : Pair) (next : Step) (new : Pair) → OnBoth own → p.asked ≡ true → new ≡ p
     → next ≡ (if again then nexts.Send (own p.first.spot.dir p.second.spot.dir) else nexts.Done answer) → AskedOf PairOn next new
 both-again own again answer p next new on asked same is =
     asked-again PairOn again (own p.first.spot.dir p.second.spot.dir) answer next new is
@@ -388,14 +388,14 @@ renames from to first second = record { first = refl; second = refl }
 links : (name : List ℕ) → OnBoth (link_call name)
 links name first second = record { first = refl; second = refl }
 
-rename-asks : (asked : Bool) (m : Rename) (sent turn : Turn) (came : Result Reply Fault) (old : Shelf) (next : Next) (new : Pair) (after : Shelf) → m.pair.asked ≡ asked
+rename-asks : (asked : Bool) (m : Rename) (sent turn : Turn) (came : Result Reply Fault) (old : Shelf) (next : Step) (new : Pair) (after : Shelf) → m.pair.asked ≡ asked
     → TakesRename asked m sent turn came old next new after → AskedOf PairOn next new
 rename-asks true m sent turn came old next new after is t =
     both-again (rename_call m.from m.to) (goes_again (changing.told_busy (moved_told came).refusal) sent turn old.repeats) (changing.answer_of (moved_told came).refusal) m.pair next new
     (renames m.from m.to) is t.0 t.1.next_is
 rename-asks false m sent turn came old next new after is t = pair-walks-ask (rename_call m.from m.to) m.pair sent turn came old next new after (renames m.from m.to) is t
 
-link-asks : (asked : Bool) (m : Link) (sent turn : Turn) (came : Result Reply Fault) (old : Shelf) (next : Next) (new : Pair) (after : Shelf) → m.pair.asked ≡ asked
+link-asks : (asked : Bool) (m : Link) (sent turn : Turn) (came : Result Reply Fault) (old : Shelf) (next : Step) (new : Pair) (after : Shelf) → m.pair.asked ≡ asked
     → TakesLink asked m sent turn came old next new after → AskedOf PairOn next new
 link-asks true m sent turn came old next new after is t =
     both-again (link_call m.name) (goes_again (changing.told_busy (linked_told m.pair.first.spot.dir came).refusal) sent turn old.repeats)
@@ -414,17 +414,17 @@ deed-asks : (room : Bool) (m : RemoveFile) (deed : Deed) → AskedOf RemovalOn (
 deed-asks true m deed = deed-on m deed
 deed-asks false m deed = tt
 
-asks-as : (room : Bool) (m : RemoveFile) (deed : Deed) (next : Next) (new : RemoveFile) → next ≡ removals.asked_next m deed room → new ≡ removals.asked_after m deed room
+asks-as : (room : Bool) (m : RemoveFile) (deed : Deed) (next : Step) (new : RemoveFile) → next ≡ removals.asked_next m deed room → new ≡ removals.asked_after m deed room
     → AskedOf RemovalOn next new
 asks-as room m deed next new is at = asked-as RemovalOn (removals.asked_next m deed room) next (removals.asked_after m deed room) new is at (deed-asks room m deed)
 
 -- its call again
-deed-again : (deed : Deed) (m : RemoveFile) (next : Next) (new : RemoveFile) → m.deed ≡ Some deed → next ≡ nexts.Send (removals.call_of m deed) → new ≡ m → AskedOf RemovalOn next new
+deed-again : (deed : Deed) (m : RemoveFile) (next : Step) (new : RemoveFile) → m.deed ≡ Some deed → next ≡ nexts.Send (removals.call_of m deed) → new ≡ m → AskedOf RemovalOn next new
 deed-again deed m next new has is same =
     asked-sends RemovalOn (removals.call_of m deed) next new is
     (subst (λ k. RemovalOn k (removals.call_of m deed)) (sym same) (subst (λ d. DeedAsks d m.walk.spot.dir (removals.call_of m deed)) (sym has) (deed-on m deed)))
 
-follow-removal : (step : WalkNext) (room : Bool) (m : RemoveFile) (opens : Opens) (next : Next) (new : RemoveFile) → m.deed ≡ None → WalkAsked step m.walk
+follow-removal : (step : WalkStep) (room : Bool) (m : RemoveFile) (opens : Opens) (next : Step) (new : RemoveFile) → m.deed ≡ None → WalkAsked step m.walk
     → removals.Follows step room m opens next new → AskedOf RemovalOn next new
 follow-removal (walks.Send call) room m opens next new none a f =
     asked-sends RemovalOn call next new f.0 (subst (λ k. RemovalOn k call) (sym f.1) (subst (λ d. DeedAsks d m.walk.spot.dir call) (sym none) a.1))
@@ -432,50 +432,50 @@ follow-removal walks.Wait room m opens next new none a f = asked-waits RemovalOn
 follow-removal (walks.At dir) room m opens next new none a f = asks-as room m (removals.first_deed f.any) next new f.next_is f.machine_is
 follow-removal (walks.Refused fault) room m opens next new none a f = asked-done RemovalOn (answers.Refused fault) next new f.0
 
-goes-removal : (deed : Option Deed) (m : RemoveFile) (turn : Turn) (old : Shelf) (next : Next) (new : RemoveFile) (after : Shelf) → m.deed ≡ deed
+goes-removal : (deed : Option Deed) (m : RemoveFile) (turn : Turn) (old : Shelf) (next : Step) (new : RemoveFile) (after : Shelf) → m.deed ≡ deed
     → removals.Goes deed m turn old next new after → AskedOf RemovalOn next new
 goes-removal (Some deed) m turn old next new after is g = asks-as turn.room m deed next new g.next_is g.machine_is
 goes-removal None m turn old next new after is g =
     follow-removal (walking.go_next m.walk turn old) turn.room (record m { walk = walking.go_after m.walk turn old }) old.opens next new is (go-walk m.walk turn old) g.follows
 
-remove-asks : (asked : Bool) (m : RemoveFile) (turn : Turn) (old : Shelf) (next : Next) (new : RemoveFile) (after : Shelf) → removals.Resumes asked m turn old next new after
+remove-asks : (asked : Bool) (m : RemoveFile) (turn : Turn) (old : Shelf) (next : Step) (new : RemoveFile) (after : Shelf) → removals.Resumes asked m turn old next new after
     → AskedOf RemovalOn next new
 remove-asks true m turn old next new after r = asked-waits RemovalOn next new r.next_is
 remove-asks false m turn old next new after r = goes-removal m.deed m turn old next new after refl r
 
-plans-ask : (is_open : Bool) (file : List ℕ) (m : RemoveFile) (room : Bool) (old : Shelf) (next : Next) (new : RemoveFile) (after : Shelf)
+plans-ask : (is_open : Bool) (file : List ℕ) (m : RemoveFile) (room : Bool) (old : Shelf) (next : Step) (new : RemoveFile) (after : Shelf)
     → removals.Plans is_open file m room old next new after → AskedOf RemovalOn next new
 plans-ask is_open file m room old next new after p = asks-as room m (removals.deed_of file (plan_of is_open old.counter)) next new p.next_is p.machine_is
 
-look-asks : (again : Bool) (told : Result (List ℕ) Fault) (m : RemoveFile) (room : Bool) (old : Shelf) (next : Next) (new : RemoveFile) (after : Shelf) → m.deed ≡ Some Look
+look-asks : (again : Bool) (told : Result (List ℕ) Fault) (m : RemoveFile) (room : Bool) (old : Shelf) (next : Step) (new : RemoveFile) (after : Shelf) → m.deed ≡ Some Look
     → removals.FollowsLook again told m room old next new after → AskedOf RemovalOn next new
 look-asks true told m room old next new after has f = deed-again Look m next new has f.next_is f.machine_is
 look-asks false (Ok file) m room old next new after has f = plans-ask f.is_open file m room old next new after f.plans
 look-asks false (Err fault) m room old next new after has f = asked-done RemovalOn (answers.Refused fault) next new f.next_is
 
-misses-ask : (missing : Bool) (fault : Fault) (file to : List ℕ) (m : RemoveFile) (room : Bool) (next : Next) (new : RemoveFile) → next ≡ removals.missed_next missing fault file to m room
+misses-ask : (missing : Bool) (fault : Fault) (file to : List ℕ) (m : RemoveFile) (room : Bool) (next : Step) (new : RemoveFile) → next ≡ removals.missed_next missing fault file to m room
     → new ≡ removals.missed_after missing file to m room → AskedOf RemovalOn next new
 misses-ask true fault file to m room next new is at = asks-as room m (Move file to) next new is at
 misses-ask false fault file to m room next new is at = asked-done RemovalOn (answers.Refused fault) next new is
 
-seek-asks : (again : Bool) (told : Result (List ℕ) Fault) (file to : List ℕ) (m : RemoveFile) (room : Bool) (old : Shelf) (next : Next) (new : RemoveFile) (after : Shelf)
+seek-asks : (again : Bool) (told : Result (List ℕ) Fault) (file to : List ℕ) (m : RemoveFile) (room : Bool) (old : Shelf) (next : Step) (new : RemoveFile) (after : Shelf)
     → m.deed ≡ Some (Seek file to) → removals.FollowsSeek again told file to m room old next new after → AskedOf RemovalOn next new
 seek-asks true told file to m room old next new after has f = deed-again (Seek file to) m next new has f.next_is f.machine_is
 seek-asks false (Ok found) file to m room old next new after has f = plans-ask true file m room old next new after f
 seek-asks false (Err fault) file to m room old next new after has f = misses-ask (removals.is_missing fault) fault file to m room next new f.next_is f.machine_is
 
-move-leads : (refusal : Option Fault) (file to : List ℕ) (m : RemoveFile) (old : removals.Places) (next : Next) (new : removals.Places) (state : RemoveFile)
+move-leads : (refusal : Option Fault) (file to : List ℕ) (m : RemoveFile) (old : removals.Places) (next : Step) (new : removals.Places) (state : RemoveFile)
     → removals.MoveLeads refusal file to m old next new → AskedOf RemovalOn next state
 move-leads None file to m old next new state (inl k) = asked-done RemovalOn _ next state k.0
 move-leads None file to m old next new state (inr k) = asked-done RemovalOn _ next state k.0
 move-leads (Some fault) file to m old next new state l = asked-done RemovalOn (answers.Refused fault) next state l.0
 
-move-asks : (again : Bool) (refusal : Option Fault) (file to : List ℕ) (m : RemoveFile) (old : removals.Places) (next : Next) (new : removals.Places) (state : RemoveFile)
+move-asks : (again : Bool) (refusal : Option Fault) (file to : List ℕ) (m : RemoveFile) (old : removals.Places) (next : Step) (new : removals.Places) (state : RemoveFile)
     → m.deed ≡ Some (Move file to) → state ≡ m → removals.EndsMove again refusal file to m old next new → AskedOf RemovalOn next state
 move-asks true refusal file to m old next new state has same e = deed-again (Move file to) m next state has e.0 same
 move-asks false refusal file to m old next new state has same e = move-leads refusal file to m old next new state e
 
-takes-deed : (deed : Deed) (m : RemoveFile) (sent turn : Turn) (came : Result Reply Fault) (old : Shelf) (next : Next) (new : RemoveFile) (after : Shelf) → m.deed ≡ Some deed
+takes-deed : (deed : Deed) (m : RemoveFile) (sent turn : Turn) (came : Result Reply Fault) (old : Shelf) (next : Step) (new : RemoveFile) (after : Shelf) → m.deed ≡ Some deed
     → removals.TakesDeed deed m sent turn came old next new after → AskedOf RemovalOn next new
 takes-deed Look m sent turn came old next new after has t = look-asks (look_again sent turn came old) (found_by came) m turn.room t.heard next new after has t.follows
 takes-deed (Seek file to) m sent turn came old next new after has t =
@@ -487,12 +487,12 @@ takes-deed Remove m sent turn came old next new after has t =
     (changing.answer_of (removals.removed_told came).refusal) next new t.1.next_is
     (subst (λ k. RemovalOn k (removals.call_of m Remove)) (sym t.0) (subst (λ d. DeedAsks d m.walk.spot.dir (removals.call_of m Remove)) (sym has) (deed-on m Remove)))
 
-takes-if : (asked : Bool) (deed : Deed) (m : RemoveFile) (sent turn : Turn) (came : Result Reply Fault) (old : Shelf) (next : Next) (new : RemoveFile) (after : Shelf) → m.deed ≡ Some deed
+takes-if : (asked : Bool) (deed : Deed) (m : RemoveFile) (sent turn : Turn) (came : Result Reply Fault) (old : Shelf) (next : Step) (new : RemoveFile) (after : Shelf) → m.deed ≡ Some deed
     → removals.TakesIf asked deed m sent turn came old next new after → AskedOf RemovalOn next new
 takes-if true deed m sent turn came old next new after has t = takes-deed deed m sent turn came old next new after has t
 takes-if false deed m sent turn came old next new after has t = asked-waits RemovalOn next new t.next_is
 
-remove-took : (deed : Option Deed) (m : RemoveFile) (sent turn : Turn) (came : Result Reply Fault) (old : Shelf) (next : Next) (new : RemoveFile) (after : Shelf) → m.deed ≡ deed
+remove-took : (deed : Option Deed) (m : RemoveFile) (sent turn : Turn) (came : Result Reply Fault) (old : Shelf) (next : Step) (new : RemoveFile) (after : Shelf) → m.deed ≡ deed
     → removals.Takes deed m sent turn came old next new after → AskedOf RemovalOn next new
 remove-took (Some deed) m sent turn came old next new after has t = takes-if m.asked deed m sent turn came old next new after has t
 remove-took None m sent turn came old next new after none t =
@@ -504,26 +504,26 @@ deeds-on : (deed : DirDeed) (name : List ℕ) → OnIts (deed_call deed name)
 deeds-on deeds.Make name d = refl
 deeds-on deeds.Remove name d = refl
 
-visit-name : (with_visit : Visit → NameMachine) (next : Next) (visit : Visit) (new : NameMachine) → ((v : Visit) (call : Call) → VisitOn v call → NameAsks (with_visit v) call)
+visit-name : (with_visit : Visit → NameMachine) (next : Step) (visit : Visit) (new : NameMachine) → ((v : Visit) (call : Call) → VisitOn v call → NameAsks (with_visit v) call)
     → new ≡ with_visit visit → AskedOf VisitOn next visit → AskedOf NameAsks next new
 visit-name with_visit next visit new on is a =
     subst (λ k. AskedOf NameAsks next k) (sym is) (asked-for VisitOn NameAsks next visit (with_visit visit) (λ call. on visit call) a)
 
-pair-name : (with_pair : Pair → NameMachine) (next : Next) (pair : Pair) (new : NameMachine) → ((p : Pair) (call : Call) → PairOn p call → NameAsks (with_pair p) call)
+pair-name : (with_pair : Pair → NameMachine) (next : Step) (pair : Pair) (new : NameMachine) → ((p : Pair) (call : Call) → PairOn p call → NameAsks (with_pair p) call)
     → new ≡ with_pair pair → AskedOf PairOn next pair → AskedOf NameAsks next new
 pair-name with_pair next pair new on is a =
     subst (λ k. AskedOf NameAsks next k) (sym is) (asked-for PairOn NameAsks next pair (with_pair pair) (λ call. on pair call) a)
 
-stat-name : (next : Next) (m : Stat) (new : NameMachine) → new ≡ machines.Stat m → AskedOf StatOn next m → AskedOf NameAsks next new
+stat-name : (next : Step) (m : Stat) (new : NameMachine) → new ≡ machines.Stat m → AskedOf StatOn next m → AskedOf NameAsks next new
 stat-name next m new is a = subst (λ k. AskedOf NameAsks next k) (sym is) (asked-for StatOn NameAsks next m (machines.Stat m) (λ call on. on) a)
 
-remove-name : (next : Next) (m : RemoveFile) (new : NameMachine) → new ≡ machines.Remove m → AskedOf RemovalOn next m → AskedOf NameAsks next new
+remove-name : (next : Step) (m : RemoveFile) (new : NameMachine) → new ≡ machines.Remove m → AskedOf RemovalOn next m → AskedOf NameAsks next new
 remove-name next m new is a = subst (λ k. AskedOf NameAsks next k) (sym is) (asked-for RemovalOn NameAsks next m (machines.Remove m) (λ call on. on) a)
 
-list-name : (next : Next) (m : ListDir) (new : NameMachine) → new ≡ machines.List m → AskedOf ListOn next m → AskedOf NameAsks next new
+list-name : (next : Step) (m : ListDir) (new : NameMachine) → new ≡ machines.List m → AskedOf ListOn next m → AskedOf NameAsks next new
 list-name next m new is a = subst (λ k. AskedOf NameAsks next k) (sym is) (asked-for ListOn NameAsks next m (machines.List m) (λ call on. on) a)
 
-pub name-goes-asked : (m : NameMachine) (turn : Turn) (old : Shelf) (next : Next) (new : NameMachine) (after : Shelf) → steps.NameGoes m turn old next new after → AskedOf NameAsks next new
+pub name-goes-asked : (m : NameMachine) (turn : Turn) (old : Shelf) (next : Step) (new : NameMachine) (after : Shelf) → steps.NameGoes m turn old next new after → AskedOf NameAsks next new
 name-goes-asked (machines.Change m) turn old next new after s =
     visit-name (steps.change_with m) next (visiting.visit_after m.visit turn old) new (λ v call on. on) s.machine_is
     (visit-asks (deed_call m.deed m.name) m.visit turn old next _ (deeds-on m.deed m.name) s.next_is refl)
@@ -549,7 +549,7 @@ name-goes-asked (machines.List m) turn old next new after s =
     visit-name (steps.list_with m) next (visiting.visit_after m.visit turn old) new (λ v call on. on) s.machine_is
     (visit-asks (listing.page_call m.place) m.visit turn old next _ (λ d. refl) s.next_is refl)
 
-pub name-takes-asked : (m : NameMachine) (sent turn : Turn) (came : Result Reply Fault) (old : Shelf) (next : Next) (new : NameMachine) (after : Shelf)
+pub name-takes-asked : (m : NameMachine) (sent turn : Turn) (came : Result Reply Fault) (old : Shelf) (next : Step) (new : NameMachine) (after : Shelf)
     → steps.NameTakes m sent turn came old next new after → AskedOf NameAsks next new
 name-takes-asked (machines.Change m) sent turn came old next new after t =
     visit-name (steps.change_with m) next t.visit new (λ v call on. on) t.machine_is

@@ -1,5 +1,5 @@
 -- Each name that is kept was answered by a LOOKUP, and stands while its directory keeps the stamp.
-use Rattle.core_answers.proofs.Prelude.{◌≡◌, ℕ, List, [], ◌∷◌, ◌++◌, length, Some, Result, refl, sym, ap, subst, arith, All-nil, stamp_of, Lookup, Fault, Entry, Call, Reply, History, Lawful, Heard-wide, Next, Send, Wait, Done, machine_of, Machine, View, in_flight, Reaches, Awaits, awaits-laws, all-starts, all-resumes, all-takes, Told, reached-rows, AskedOf, KeptOf, IsAnswered}
+use Rattle.core_answers.proofs.Prelude.{◌≡◌, ℕ, List, [], ◌∷◌, ◌++◌, length, Some, Result, refl, sym, ap, subst, arith, All-nil, stamp_of, Lookup, Fault, Entry, Call, Reply, History, Lawful, Heard-wide, Step, Send, Wait, Done, machine_of, Machine, View, in_flight, Reaches, Awaits, awaits-laws, all-starts, all-resumes, all-takes, Told, reached-rows, AskedOf, KeptOf, IsAnswered}
 use Rattle.core_facts.proofs.NamesKept.{CallTells}
 use Rattle.name_cache.specs.declared.entry.KeptName.{KeptName}
 use Rattle.name_cache.specs.declared.entry.Place.{Place}
@@ -18,7 +18,7 @@ use Rattle.core_answers.proofs.engine.Told.{AskLaws, IsTold, ShelfLaws}
 
 -- ---- for which call an operation waits
 
-awaits-kept : (others : ℕ) (m : Machine) (next : Next) (new : Machine) → AskedOf Awaits next new × KeptOf Awaits others m next new → Asking Awaits (Awaits m) others next new
+awaits-kept : (others : ℕ) (m : Machine) (next : Step) (new : Machine) → AskedOf Awaits next new × KeptOf Awaits others m next new → Asking Awaits (Awaits m) others next new
 awaits-kept others m (Send call) new a = record { asked = a.0; kept = a.1 }
 awaits-kept others m Wait new a = record { asked = a.0; kept = a.1 }
 awaits-kept others m (Done answer) new a = record { asked = a.0; kept = a.1 }

@@ -1,5 +1,5 @@
 -- A stat's path leads to the object whose attributes it shows.
-use Rattle.core_answers.proofs.Prelude.{◌≡◌, ◌<◌, ◌≤◌, ℕ, suc, Bool, true, false, List, [], ◌∷◌, ◌++◌, length, Option, Some, None, Result, Ok, Err, refl, sym, ap, subst, ◌∙◌, arith, if◌then◌else◌, Attr, stamp_of, Lookup, FileKept, Answer, Fault, Entry, Began, Executed, Call, Reply, Op, Fresh, History, Lawful, of_object, At-below, length_last, fails_busy, goes_again, Next, Shelf, Turn, Stat, WalkNext, shown_answer, machine_of, Mounted, Machine, NameMachine, Starts, Resumes, Takes, State, Busy, Over, Awaits, WalkAwaits, WalkStep, OwnOr, go-step, took-step, Told, reached-rows, AskedOf, ThenOf, Numbered, IsRecent, own, ShownRecently, time_next, IsAnswered}
+use Rattle.core_answers.proofs.Prelude.{◌≡◌, ◌<◌, ◌≤◌, ℕ, suc, Bool, true, false, List, [], ◌∷◌, ◌++◌, length, Option, Some, None, Result, Ok, Err, refl, sym, ap, subst, ◌∙◌, arith, if◌then◌else◌, Attr, stamp_of, Lookup, FileKept, Answer, Fault, Entry, Began, Executed, Call, Reply, Op, Fresh, History, Lawful, of_object, At-below, length_last, fails_busy, goes_again, Step, Shelf, Turn, Stat, WalkStep, shown_answer, machine_of, Mounted, Machine, NameMachine, Starts, Resumes, Takes, State, Busy, Over, Awaits, WalkAwaits, WalkMoves, OwnOr, go-step, took-step, Told, reached-rows, AskedOf, ThenOf, Numbered, IsRecent, own, ShownRecently, time_next, IsAnswered}
 use Rattle.attr_cache.specs.Attrs as attrs
 use Rattle.nfs_file_calls.specs.declared.owned.FileKept.TheVariants as kept
 use Rattle.world_model.specs.declared.answer.Answer.TheVariants as answers
@@ -8,8 +8,8 @@ use Rattle.world_model.specs.declared.entry.Entry.TheVariants.{Answered as Answe
 use Rattle.world_model.specs.declared.message.Reply.TheVariants as replies
 use Rattle.world_model.specs.declared.op.Op.TheVariants as ops
 use Rattle.world_model.proofs.Doing.{lookup_done}
-use Rattle.client_shelf.specs.declared.next.Next.TheVariants as nexts
-use Rattle.name_ops.specs.declared.walk.WalkNext.TheVariants as walks
+use Rattle.client_shelf.specs.declared.step.Step.TheVariants as nexts
+use Rattle.name_ops.specs.declared.walk.WalkStep.TheVariants as walks
 use Rattle.name_ops.specs.Looking.{look_up}
 use Rattle.name_ops.specs.Stat as stats
 use Rattle.name_ops.specs.Walking as walking
@@ -37,12 +37,12 @@ use Rattle.core_answers.proofs.bonds.Walked.{StepBy, looked, believed_so, LedBy,
 abbrev pub Both : Machine → Call → Type 0
 Both m c = Asks m c × Awaits m c
 
-both-asked : (next : Next) (new : Machine) → AskedOf Asks next new → AskedOf Awaits next new → AskedOf Both next new
+both-asked : (next : Step) (new : Machine) → AskedOf Asks next new → AskedOf Awaits next new → AskedOf Both next new
 both-asked (nexts.Send call) new a b = (a, b)
 both-asked nexts.Wait new a b = tt
 both-asked (nexts.Done answer) new a b = tt
 
-both-asking : (others : ℕ) (m : Machine) (next : Next) (new : Machine) → Asking Asks (Asks m) others next new → Asking Awaits (Awaits m) others next new → Asking Both (Both m) others next new
+both-asking : (others : ℕ) (m : Machine) (next : Step) (new : Machine) → Asking Asks (Asks m) others next new → Asking Awaits (Awaits m) others next new → Asking Both (Both m) others next new
 both-asking others m (nexts.Send call) new a b = record { asked = (a.asked, b.asked); kept = λ some c on. (a.kept some c on.0, b.kept some c on.1) }
 both-asking others m nexts.Wait new a b = record { asked = tt; kept = λ some c on. (a.kept some c on.0, b.kept some c on.1) }
 both-asking others m (nexts.Done answer) new a b = record { asked = tt; kept = tt }
@@ -103,7 +103,7 @@ module _ (most : ℕ) (top : List ℕ) where
   -- ---- one step
 
   module _ (h : List Entry) (x : ℕ) (within : x < length h) (path : List (List ℕ)) where
-    abbrev Goes : Next → Stat → Type 0
+    abbrev Goes : Step → Stat → Type 0
     Goes next new = ThenOf (λ k. IsStat h x path (machines.Name (names.Stat k))) (Answered h x path) next new
 
     going : (m : Stat) → WalkAt most top h x path m.walk → (m.asked ≡ true → walking.next_name m.walk ≡ None) → IsStat h x path (machines.Name (names.Stat m))
@@ -112,7 +112,7 @@ module _ (most : ℕ) (top : List ℕ) where
     idle : (m : Stat) → m.asked ≡ false → m.asked ≡ true → walking.next_name m.walk ≡ None
     idle m unasked asked_now = absurd (let no_way : false ≡ true = sym unasked ∙ asked_now in cc)
 
-    goes-as : (to next : Next) (state new : Stat) → next ≡ to → new ≡ state → Goes to state → Goes next new
+    goes-as : (to next : Step) (state new : Stat) → next ≡ to → new ≡ state → Goes to state → Goes next new
     goes-as to next state new is at g = subst (λ n. Goes n new) (sym is) (subst (λ s. Goes to s) (sym at) g)
 
     ask-goes : (known : Option Attr) (object : List ℕ) (room : Bool) (m : Stat) → WalkAt most top h x path m.walk → m.asked ≡ false → object ≡ m.walk.spot.dir
@@ -128,8 +128,8 @@ module _ (most : ℕ) (top : List ℕ) where
     ask-goes None object true m l unasked at none shown = going (record m { asked = true }) l (λ asked_now. none)
     ask-goes None object false m l unasked at none shown = going m l (idle m unasked)
 
-    follow-goes : (step : WalkNext) (turn : Turn) (c : attrs.Attrs) (m : Stat) → Good (ShownIn h) most c → IsLate h x turn.now → WalkAt most top h x path m.walk → m.asked ≡ false
-        → WalkStep step m.walk → Goes (stats.follow_next step turn c) (stats.follow_after step turn c m)
+    follow-goes : (step : WalkStep) (turn : Turn) (c : attrs.Attrs) (m : Stat) → Good (ShownIn h) most c → IsLate h x turn.now → WalkAt most top h x path m.walk → m.asked ≡ false
+        → WalkMoves step m.walk → Goes (stats.follow_next step turn c) (stats.follow_after step turn c m)
     follow-goes (walks.Send call) turn c m g late l unasked s = going m l (idle m unasked)
     follow-goes walks.Wait turn c m g late l unasked s = going m l (idle m unasked)
     follow-goes (walks.At object) turn c m g late l unasked s =
@@ -144,12 +144,12 @@ module _ (most : ℕ) (top : List ℕ) where
         follow-goes (walking.go_next m.walk turn old) turn old.attrs (record m { walk = walking.go_after m.walk turn old }) k.0 late
         (go-led most top h x within path m.walk turn old k.0 late k.1 l) unasked (go-step m.walk turn old)
 
-    name-of : (n : Next) (k : Stat) → Goes n k → ThenOf (λ z. IsStat h x path (machines.Name z)) (Answered h x path) n (names.Stat k)
+    name-of : (n : Step) (k : Stat) → Goes n k → ThenOf (λ z. IsStat h x path (machines.Name z)) (Answered h x path) n (names.Stat k)
     name-of (nexts.Send call) k g = g
     name-of nexts.Wait k g = g
     name-of (nexts.Done answer) k g = g
 
-    stat-goes : (m : Stat) (turn : Turn) (old : Shelf) (next : Next) (new : NameMachine) (after : Shelf) → Kept most h old → IsLate h x turn.now → WalkAt most top h x path m.walk
+    stat-goes : (m : Stat) (turn : Turn) (old : Shelf) (next : Step) (new : NameMachine) (after : Shelf) → Kept most h old → IsLate h x turn.now → WalkAt most top h x path m.walk
         → (m.asked ≡ true → walking.next_name m.walk ≡ None) → steps.StatGoes m turn old next new after → ThenOf (λ z. IsStat h x path (machines.Name z)) (Answered h x path) next new
     stat-goes m turn old next new after k late l whole s =
         subst (λ n. ThenOf (λ z. IsStat h x path (machines.Name z)) (Answered h x path) n new) (sym s.next_is)
@@ -183,12 +183,12 @@ module _ (most : ℕ) (top : List ℕ) where
     told-led (Ok (replies.Mount k)) dir call ms on led told = λ a is. absurd cc
     told-led (Err fault) dir call ms on led told = λ a is. absurd cc
 
-    shows-goes : (again : Bool) (call : Call) (answer : Answer) (next : Next) (m new : Stat) → next ≡ (if again then nexts.Send call else nexts.Done answer) → new ≡ m
+    shows-goes : (again : Bool) (call : Call) (answer : Answer) (next : Step) (m new : Stat) → next ≡ (if again then nexts.Send call else nexts.Done answer) → new ≡ m
         → IsStat h x path (machines.Name (names.Stat m)) → Answered h x path answer → Goes next new
     shows-goes true call answer next m new is at going_on a = goes-as (nexts.Send call) next m new is at going_on
     shows-goes false call answer next m new is at going_on a = goes-as (nexts.Done answer) next m new is at a
 
-    stat-takes : (asked : Bool) (m : Stat) (call : Call) (sent turn : Turn) (came : Result Reply Fault) (old : Shelf) (next : Next) (new : Stat) (after : Shelf)
+    stat-takes : (asked : Bool) (m : Stat) (call : Call) (sent turn : Turn) (came : Result Reply Fault) (old : Shelf) (next : Step) (new : Stat) (after : Shelf)
         → m.asked ≡ asked → Kept most h old → Kept most h after → IsLate h x turn.now → WalkAt most top h x path m.walk → (m.asked ≡ true → walking.next_name m.walk ≡ None)
         → IsOn m.walk.spot.dir call → OwnOr m.asked stats.get_attr m.walk call → ((reply : Reply) → came ≡ Ok reply → ToldSince h x call sent.now reply)
         → stats.StatTakes asked m sent turn came old next new after → Goes next new
@@ -205,19 +205,19 @@ module _ (most : ℕ) (top : List ℕ) where
 
     -- ---- as steps of the machine
 
-    then-story : (op : Op) (next : Next) (new : Machine) → ((p : List (List ℕ)) → op ≡ ops.Stat p → ThenOf (IsStat h x p) (Answered h x p) next new)
+    then-story : (op : Op) (next : Step) (new : Machine) → ((p : List (List ℕ)) → op ≡ ops.Stat p → ThenOf (IsStat h x p) (Answered h x p) next new)
         → ThenOf (λ k. StatStory h x op (Busy k)) (λ a. StatStory h x op (Over a)) next new
     then-story op (nexts.Send call) new g = λ p is. g p is
     then-story op nexts.Wait new g = λ p is. g p is
     then-story op (nexts.Done answer) new g = λ p is. g p is
 
-    named : (next : Next) (machine : NameMachine) (new : Machine) → new ≡ machines.Name machine → ThenOf (λ z. IsStat h x path (machines.Name z)) (Answered h x path) next machine
+    named : (next : Step) (machine : NameMachine) (new : Machine) → new ≡ machines.Name machine → ThenOf (λ z. IsStat h x path (machines.Name z)) (Answered h x path) next machine
         → ThenOf (IsStat h x path) (Answered h x path) next new
     named (nexts.Send call) machine new is g = subst (IsStat h x path) (sym is) g
     named nexts.Wait machine new is g = subst (IsStat h x path) (sym is) g
     named (nexts.Done answer) machine new is g = g
 
-    stat-of : (next : Next) (m : Stat) (new : NameMachine) → new ≡ names.Stat m → Goes next m → ThenOf (λ z. IsStat h x path (machines.Name z)) (Answered h x path) next new
+    stat-of : (next : Step) (m : Stat) (new : NameMachine) → new ≡ names.Stat m → Goes next m → ThenOf (λ z. IsStat h x path (machines.Name z)) (Answered h x path) next new
     stat-of (nexts.Send call) m new is g = subst (λ z. IsStat h x path (machines.Name z)) (sym is) g
     stat-of nexts.Wait m new is g = subst (λ z. IsStat h x path (machines.Name z)) (sym is) g
     stat-of (nexts.Done answer) m new is g = g

@@ -1,5 +1,5 @@
 -- The attributes that a stat shows were shown by a reply, and are recent.
-use Rattle.core_answers.proofs.Prelude.{◌≡◌, ◌<◌, ◌≤◌, ◌+◌, ℕ, Bool, true, false, List, [], ◌∷◌, ◌++◌, length, Option, Some, None, Result, Ok, Err, refl, sym, ap, subst, ◌∙◌, arith, if◌then◌else◌, Attr, FileKept, Answer, Fault, Entry, Began, Call, Reply, Op, of_object, length_last, fails_busy, goes_again, Next, Shelf, Turn, Stat, WalkNext, shown_answer, machine_of, Mounted, Machine, NameMachine, Starts, Resumes, Takes, State, Busy, Over, ThenOf, IsRecent, own, ShownRecently, time_next}
+use Rattle.core_answers.proofs.Prelude.{◌≡◌, ◌<◌, ◌≤◌, ◌+◌, ℕ, Bool, true, false, List, [], ◌∷◌, ◌++◌, length, Option, Some, None, Result, Ok, Err, refl, sym, ap, subst, ◌∙◌, arith, if◌then◌else◌, Attr, FileKept, Answer, Fault, Entry, Began, Call, Reply, Op, of_object, length_last, fails_busy, goes_again, Step, Shelf, Turn, Stat, WalkStep, shown_answer, machine_of, Mounted, Machine, NameMachine, Starts, Resumes, Takes, State, Busy, Over, ThenOf, IsRecent, own, ShownRecently, time_next}
 use Rattle.claims.specs.Shown.{ShowsAttr}
 use Rattle.core_answers.specs.bonds.Ages.{young, StatsRecent}
 use Rattle.attr_cache.specs.Attrs as attrs
@@ -9,8 +9,8 @@ use Rattle.world_model.specs.declared.answer.Answer.TheVariants as answers
 use Rattle.world_model.specs.declared.answer.Value.TheVariants.{Attrs}
 use Rattle.world_model.specs.declared.message.Reply.TheVariants as replies
 use Rattle.world_model.specs.declared.op.Op.TheVariants as ops
-use Rattle.client_shelf.specs.declared.next.Next.TheVariants as nexts
-use Rattle.name_ops.specs.declared.walk.WalkNext.TheVariants as walks
+use Rattle.client_shelf.specs.declared.step.Step.TheVariants as nexts
+use Rattle.name_ops.specs.declared.walk.WalkStep.TheVariants as walks
 use Rattle.name_ops.specs.Stat as stats
 use Rattle.name_ops.specs.Walking as walking
 use Rattle.op_machines.specs.declared.machine.Machine.TheVariants as machines
@@ -42,13 +42,13 @@ StatStory most h x op state = (path : List (List ℕ)) → op ≡ ops.Stat path 
 -- ---- one step
 
 module _ (most : ℕ) (h : List Entry) (x : ℕ) (within : x < length h) where
-  abbrev Goes : Next → Stat → Type 0
+  abbrev Goes : Step → Stat → Type 0
   Goes next new = ThenOf (λ k. IsStat (machines.Name (names.Stat k))) (Answered most h x) next new
 
   going : (m : Stat) → IsStat (machines.Name (names.Stat m))
   going m = record { m = m; is = refl }
 
-  goes-as : (to next : Next) (state new : Stat) → next ≡ to → new ≡ state → Goes to state → Goes next new
+  goes-as : (to next : Step) (state new : Stat) → next ≡ to → new ≡ state → Goes to state → Goes next new
   goes-as to next state new is at g = subst (λ n. Goes n new) (sym is) (subst (λ s. Goes to s) (sym at) g)
 
   pub same-attrs : (a b : Attr) → answers.Done (Attrs a) ≡ answers.Done (Attrs b) → a ≡ b
@@ -84,7 +84,7 @@ module _ (most : ℕ) (h : List Entry) (x : ℕ) (within : x < length h) where
   ask-goes None object true m shown = going (record m { asked = true })
   ask-goes None object false m shown = going m
 
-  follow-goes : (step : WalkNext) (turn : Turn) (c : attrs.Attrs) (m : Stat) → Good (ShownIn h) most c → IsLate h x turn.now → Goes (stats.follow_next step turn c) (stats.follow_after step turn c m)
+  follow-goes : (step : WalkStep) (turn : Turn) (c : attrs.Attrs) (m : Stat) → Good (ShownIn h) most c → IsLate h x turn.now → Goes (stats.follow_next step turn c) (stats.follow_after step turn c m)
   follow-goes (walks.Send call) turn c m g late = going m
   follow-goes walks.Wait turn c m g late = going m
   follow-goes (walks.At object) turn c m g late =
@@ -97,14 +97,14 @@ module _ (most : ℕ) (h : List Entry) (x : ℕ) (within : x < length h) where
   stat-if true m turn old g late = going m
   stat-if false m turn old g late = follow-goes (walking.go_next m.walk turn old) turn old.attrs (record m { walk = walking.go_after m.walk turn old }) g late
 
-  stat-goes : (m : Stat) (turn : Turn) (old : Shelf) (next : Next) (new : NameMachine) (after : Shelf) → Good (ShownIn h) most old.attrs → IsLate h x turn.now
+  stat-goes : (m : Stat) (turn : Turn) (old : Shelf) (next : Step) (new : NameMachine) (after : Shelf) → Good (ShownIn h) most old.attrs → IsLate h x turn.now
       → steps.StatGoes m turn old next new after → ThenOf (λ k. IsStat (machines.Name k)) (Answered most h x) next new
   stat-goes m turn old next new after g late s =
       subst (λ n. ThenOf (λ k. IsStat (machines.Name k)) (Answered most h x) n new) (sym s.next_is)
       (subst (λ k. ThenOf (λ k. IsStat (machines.Name k)) (Answered most h x) (stats.stat_next m turn old) k) (sym s.machine_is)
       (name-of (stats.stat_next m turn old) (stats.stat_after m turn old) (stat-if m.asked m turn old g late)))
     where
-      name-of : (n : Next) (k : Stat) → Goes n k → ThenOf (λ k. IsStat (machines.Name k)) (Answered most h x) n (names.Stat k)
+      name-of : (n : Step) (k : Stat) → Goes n k → ThenOf (λ k. IsStat (machines.Name k)) (Answered most h x) n (names.Stat k)
       name-of (nexts.Send call) k g = g
       name-of nexts.Wait k g = g
       name-of (nexts.Done answer) k g = g
@@ -133,12 +133,12 @@ module _ (most : ℕ) (h : List Entry) (x : ℕ) (within : x < length h) where
   told-answered (Ok (replies.Mount k)) dir call ms on told = λ a is. absurd cc
   told-answered (Err fault) dir call ms on told = λ a is. absurd cc
 
-  shows-goes : (again : Bool) (call : Call) (answer : Answer) (next : Next) (m new : Stat) → next ≡ (if again then nexts.Send call else nexts.Done answer) → new ≡ m → Answered most h x answer
+  shows-goes : (again : Bool) (call : Call) (answer : Answer) (next : Step) (m new : Stat) → next ≡ (if again then nexts.Send call else nexts.Done answer) → new ≡ m → Answered most h x answer
       → Goes next new
   shows-goes true call answer next m new is at a = goes-as (nexts.Send call) next m new is at (going m)
   shows-goes false call answer next m new is at a = goes-as (nexts.Done answer) next m new is at a
 
-  stat-takes : (asked : Bool) (m : Stat) (call : Call) (sent turn : Turn) (came : Result Reply Fault) (old : Shelf) (next : Next) (new : Stat) (after : Shelf)
+  stat-takes : (asked : Bool) (m : Stat) (call : Call) (sent turn : Turn) (came : Result Reply Fault) (old : Shelf) (next : Step) (new : Stat) (after : Shelf)
       → Good (ShownIn h) most after.attrs → IsLate h x turn.now → IsOn m.walk.spot.dir call → ((reply : Reply) → came ≡ Ok reply → ToldSince h x call sent.now reply)
       → stats.StatTakes asked m sent turn came old next new after → Goes next new
   stat-takes true m call sent turn came old next new after g late on told t =
@@ -150,19 +150,19 @@ module _ (most : ℕ) (h : List Entry) (x : ℕ) (within : x < length h) where
 
 -- ---- the laws
 
-then-story : (most : ℕ) (h : List Entry) (x : ℕ) (op : Op) (next : Next) (new : Machine) → ((path : List (List ℕ)) → op ≡ ops.Stat path → ThenOf IsStat (Answered most h x) next new)
+then-story : (most : ℕ) (h : List Entry) (x : ℕ) (op : Op) (next : Step) (new : Machine) → ((path : List (List ℕ)) → op ≡ ops.Stat path → ThenOf IsStat (Answered most h x) next new)
     → ThenOf (λ k. StatStory most h x op (Busy k)) (λ a. StatStory most h x op (Over a)) next new
 then-story most h x op (nexts.Send call) new g = λ path is. g path is
 then-story most h x op nexts.Wait new g = λ path is. g path is
 then-story most h x op (nexts.Done answer) new g = λ path is. g path is
 
-named : (most : ℕ) (h : List Entry) (x : ℕ) (next : Next) (machine : NameMachine) (new : Machine) → new ≡ machines.Name machine → ThenOf (λ k. IsStat (machines.Name k)) (Answered most h x) next machine
+named : (most : ℕ) (h : List Entry) (x : ℕ) (next : Step) (machine : NameMachine) (new : Machine) → new ≡ machines.Name machine → ThenOf (λ k. IsStat (machines.Name k)) (Answered most h x) next machine
     → ThenOf IsStat (Answered most h x) next new
 named most h x (nexts.Send call) machine new is g = subst IsStat (sym is) g
 named most h x nexts.Wait machine new is g = subst IsStat (sym is) g
 named most h x (nexts.Done answer) machine new is g = g
 
-stat-of : (most : ℕ) (h : List Entry) (x : ℕ) (next : Next) (m : Stat) (new : NameMachine) → new ≡ names.Stat m → ThenOf (λ k. IsStat (machines.Name (names.Stat k))) (Answered most h x) next m
+stat-of : (most : ℕ) (h : List Entry) (x : ℕ) (next : Step) (m : Stat) (new : NameMachine) → new ≡ names.Stat m → ThenOf (λ k. IsStat (machines.Name (names.Stat k))) (Answered most h x) next m
     → ThenOf (λ k. IsStat (machines.Name k)) (Answered most h x) next new
 stat-of most h x (nexts.Send call) m new is g = subst (λ k. IsStat (machines.Name k)) (sym is) g
 stat-of most h x nexts.Wait m new is g = subst (λ k. IsStat (machines.Name k)) (sym is) g

@@ -1,5 +1,5 @@
 -- A walk goes by replies to its own LOOKUPs, and by names and attributes that are kept: each is recent.
-use Rattle.core_answers.proofs.Prelude.{◌≡◌, ◌<◌, ◌≤◌, ◌-◌, ℕ, zero, suc, Bool, true, false, List, [], ◌∷◌, ◌++◌, length, take, Option, Some, None, Result, Ok, Err, slice_get, refl, sym, ap, subst, ◌∙◌, arith, if◌then◌else◌, Attr, stamp_of, DirKept, Fault, Entry, Call, Reply, Shelf, Turn, Walk, WalkNext, found_by, look_again, walk_of, WalkAwaits, Told, ShownRecently, IsAnswered}
+use Rattle.core_answers.proofs.Prelude.{◌≡◌, ◌<◌, ◌≤◌, ◌-◌, ℕ, zero, suc, Bool, true, false, List, [], ◌∷◌, ◌++◌, length, take, Option, Some, None, Result, Ok, Err, slice_get, refl, sym, ap, subst, ◌∙◌, arith, if◌then◌else◌, Attr, stamp_of, DirKept, Fault, Entry, Call, Reply, Shelf, Turn, Walk, WalkStep, found_by, look_again, walk_of, WalkAwaits, Told, ShownRecently, IsAnswered}
 use Rattle.name_ops.specs.Looking.{look_up}
 use Rattle.core_facts.proofs.NamesKept.{passed-told, looked-told}
 use Rattle.attr_cache.specs.Attrs as attrs
@@ -204,7 +204,7 @@ module _ (most : ℕ) (top : List ℕ) (h : List Entry) (x : ℕ) (within : x < 
   followed-attrs false (Ok found) w turn shelf = refl
   followed-attrs false (Err fault) w turn shelf = refl
 
-  took-name : (path : List (List ℕ)) (o : Option (List ℕ)) (w : Walk) (sent turn : Turn) (came : Result Reply Fault) (old : Shelf) (next : WalkNext) (new : Walk) (after : Shelf) (call : Call)
+  took-name : (path : List (List ℕ)) (o : Option (List ℕ)) (w : Walk) (sent turn : Turn) (came : Result Reply Fault) (old : Shelf) (next : WalkStep) (new : Walk) (after : Shelf) (call : Call)
       → walking.waiting_name w ≡ o → Good (ShownIn h) most after.attrs → IsLate h x turn.now → Told (NamedIn h) old.names → WalkLed path w → WalkAwaits w call → IsHeard came call sent.now
       → walking.Takes o w sent turn came old next new after → WalkLed path new
   took-name path None w sent turn came old next new after call is g late t l e heard k = subst (WalkLed path) (sym k.walk_is) l
@@ -218,7 +218,7 @@ module _ (most : ℕ) (top : List ℕ) (h : List Entry) (x : ℕ) (within : x < 
       (followed-led (look_again sent turn came old) path w name sent.now came turn k.heard (subst (Good (ShownIn h) most) attrs_are g) late known l (name-of w.asked w name is)
       (subst (λ (c : Call). IsHeard came c sent.now) this heard))
 
-  pub took-led : (path : List (List ℕ)) (w : Walk) (sent turn : Turn) (came : Result Reply Fault) (old : Shelf) (next : WalkNext) (new : Walk) (after : Shelf) (call : Call)
+  pub took-led : (path : List (List ℕ)) (w : Walk) (sent turn : Turn) (came : Result Reply Fault) (old : Shelf) (next : WalkStep) (new : Walk) (after : Shelf) (call : Call)
       → Good (ShownIn h) most after.attrs → IsLate h x turn.now → Told (NamedIn h) old.names → WalkLed path w → WalkAwaits w call → IsHeard came call sent.now
       → walking.Takes (walking.waiting_name w) w sent turn came old next new after → WalkLed path new
   took-led path w sent turn came old next new after call g late t l e heard k =

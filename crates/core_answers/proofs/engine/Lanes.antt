@@ -1,7 +1,7 @@
 -- What the steps of operations keep of the shelf, and of themselves, holds along a history, with what is known of each view through which the core passes, and
 -- how the session goes on from there: what they take is the last record that came, and answers the call that they wait for, which was first sent at a place
 -- that the operation knows, or after it; where that is a WRITE, what is in flight under its xid is what it writes.
-use Rattle.core_answers.proofs.Prelude.{HadStory, ◌≡◌, ◌≢◌, ◌<◌, ◌≤◌, ◌+◌, ◌-◌, ◌⊎◌, inl, inr, ℕ, List, [], ◌∷◌, ◌++◌, length, take, map, max, Bool, true, false, nat_eq, Option, Some, None, option_map, MatchOption, position, slice_get, slice_set, Ok, Err, refl, sym, ap, subst, ◌∙◌, arith, eqb-true, eq-eqb, xid_at, Waiting, failed_after, next_xid, WaitedAs, made_call, waiting_at, without, at_made, others_made, others_taken, gone, before_sent, before_failed, Refused, Answer, Entry, Began, Answered, Dialed, Executed, Foreign, Flushed, Reboot, Delivered, Failed, Clock, Call, Reply, Op, At, IsLost, Ended, UnderWay, SpellsCall, SpellsCallBy, HasXid, proc_of, At-grow, At-below, At-back, At-last, At-cases, length_last, said_of, Next, Send, Wait, Done, Shelf, machine_of, Mounted, Machine, Lane, Purpose, State, Busy, Over, Setup, IsFresh, is_busy, numbers_of, with_state, record_of, Makes, IsRefused, Leads, Stirs, Moves, moves_none, moves_more, counted, BeginsIf, TakesAt, View, turn_at, unmade_turn, in_flight, Counts, calls_for, StepsTo, Reaches, begins, goes, loses, last_reading, IsMade, IsOutstanding, counts-calls, begins-unbegun, Heard, dropped, replied, sent_now, FailedNow, goes_on, gives_up, failed_now, answered_now, taken_one, calls-some, stirs-count, starts-count, hears-count, reached-count, Flown, keeps-flown, LanesKnown, quiet-facts, lanes-stay, lanes-begin, lanes-under-way, at-set, at-push, get-push, get-remove, skip, Rows, rows-stay, same-rows, rows-grow, silent-grow, taken-quiet, not-sent, taken-rows, made-known, made-asked, reached-rows, AskedOf, ThenOf, stirs-stay, starts-stay, steps-stay, HadShown, time_next, IsDelivered, set-other, by-place, Passes}
+use Rattle.core_answers.proofs.Prelude.{HadStory, ◌≡◌, ◌≢◌, ◌<◌, ◌≤◌, ◌+◌, ◌-◌, ◌⊎◌, inl, inr, ℕ, List, [], ◌∷◌, ◌++◌, length, take, map, max, Bool, true, false, nat_eq, Option, Some, None, option_map, MatchOption, position, slice_get, slice_set, Ok, Err, refl, sym, ap, subst, ◌∙◌, arith, eqb-true, eq-eqb, xid_at, Waiting, failed_after, next_xid, WaitedAs, made_call, waiting_at, without, at_made, others_made, others_taken, gone, before_sent, before_failed, Refused, Answer, Entry, Began, Answered, Dialed, Executed, Foreign, Flushed, Reboot, Delivered, Failed, Clock, Call, Reply, Op, At, IsLost, Ended, UnderWay, SpellsCall, SpellsCallBy, HasXid, proc_of, At-grow, At-below, At-back, At-last, At-cases, length_last, said_of, Step, Send, Wait, Done, Shelf, machine_of, Mounted, Machine, Lane, Purpose, State, Busy, Over, Setup, IsFresh, is_busy, numbers_of, with_state, record_of, Makes, IsRefused, Leads, Stirs, Moves, moves_none, moves_more, counted, BeginsIf, TakesAt, View, turn_at, unmade_turn, in_flight, Counts, calls_for, StepsTo, Reaches, begins, goes, loses, last_reading, IsMade, IsOutstanding, counts-calls, begins-unbegun, Heard, dropped, replied, sent_now, FailedNow, goes_on, gives_up, failed_now, answered_now, taken_one, calls-some, stirs-count, starts-count, hears-count, reached-count, Flown, keeps-flown, LanesKnown, quiet-facts, lanes-stay, lanes-begin, lanes-under-way, at-set, at-push, get-push, get-remove, skip, Rows, rows-stay, same-rows, rows-grow, silent-grow, taken-quiet, not-sent, taken-rows, made-known, made-asked, reached-rows, AskedOf, ThenOf, stirs-stay, starts-stay, steps-stay, HadShown, time_next, IsDelivered, set-other, by-place, Passes}
 use Rattle.core_facts.proofs.Answered.{answered-story}
 use Rattle.std.proofs.Common.{append-nil}
 use Rattle.rpc_retry.specs.Held.{Held}
@@ -105,7 +105,7 @@ module _ (m : Mounted) (setup : Setup) (A : List Entry → View → Type 0) (kee
   moved-back h _ _ (moves_more old mid new at k room t first) g = moved-back h old mid k (back.stirs h mid new at t g)
 
   -- The machine of the lane at a place made a step, and what that leads to is still to come.
-  pub record Owing (h : List Entry) (v : View) (at number others : ℕ) (machine : Machine) (next : Next) : Type 0 where
+  pub record Owing (h : List Entry) (v : View) (at number others : ℕ) (machine : Machine) (next : Step) : Type 0 where
     pub there : slice_get v.lanes at ≡ Some (record { number = number; state = Busy machine })
     pub rest : (k : ℕ) (lane : Lane) → slice_get v.lanes k ≡ Some lane → k ≢ at → LaneGood h v.calls.calls lane
     pub calls : calls_for number v.calls.calls ≡ others
@@ -171,7 +171,7 @@ module _ (m : Mounted) (setup : Setup) (A : List Entry → View → Type 0) (kee
   made-held h v number call new k r lane x op machine held =
       record { place = held.place; within = held.within; story = held.story; sent = made-after h v number call new k r lane held.place held.sent }
 
-  abbrev DidFrom : List Entry → ℕ → ℕ → ℕ → Op → Next → Machine → Shelf → Type 0
+  abbrev DidFrom : List Entry → ℕ → ℕ → ℕ → Op → Step → Machine → Shelf → Type 0
   DidFrom h others was x op next new after = Did K (λ k. FromPlace h others was (λ n. B h n x op k)) (O h x op) h next new after
 
   -- what a step leaves, with the calls that wait
@@ -186,14 +186,14 @@ module _ (m : Mounted) (setup : Setup) (A : List Entry → View → Type 0) (kee
           let all = ap (λ (n : ℕ). calls_for n calls) same ∙ count in
           absurd (omega (arith, some, all, none))
 
-  then-held : (h : List Entry) (calls : List (ℕ × Waiting Purpose)) (number x : ℕ) (op : Op) (others was : ℕ) (next : Next) (machine : Machine) → calls_for number calls ≡ others
+  then-held : (h : List Entry) (calls : List (ℕ × Waiting Purpose)) (number x : ℕ) (op : Op) (others was : ℕ) (next : Step) (machine : Machine) → calls_for number calls ≡ others
       → AllAfter h calls number was → ThenOf (λ k. FromPlace h others was (λ n. B h n x op k)) (O h x op) next machine → ThenOf (IsHeld h calls number x op) (O h x op) next machine
   then-held h calls number x op others was (Send call) machine count sent t = place-held h calls number x op others was machine count sent t
   then-held h calls number x op others was Wait machine count sent t = place-held h calls number x op others was machine count sent t
   then-held h calls number x op others was (Done answer) machine count sent t = t
 
   -- with the place as it was
-  then-same : (h : List Entry) (calls : List (ℕ × Waiting Purpose)) (number x : ℕ) (op : Op) (place : ℕ) (next : Next) (machine : Machine) → place ≤ length h
+  then-same : (h : List Entry) (calls : List (ℕ × Waiting Purpose)) (number x : ℕ) (op : Op) (place : ℕ) (next : Step) (machine : Machine) → place ≤ length h
       → AllAfter h calls number place → ThenOf (B h place x op) (O h x op) next machine → ThenOf (IsHeld h calls number x op) (O h x op) next machine
   then-same h calls number x op place (Send call) machine within sent t = record { place = place; within = within; story = t; sent = sent }
   then-same h calls number x op place Wait machine within sent t = record { place = place; within = within; story = t; sent = sent }
@@ -202,7 +202,7 @@ module _ (m : Mounted) (setup : Setup) (A : List Entry → View → Type 0) (kee
   no-room : (xid : ℕ) (v : View) → IsForeign xid (unmade_turn v).xid (unmade_turn v).room
   no-room xid v yes_ = absurd (let no_way : false ≡ true = yes_ in cc)
 
-  leads-known : (h : List Entry) (v new : View) (at number others : ℕ) (machine : Machine) (next : Next) → LanesKnown h v → Rows setup h v → Owing h v at number others machine next
+  leads-known : (h : List Entry) (v new : View) (at number others : ℕ) (machine : Machine) (next : Step) → LanesKnown h v → Rows setup h v → Owing h v at number others machine next
       → Leads v at number machine next new → Known h new
   leads-known h v new at number others machine (Send call) lanes r o (inl k) = subst (Known h) (sym k.is) (record {
     lanes =
@@ -256,7 +256,7 @@ module _ (m : Mounted) (setup : Setup) (A : List Entry → View → Type 0) (kee
           let held = o.told x op u in
           then-held h v.calls.calls number x op others held.place f.next f.after o.calls held.sent (did x op u).then_
 
-      by : (next : Next) (state : State) → IsRefused f.after next state → Keeps E (E machine) others next f.after
+      by : (next : Step) (state : State) → IsRefused f.after next state → Keeps E (E machine) others next f.after
           → ((x : ℕ) (op : Op) → UnderWay h number x (length h) op → ThenOf (IsHeld h v.calls.calls number x op) (O h x op) next f.after)
           → AllGood h (with_state v at number state f.left)
       by (Send again) state is k t = absurd is
@@ -281,7 +281,7 @@ module _ (m : Mounted) (setup : Setup) (A : List Entry → View → Type 0) (kee
       subst (Known h) (sym is) (record { lanes = good-set h v at number machine (Over answer) v.shelf o.there o.rest (tt, o.told); kept = o.kept; late = o.late; called = o.called })
 
   -- what it waits for after the step, as long as it goes on
-  going-own : (next : Next) (calls : List (ℕ × Waiting Purpose)) (number others : ℕ) (machine after : Machine) → calls_for number calls ≡ others
+  going-own : (next : Step) (calls : List (ℕ × Waiting Purpose)) (number others : ℕ) (machine after : Machine) → calls_for number calls ≡ others
       → StateAsks calls number (Busy machine) → Keeps E (E machine) others next after → Going next (StateAsks calls number (Busy after))
   going-own (Send call) calls number others machine after count own k = λ xid w waits same.
       let e = own xid w waits same in
@@ -516,7 +516,7 @@ module _ (m : Mounted) (setup : Setup) (A : List Entry → View → Type 0) (kee
       none : calls_for lane old.calls.calls ≡ 0
       none = counts-old.counted lane ∙ known-none lane old.lanes (λ k l there same. idle-numbers lane (numbers_of old.lanes) t.idle.other k (to-map number_of old.lanes k l there ∙ ap Some same))
 
-      own-calls : (next : Next) (after : Machine) → Going next (StateAsks old.calls.calls lane (Busy after))
+      own-calls : (next : Step) (after : Machine) → Going next (StateAsks old.calls.calls lane (Busy after))
       own-calls (Send call) after = λ xid w waits same. absurd (none-idle old lane xid w t.idle.other counts-old.counted waits same)
       own-calls Wait after = λ xid w waits same. absurd (none-idle old lane xid w t.idle.other counts-old.counted waits same)
       own-calls (Done answer) after = tt

@@ -1,5 +1,5 @@
 -- The laws of facts that the steps of operations keep, with what is known of each step.
-use Rattle.core_answers.proofs.Prelude.{◌≡◌, ◌<◌, ◌≤◌, ◌+◌, ◌-◌, ◌⊎◌, inl, ℕ, List, [], ◌∷◌, ◌++◌, length, false, Some, position, slice_get, Result, Ok, arith, xid_at, Waiting, waiting_at, Refused, Fault, Answer, Entry, Began, Delivered, Call, Reply, Op, At, IsLost, UnderWay, HasXid, said_of, Next, Send, Wait, Done, Shelf, Turn, Machine, Starts, Resumes, Takes, Purpose, State, Busy, Over, Setup, is_busy, Stirs, counted, TakesAt, StartsLane, View, in_flight, StepsTo, Reaches, taken_one, ThenOf, time_next, IsDelivered, IsIdle, Passes}
+use Rattle.core_answers.proofs.Prelude.{◌≡◌, ◌<◌, ◌≤◌, ◌+◌, ◌-◌, ◌⊎◌, inl, ℕ, List, [], ◌∷◌, ◌++◌, length, false, Some, position, slice_get, Result, Ok, arith, xid_at, Waiting, waiting_at, Refused, Fault, Answer, Entry, Began, Delivered, Call, Reply, Op, At, IsLost, UnderWay, HasXid, said_of, Step, Send, Wait, Done, Shelf, Turn, Machine, Starts, Resumes, Takes, Purpose, State, Busy, Over, Setup, is_busy, Stirs, counted, TakesAt, StartsLane, View, in_flight, StepsTo, Reaches, taken_one, ThenOf, time_next, IsDelivered, IsIdle, Passes}
 use Rattle.world_model.specs.declared.entry.Entry.TheVariants.{Sent}
 use Rattle.client_core.specs.Steps.{lost}
 use Rattle.core_facts.specs.Reaches.{HearsRecord}
@@ -84,12 +84,12 @@ pub record TakenNow (machine_of : ℕ → Op → Machine) (setup : Setup) (G : L
   pub under : HasXid bytes xid
 
 -- What a step leaves: K of the shelf, T of the machine or U of the answer.
-pub record Did (K : List Entry → Shelf → Type 0) (T : Machine → Type 0) (U : Answer → Type 0) (h : List Entry) (next : Next) (new : Machine) (after : Shelf) : Type 0 where
+pub record Did (K : List Entry → Shelf → Type 0) (T : Machine → Type 0) (U : Answer → Type 0) (h : List Entry) (next : Step) (new : Machine) (after : Shelf) : Type 0 where
   pub kept : K h after
   pub then_ : ThenOf T U next new
 
 -- the same of a fact of the operation
-abbrev pub DidOf : (List Entry → Shelf → Type 0) → (List Entry → ℕ → Op → State → Type 0) → List Entry → ℕ → Op → Next → Machine → Shelf → Type 0
+abbrev pub DidOf : (List Entry → Shelf → Type 0) → (List Entry → ℕ → Op → State → Type 0) → List Entry → ℕ → Op → Step → Machine → Shelf → Type 0
 DidOf K S h x op next new after = Did K (λ m. S h x op (Busy m)) (λ a. S h x op (Over a)) h next new after
 
 -- What a step leaves that took a reply: a fact with a place at or after which each call that still waits was first sent. It is the earlier place, or
@@ -101,7 +101,7 @@ pub record FromPlace (h : List Entry) (others was : ℕ) (B : ℕ → Type 0) : 
   pub holds : B place
 
 -- the earlier place serves
-pub then-placed : (h : List Entry) (others was : ℕ) (T : Machine → Type 0) (U : Answer → Type 0) (next : Next) (new : Machine) → was ≤ length h → ThenOf T U next new
+pub then-placed : (h : List Entry) (others was : ℕ) (T : Machine → Type 0) (U : Answer → Type 0) (next : Step) (new : Machine) → was ≤ length h → ThenOf T U next new
     → ThenOf (λ k. FromPlace h others was (λ n. T k)) U next new
 then-placed h others was T U (Send call) new within t = record { place = was; within = within; fits = inl (omega arith); holds = t }
 then-placed h others was T U Wait new within t = record { place = was; within = within; fits = inl (omega arith); holds = t }
@@ -111,14 +111,14 @@ then-placed h others was T U (Done answer) new within t = t
 -- sent; and O of one that has its answer: its steps keep them, and entries. F is known of the shelf as an operation of a lane begins.
 pub record LaneLaws (machine_of : ℕ → Op → Machine) (setup : Setup) (G : List Entry → View → Type 0) (E : Machine → Call → Type 0) (F : List Entry → ℕ → Shelf → Type 0)
     (K : List Entry → Shelf → Type 0) (B : List Entry → ℕ → ℕ → Op → Machine → Type 0) (O : List Entry → ℕ → Op → Answer → Type 0) : Type 0 where
-  pub starts : (h : List Entry) (lane line : ℕ) (op : Op) (wsize : ℕ) (turn : Turn) (old : Shelf) (next : Next) (new : Machine) (after : Shelf)
+  pub starts : (h : List Entry) (lane line : ℕ) (op : Op) (wsize : ℕ) (turn : Turn) (old : Shelf) (next : Step) (new : Machine) (after : Shelf)
       → F h lane old → (p : HasPassed machine_of setup G (h ++ Began lane line op ∷ []) (length h) old) → p.before ≡ h → K (h ++ Began lane line op ∷ []) old → time_next h ≤ turn.now
       → Starts wsize (machine_of lane op) turn old next new after
       → Did K (B (h ++ Began lane line op ∷ []) (length h) (length h) op) (O (h ++ Began lane line op ∷ []) (length h) op) (h ++ Began lane line op ∷ []) next new after
-  pub resumes : (h : List Entry) (place x : ℕ) (op : Op) (machine : Machine) (wsize : ℕ) (turn : Turn) (old : Shelf) (next : Next) (new : Machine) (after : Shelf)
+  pub resumes : (h : List Entry) (place x : ℕ) (op : Op) (machine : Machine) (wsize : ℕ) (turn : Turn) (old : Shelf) (next : Step) (new : Machine) (after : Shelf)
       → K h old → (p : HasPassed machine_of setup G h x old) → RunsIn p.before p.view x op machine → x < length h → place ≤ length h → IsLate h x turn.now → B h place x op machine
       → Resumes wsize machine turn old next new after → Did K (B h place x op) (O h x op) h next new after
-  pub takes : (h : List Entry) (place x : ℕ) (op : Op) (machine : Machine) (call : Call) (wsize : ℕ) (sent turn : Turn) (came : Result Reply Fault) (old : Shelf) (next : Next)
+  pub takes : (h : List Entry) (place x : ℕ) (op : Op) (machine : Machine) (call : Call) (wsize : ℕ) (sent turn : Turn) (came : Result Reply Fault) (old : Shelf) (next : Step)
       (new : Machine) (after : Shelf) (others : ℕ) → K h old → x < length h → place ≤ length h → IsLate h x turn.now → in_flight machine ≡ others + 1 → B h place x op machine
       → E machine call
       → ((reply : Reply) → came ≡ Ok reply → (w : TakenNow machine_of setup G h x place call sent turn old reply) × RunsIn w.passed.before w.passed.view x op machine)

@@ -1,5 +1,5 @@
 -- What is known of the reply that an operation takes: which call it answers, and when and where that was first sent.
-use Rattle.core_answers.proofs.Prelude.{◌≡◌, ◌<◌, ◌≤◌, ◌+◌, ℕ, zero, suc, List, [], ◌∷◌, ◌++◌, length, take, Result, Ok, refl, ap, arith, Fault, Entry, Call, Reply, At, HasXid, SpellsReply, Next, Wait, Shelf, Turn, Machine, Starts, Resumes, Takes, State, Busy, Over, in_flight, IsCounted, AskedOf, HadShown, IsAnswered, EndsWith, IsDelivered}
+use Rattle.core_answers.proofs.Prelude.{◌≡◌, ◌<◌, ◌≤◌, ◌+◌, ℕ, zero, suc, List, [], ◌∷◌, ◌++◌, length, take, Result, Ok, refl, ap, arith, Fault, Entry, Call, Reply, At, HasXid, SpellsReply, Step, Wait, Shelf, Turn, Machine, Starts, Resumes, Takes, State, Busy, Over, in_flight, IsCounted, AskedOf, HadShown, IsAnswered, EndsWith, IsDelivered}
 use Rattle.world_model.specs.declared.entry.Entry.TheVariants.{Sent}
 use Rattle.core_answers.proofs.bonds.FileCalls.{Asking}
 use Rattle.core_answers.specs.bonds.Ages.{began_at}
@@ -16,19 +16,19 @@ IsTold h call ms came = (reply : Reply) → came ≡ Ok reply → WasTold h call
 
 -- It holds of each call that a step asks for, and goes on holding of those that wait.
 pub record AskLaws (E : Machine → Call → Type 0) : Type 0 where
-  pub starts : (m : Machine) (wsize : ℕ) (turn : Turn) (old : Shelf) (next : Next) (new : Machine) (after : Shelf) → Starts wsize m turn old next new after → AskedOf E next new
-  pub resumes : (m : Machine) (wsize : ℕ) (turn : Turn) (old : Shelf) (next : Next) (new : Machine) (after : Shelf) → IsCounted m → (next ≡ Wait → ⊥)
+  pub starts : (m : Machine) (wsize : ℕ) (turn : Turn) (old : Shelf) (next : Step) (new : Machine) (after : Shelf) → Starts wsize m turn old next new after → AskedOf E next new
+  pub resumes : (m : Machine) (wsize : ℕ) (turn : Turn) (old : Shelf) (next : Step) (new : Machine) (after : Shelf) → IsCounted m → (next ≡ Wait → ⊥)
       → Resumes wsize m turn old next new after → Asking E (E m) (in_flight m) next new
-  pub takes : (m : Machine) (wsize : ℕ) (sent turn : Turn) (came : Result Reply Fault) (old : Shelf) (next : Next) (new : Machine) (after : Shelf) (others : ℕ)
+  pub takes : (m : Machine) (wsize : ℕ) (sent turn : Turn) (came : Result Reply Fault) (old : Shelf) (next : Step) (new : Machine) (after : Shelf) (others : ℕ)
       → in_flight m ≡ others + 1 → Takes wsize m sent turn came old next new after → Asking E (E m) others next new
 
 -- A fact of the shelf that the steps of operations keep, and each entry.
 pub record ShelfLaws (E : Machine → Call → Type 0) (K : List Entry → Shelf → Type 0) : Type 0 where
-  pub starts : (h : List Entry) (machine : Machine) (wsize : ℕ) (turn : Turn) (old : Shelf) (next : Next) (new : Machine) (after : Shelf)
+  pub starts : (h : List Entry) (machine : Machine) (wsize : ℕ) (turn : Turn) (old : Shelf) (next : Step) (new : Machine) (after : Shelf)
       → Starts wsize machine turn old next new after → K h old → K h after
-  pub resumes : (h : List Entry) (machine : Machine) (wsize : ℕ) (turn : Turn) (old : Shelf) (next : Next) (new : Machine) (after : Shelf)
+  pub resumes : (h : List Entry) (machine : Machine) (wsize : ℕ) (turn : Turn) (old : Shelf) (next : Step) (new : Machine) (after : Shelf)
       → Resumes wsize machine turn old next new after → K h old → K h after
-  pub takes : (h : List Entry) (machine : Machine) (call : Call) (wsize : ℕ) (sent turn : Turn) (came : Result Reply Fault) (old : Shelf) (next : Next) (new : Machine) (after : Shelf)
+  pub takes : (h : List Entry) (machine : Machine) (call : Call) (wsize : ℕ) (sent turn : Turn) (came : Result Reply Fault) (old : Shelf) (next : Step) (new : Machine) (after : Shelf)
       → E machine call → IsTold h call sent.now came → Takes wsize machine sent turn came old next new after → K h old → K h after
   pub grows : (h : List Entry) (e : Entry) (shelf : Shelf) → K h shelf → K (h ++ e ∷ []) shelf
 

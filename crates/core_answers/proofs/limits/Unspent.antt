@@ -1,5 +1,5 @@
 -- As long as a further call may be made, no operation gives that none may.
-use Rattle.core_answers.proofs.Prelude.{◌≡◌, ◌≢◌, ◌<◌, ◌≤◌, ◌⊎◌, inl, inr, ℕ, Bool, true, false, List, [], ◌∷◌, ◌++◌, length, map, Option, Some, None, MatchOption, position, slice_get, slice_set, Result, Ok, Err, refl, sym, ap, subst, ◌∙◌, arith, if◌then◌else◌, eqb-true, cases_lt, DirKept, FileKept, Answer, Fault, Entry, Began, Answered, Dialed, Executed, Foreign, Flushed, Reboot, Delivered, Failed, Clock, Reply, Op, At, At-cases, At-below, At-back, said_of, Next, Shelf, Mounted, Machine, machine_of, Lane, Purpose, State, Busy, Over, Setup, is_busy, with_state, IsRefused, Leads, Stirs, Moves, moves_none, moves_more, counted, StartsLane, BeginsIf, TakesAt, View, turn_at, unmade_turn, StepsTo, Reaches, begins, goes, loses, last_reading, Heard, dropped, replied, sent_now, FailedNow, goes_on, gives_up, failed_now, answered_now, taken_one, FineAnswer, FineResult, at-set, at-push, get-push, get-remove, skip, reached-rows, set-other, by-place, Stays, begins-stay, hears-for-stay}
+use Rattle.core_answers.proofs.Prelude.{◌≡◌, ◌≢◌, ◌<◌, ◌≤◌, ◌⊎◌, inl, inr, ℕ, Bool, true, false, List, [], ◌∷◌, ◌++◌, length, map, Option, Some, None, MatchOption, position, slice_get, slice_set, Result, Ok, Err, refl, sym, ap, subst, ◌∙◌, arith, if◌then◌else◌, eqb-true, cases_lt, DirKept, FileKept, Answer, Fault, Entry, Began, Answered, Dialed, Executed, Foreign, Flushed, Reboot, Delivered, Failed, Clock, Reply, Op, At, At-cases, At-below, At-back, said_of, Step, Shelf, Mounted, Machine, machine_of, Lane, Purpose, State, Busy, Over, Setup, is_busy, with_state, IsRefused, Leads, Stirs, Moves, moves_none, moves_more, counted, StartsLane, BeginsIf, TakesAt, View, turn_at, unmade_turn, StepsTo, Reaches, begins, goes, loses, last_reading, Heard, dropped, replied, sent_now, FailedNow, goes_on, gives_up, failed_now, answered_now, taken_one, FineAnswer, FineResult, at-set, at-push, get-push, get-remove, skip, reached-rows, set-other, by-place, Stays, begins-stay, hears-for-stay}
 use Rattle.std.proofs.Common.{nat_lt}
 use Rattle.std.specs.Prelude.{◌==◌}
 use Rattle.world_model.specs.declared.entry.Entry.TheVariants.{Sent}
@@ -30,7 +30,7 @@ use Rattle.world_model.specs.declared.message.Reply.TheVariants as replies
 use Rattle.world_model.specs.Rules.{most_bytes}
 use Rattle.call_replies.specs.Records.{results_by, results_read, results_in}
 use Rattle.call_replies.specs.Results.{dir_said, file_said, said_in}
-use Rattle.client_shelf.specs.declared.next.Next.TheVariants as nexts
+use Rattle.client_shelf.specs.declared.step.Step.TheVariants as nexts
 use Rattle.core_facts.proofs.AllFaults as steps
 use Rattle.core_facts.proofs.Sound.{reached-sound}
 use Rattle.core_answers.specs.limits.Limited.{XidsWithin, AllMade}
@@ -169,13 +169,13 @@ check-is v faults.Mode u less = tt
 check-is v faults.Kind u less = tt
 check-is v faults.Many u less = tt
 
-refused-fine : (after : Machine) (next : Next) (state : State) → IsRefused after next state → steps.MachineStep NotSpent own_unspent next after → StateFine state
+refused-fine : (after : Machine) (next : Step) (state : State) → IsRefused after next state → steps.MachineStep NotSpent own_unspent next after → StateFine state
 refused-fine after (nexts.Send call) state is s = absurd is
 refused-fine after nexts.Wait state is s = subst StateFine (sym is) s.1
 refused-fine after (nexts.Done answer) state is s = subst StateFine (sym is) s.0
 
 -- the lane at a place made a step
-leads-fine : (v new : View) (at number : ℕ) (machine : Machine) (next : Next) → slice_get v.lanes at ≡ Some (record { number = number; state = Busy machine })
+leads-fine : (v new : View) (at number : ℕ) (machine : Machine) (next : Step) → slice_get v.lanes at ≡ Some (record { number = number; state = Busy machine })
     → (v.calls.made < v.calls.limit → (k : ℕ) (lane : Lane) → slice_get v.lanes k ≡ Some lane → k ≢ at → LaneFine lane)
     → (v.calls.made < v.calls.limit → steps.MachineStep NotSpent own_unspent next machine) → Leads v at number machine next new → Fine new
 leads-fine v new at number machine (nexts.Send call) there rest s (inl k) = subst Fine (sym k.is) (λ less.
@@ -192,7 +192,7 @@ leads-fine v new at number machine (nexts.Done answer) there rest s is =
     subst Fine (sym is) (λ less. set-fine v.lanes at number (Busy machine) (Over answer) there (rest less) (s less).0)
 
 -- the machine at a place is another one
-step-fine : (old new : View) (at number : ℕ) (machine after : Machine) (shelf : Shelf) (next : Next) → slice_get old.lanes at ≡ Some (record { number = number; state = Busy machine })
+step-fine : (old new : View) (at number : ℕ) (machine after : Machine) (shelf : Shelf) (next : Step) → slice_get old.lanes at ≡ Some (record { number = number; state = Busy machine })
     → Fine old → (old.calls.made < old.calls.limit → steps.MachineStep NotSpent own_unspent next after) → Leads (with_state old at number (Busy after) shelf) at number after next new → Fine new
 step-fine old new at number machine after shelf next there fine s l =
     leads-fine (with_state old at number (Busy after) shelf) new at number after next

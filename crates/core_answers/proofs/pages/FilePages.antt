@@ -1,5 +1,5 @@
 -- What each step of an operation on files makes of the kept pages.
-use Rattle.core_answers.proofs.Prelude.{◌≡◌, ◌+◌, ◌-◌, ◌/◌, ◌&&◌, ◌||◌, ◌==◌, ℕ, zero, suc, Bool, true, false, nat_le, List, [], length, take, Option, Some, None, Result, Ok, Err, inl, inr, refl, sym, ap, subst, ◌∙◌, arith, if◌then◌else◌, nat_tests, Attr, Verf, Stamp, Wcc, stamp_of, FileKept, start_of, Pages, page_of, known_of, after_page, Fault, Call, Reply, Pending, of_file, Sent, piece_under, last_end, is_first, goes_again, Next, Repeat, Shelf, Turn, Closing, CloseFile, Removal, Led, Opening, OpeningNext, PutFile, Putting, ReadFile, Phase, Reading, Saving, SyncFile, Syncing, TruncateFile, Truncating, WriteFile, Writing, is_full, Bytes, place_after, remove_busy, refusal_of, written_by, write_told_by, write_told, file_to_write, part, refusal, said_to, breaks_rule, file_at, joined, got_by, by-step, ends_as, FileMachine}
+use Rattle.core_answers.proofs.Prelude.{◌≡◌, ◌+◌, ◌-◌, ◌/◌, ◌&&◌, ◌||◌, ◌==◌, ℕ, zero, suc, Bool, true, false, nat_le, List, [], length, take, Option, Some, None, Result, Ok, Err, inl, inr, refl, sym, ap, subst, ◌∙◌, arith, if◌then◌else◌, nat_tests, Attr, Verf, Stamp, Wcc, stamp_of, FileKept, start_of, Pages, page_of, known_of, after_page, Fault, Call, Reply, Pending, of_file, Sent, piece_under, last_end, is_first, goes_again, Step, Repeat, Shelf, Turn, Closing, CloseFile, Removal, Led, Opening, OpeningStep, PutFile, Putting, ReadFile, Phase, Reading, Saving, SyncFile, Syncing, TruncateFile, Truncating, WriteFile, Writing, is_full, Bytes, place_after, remove_busy, refusal_of, written_by, write_told_by, write_told, file_to_write, part, refusal, said_to, breaks_rule, file_at, joined, got_by, by-step, ends_as, FileMachine}
 use Rattle.std.proofs.Common.{nat_lt, unwrap_or, is_some}
 use Rattle.page_cache.specs.Pages.{opened, saw, wrote, cut}
 use Rattle.file_ops.specs.Base.{is_whole}
@@ -11,12 +11,12 @@ use Rattle.world_model.specs.declared.answer.Answer.TheVariants as answers
 use Rattle.world_model.specs.declared.answer.Fault.TheVariants as faults
 use Rattle.world_model.specs.declared.message.Call.TheVariants as calls
 use Rattle.world_model.specs.declared.message.Reply.TheVariants as replies
-use Rattle.client_shelf.specs.declared.next.Next.TheVariants as nexts
+use Rattle.client_shelf.specs.declared.step.Step.TheVariants as nexts
 use Rattle.file_ops.specs.declared.close_file.Closing.TheVariants as closing
 use Rattle.file_ops.specs.declared.gather.Found.{Found}
 use Rattle.file_ops.specs.declared.gather.Found.TheVariants as founds
 use Rattle.file_ops.specs.declared.opening.Led.TheVariants as leads
-use Rattle.file_ops.specs.declared.opening.OpeningNext.TheVariants as openings
+use Rattle.file_ops.specs.declared.opening.OpeningStep.TheVariants as openings
 use Rattle.file_ops.specs.declared.put_file.Putting.TheVariants as putting
 use Rattle.file_ops.specs.declared.reading.Phase.TheVariants as phases
 use Rattle.file_ops.specs.declared.sync_file.Syncing.TheVariants as syncing
@@ -55,13 +55,13 @@ room-same told lane shelf = by-step (λ g. SamePages shelf (writes.room_shelf g 
     ended (Ok done) = refl
     ended (Err fault) = refl
 
-saves-same : (b : Bool) (wsize lane : ℕ) (file : List ℕ) (saving : Saving) (turn : Turn) (shelf : Shelf) (next : Next) (new : Writing) (after : Shelf)
+saves-same : (b : Bool) (wsize lane : ℕ) (file : List ℕ) (saving : Saving) (turn : Turn) (shelf : Shelf) (next : Step) (new : Writing) (after : Shelf)
     → writes.SavesIf b wsize lane file saving turn shelf next new after → SamePages shelf after
 saves-same true wsize lane file saving turn shelf next new after s =
     kept-as shelf (writes.room_shelf s.told lane (record shelf { back = s.back })) after s.leads.shelf_is (room-same s.told lane (record shelf { back = s.back }))
 saves-same false wsize lane file saving turn shelf next new after s = kept-as shelf shelf after s.shelf_is refl
 
-writes-same : (b : Bool) (wsize lane : ℕ) (file : List ℕ) (offset : ℕ) (bytes : List ℕ) (turn : Turn) (shelf : Shelf) (next : Next) (new : Writing) (after : Shelf)
+writes-same : (b : Bool) (wsize lane : ℕ) (file : List ℕ) (offset : ℕ) (bytes : List ℕ) (turn : Turn) (shelf : Shelf) (next : Step) (new : Writing) (after : Shelf)
     → writes.WritesIf b wsize lane file offset bytes turn shelf next new after → SamePages shelf after
 writes-same true wsize lane file offset bytes turn shelf next new after (inl s) =
     saves-same (is_first lane (joined lane s.of shelf).order) wsize lane file (saves.begun s.of shelf.seq) turn (joined lane s.of shelf) next new after s.saves
@@ -69,19 +69,19 @@ writes-same true wsize lane file offset bytes turn shelf next new after (inr s) 
 writes-same false wsize lane file offset bytes turn shelf next new after (inl a) = ap (λ (s : Shelf). s.pages) a.leads.shelf_is
 writes-same false wsize lane file offset bytes turn shelf next new after (inr s) = kept-as shelf shelf after s.shelf_is refl
 
-write-starts : (found : Result (List ℕ) Fault) (wsize : ℕ) (m : WriteFile) (turn : Turn) (old : Shelf) (next : Next) (new : WriteFile) (after : Shelf)
+write-starts : (found : Result (List ℕ) Fault) (wsize : ℕ) (m : WriteFile) (turn : Turn) (old : Shelf) (next : Step) (new : WriteFile) (after : Shelf)
     → writes.StartsAt found wsize m turn old next new after → SamePages old after
 write-starts (Err fault) wsize m turn old next new after s = kept-as old old after s.refuses.shelf_is refl
 write-starts (Ok file) wsize m turn old next new after (inl s) =
     writes-same (is_full (writes.text_bytes m.text) old.back) wsize m.lane file m.offset (writes.text_bytes m.text) turn old next new.state after s.writes
 write-starts (Ok file) wsize m turn old next new after (inr s) = kept-as old old after s.refuses.shelf_is refl
 
-write-resumes : (at : Writing) (wsize lane : ℕ) (turn : Turn) (old : Shelf) (next : Next) (new : Writing) (after : Shelf) → writes.ResumesIn at wsize lane turn old next new after
+write-resumes : (at : Writing) (wsize lane : ℕ) (turn : Turn) (old : Shelf) (next : Step) (new : Writing) (after : Shelf) → writes.ResumesIn at wsize lane turn old next new after
     → SamePages old after
 write-resumes writing.Idle wsize lane turn old next new after r = kept-as old old after r.shelf_is refl
 write-resumes (writing.Room file saving) wsize lane turn old next new after r = saves-same (is_first lane old.order) wsize lane file saving turn old next new after r
 
-write-follows : (told : _) (wsize : ℕ) (m : WriteFile) (file : List ℕ) (saved : Saving) (turn : Turn) (shelf : Shelf) (next : Next) (new : Writing) (after : Shelf)
+write-follows : (told : _) (wsize : ℕ) (m : WriteFile) (file : List ℕ) (saved : Saving) (turn : Turn) (shelf : Shelf) (next : Step) (new : Writing) (after : Shelf)
     → writes.Follows told wsize m file saved turn shelf next new after → SamePages shelf after
 write-follows told wsize m file saved turn shelf next new after f = by-step
     (λ g. writes.Follows g wsize m file saved turn shelf next new after → SamePages shelf after)
@@ -93,68 +93,68 @@ write-follows told wsize m file saved turn shelf next new after f = by-step
 
 -- ---- syncs
 
-sync-queues : (b : Bool) (wsize lane : ℕ) (turn : Turn) (saving : Saving) (old : Shelf) (next : Next) (state : Syncing) (new : Shelf)
+sync-queues : (b : Bool) (wsize lane : ℕ) (turn : Turn) (saving : Saving) (old : Shelf) (next : Step) (state : Syncing) (new : Shelf)
     → syncs.QueuesIf b wsize lane turn saving old next state new → SamePages old new
 sync-queues true wsize lane turn saving old next state new q = ap (λ (s : Shelf). s.pages) q.others
 sync-queues false wsize lane turn saving old next state new q = kept-as old old new q.shelf_is refl
 
-sync-starts : (found : Option (List ℕ)) (wsize : ℕ) (m : SyncFile) (turn : Turn) (old : Shelf) (next : Next) (state : Syncing) (new : Shelf)
+sync-starts : (found : Option (List ℕ)) (wsize : ℕ) (m : SyncFile) (turn : Turn) (old : Shelf) (next : Step) (state : Syncing) (new : Shelf)
     → syncs.StartsAt found wsize m turn old next state new → SamePages old new
 sync-starts None wsize m turn old next state new s = kept-as old old new s.shelf_is refl
 sync-starts (Some file) wsize m turn old next state new s =
     sync-queues (is_first m.lane (joined m.lane file old).order) wsize m.lane turn (saves.begun file old.seq) (joined m.lane file old) next state new s
 
-sync-resumes : (at : Syncing) (wsize : ℕ) (m : SyncFile) (turn : Turn) (old : Shelf) (next : Next) (state : Syncing) (new : Shelf)
+sync-resumes : (at : Syncing) (wsize : ℕ) (m : SyncFile) (turn : Turn) (old : Shelf) (next : Step) (state : Syncing) (new : Shelf)
     → syncs.Resumes at wsize m turn old next state new → SamePages old new
 sync-resumes syncing.Idle wsize m turn old next state new r = kept-as old old new r.shelf_is refl
 sync-resumes (syncing.Saves saving) wsize m turn old next state new r = sync-queues (is_first m.lane old.order) wsize m.lane turn saving old next state new r
 
 -- ---- closes
 
-close-ends-at : (place : Option (List ℕ × List ℕ)) (lane : ℕ) (room : Bool) (file : List ℕ) (why : Option Fault) (old : Shelf) (next : Next) (state : Closing) (new : Shelf)
+close-ends-at : (place : Option (List ℕ × List ℕ)) (lane : ℕ) (room : Bool) (file : List ℕ) (why : Option Fault) (old : Shelf) (next : Step) (state : Closing) (new : Shelf)
     → closes.EndsAt place lane room file why old next state new → SamePages old new
 close-ends-at None lane room file why old next state new e = ap (λ (s : Shelf). s.pages) e.others
 close-ends-at (Some place) lane room file why old next state new e = kept-as old old new e.shelf_is refl
 
-close-frees : (lane slot : ℕ) (room : Bool) (file : List ℕ) (why : Option Fault) (old : Shelf) (next : Next) (state : Closing) (new : Shelf)
+close-frees : (lane slot : ℕ) (room : Bool) (file : List ℕ) (why : Option Fault) (old : Shelf) (next : Step) (state : Closing) (new : Shelf)
     → closes.Frees lane slot room file why old next state new → SamePages old new
 close-frees lane slot room file why old next state new f =
     then-same old f.freed new (ap (λ (s : Shelf). s.pages) f.slot_is) (close-ends-at f.place lane room file why f.freed next state new f.ends)
 
-close-follows : (gives : _) (lane slot : ℕ) (room begun : Bool) (saving : Saving) (old : Shelf) (next : Next) (state : Closing) (new : Shelf)
+close-follows : (gives : _) (lane slot : ℕ) (room begun : Bool) (saving : Saving) (old : Shelf) (next : Step) (state : Closing) (new : Shelf)
     → closes.Follows gives lane slot room begun saving old next state new → SamePages old new
 close-follows gives lane slot room begun saving old next state new f = by-step
     (λ g. closes.Follows g lane slot room begun saving old next state new → SamePages old new)
     (λ call l. kept-as old old new l.2 refl) (λ l. kept-as old old new l.2 refl)
     (λ result l. close-frees lane slot room saving.file (refusal_of result) old next state new l) gives f
 
-close-on : (wsize lane slot : ℕ) (turn : Turn) (begun : Bool) (saving : Saving) (old : Shelf) (next : Next) (state : Closing) (new : Shelf)
+close-on : (wsize lane slot : ℕ) (turn : Turn) (begun : Bool) (saving : Saving) (old : Shelf) (next : Step) (state : Closing) (new : Shelf)
     → closes.GoesOn wsize lane slot turn begun saving old next state new → SamePages old new
 close-on wsize lane slot turn begun saving old next state new g =
     then-same old g.gone new (ap (λ (s : Shelf). s.pages) g.others) (close-follows g.gives lane slot turn.room begun g.saved g.gone next state new g.follows)
 
-close-begins : (end : Option ℕ) (wsize lane slot : ℕ) (turn : Turn) (saving : Saving) (old : Shelf) (next : Next) (state : Closing) (new : Shelf)
+close-begins : (end : Option ℕ) (wsize lane slot : ℕ) (turn : Turn) (saving : Saving) (old : Shelf) (next : Step) (state : Closing) (new : Shelf)
     → closes.Begins end wsize lane slot turn saving old next state new → SamePages old new
 close-begins None wsize lane slot turn saving old next state new b = close-frees lane slot turn.room saving.file None old next state new b
 close-begins (Some end) wsize lane slot turn saving old next state new b = close-on wsize lane slot turn false saving old next state new b
 
-close-queues : (b : Bool) (wsize lane slot : ℕ) (turn : Turn) (saving : Saving) (old : Shelf) (next : Next) (state : Closing) (new : Shelf)
+close-queues : (b : Bool) (wsize lane slot : ℕ) (turn : Turn) (saving : Saving) (old : Shelf) (next : Step) (state : Closing) (new : Shelf)
     → closes.QueuesIf b wsize lane slot turn saving old next state new → SamePages old new
 close-queues true wsize lane slot turn saving old next state new q = close-begins (last_end (of_file saving.file old.back).segments) wsize lane slot turn saving old next state new q
 close-queues false wsize lane slot turn saving old next state new q = kept-as old old new q.shelf_is refl
 
-close-starts : (found : Option (List ℕ)) (wsize : ℕ) (m : CloseFile) (turn : Turn) (old : Shelf) (next : Next) (state : Closing) (new : Shelf)
+close-starts : (found : Option (List ℕ)) (wsize : ℕ) (m : CloseFile) (turn : Turn) (old : Shelf) (next : Step) (state : Closing) (new : Shelf)
     → closes.StartsAt found wsize m turn old next state new → SamePages old new
 close-starts None wsize m turn old next state new s = kept-as old old new s.shelf_is refl
 close-starts (Some file) wsize m turn old next state new s =
     close-queues (is_first m.lane (joined m.lane file old).order) wsize m.lane m.slot turn (saves.begun file old.seq) (joined m.lane file old) next state new s
 
-close-if : (b : Bool) (wsize lane slot : ℕ) (turn : Turn) (saving : Saving) (old : Shelf) (next : Next) (state : Closing) (new : Shelf)
+close-if : (b : Bool) (wsize lane slot : ℕ) (turn : Turn) (saving : Saving) (old : Shelf) (next : Step) (state : Closing) (new : Shelf)
     → closes.GoesOnIf b wsize lane slot turn saving old next state new → SamePages old new
 close-if true wsize lane slot turn saving old next state new g = close-on wsize lane slot turn true saving old next state new g
 close-if false wsize lane slot turn saving old next state new g = kept-as old old new g.shelf_is refl
 
-close-resumes : (at : Closing) (wsize : ℕ) (m : CloseFile) (turn : Turn) (old : Shelf) (next : Next) (state : Closing) (new : Shelf)
+close-resumes : (at : Closing) (wsize : ℕ) (m : CloseFile) (turn : Turn) (old : Shelf) (next : Step) (state : Closing) (new : Shelf)
     → closes.Resumes at wsize m turn old next state new → SamePages old new
 close-resumes closing.Idle wsize m turn old next state new r = kept-as old old new r.shelf_is refl
 close-resumes (closing.Queued saving) wsize m turn old next state new r = close-queues (is_first m.lane old.order) wsize m.lane m.slot turn saving old next state new r
@@ -164,22 +164,22 @@ close-resumes (closing.Removing removal) wsize m turn old next state new r = kep
 
 -- ---- puts
 
-put-ends : (lane : ℕ) (file : List ℕ) (why : Option Fault) (old : Shelf) (next : Next) (state : Putting) (new : Shelf) → puts.Ends lane file why old next state new → SamePages old new
+put-ends : (lane : ℕ) (file : List ℕ) (why : Option Fault) (old : Shelf) (next : Step) (state : Putting) (new : Shelf) → puts.Ends lane file why old next state new → SamePages old new
 put-ends lane file why old next state new e = ap (λ (s : Shelf). s.pages) e.others
 
-put-follows : (gives : _) (lane : ℕ) (saving : Saving) (old : Shelf) (next : Next) (state : Putting) (new : Shelf) → puts.Follows gives lane saving old next state new → SamePages old new
+put-follows : (gives : _) (lane : ℕ) (saving : Saving) (old : Shelf) (next : Step) (state : Putting) (new : Shelf) → puts.Follows gives lane saving old next state new → SamePages old new
 put-follows gives lane saving old next state new f = by-step
     (λ g. puts.Follows g lane saving old next state new → SamePages old new)
     (λ call l. kept-as old old new l.2 refl) (λ l. kept-as old old new l.2 refl)
     (λ result l. put-ends lane saving.file (refusal_of result) old next state new l) gives f
 
-put-queues : (b : Bool) (wsize lane : ℕ) (turn : Turn) (saving : Saving) (old : Shelf) (next : Next) (state : Putting) (new : Shelf)
+put-queues : (b : Bool) (wsize lane : ℕ) (turn : Turn) (saving : Saving) (old : Shelf) (next : Step) (state : Putting) (new : Shelf)
     → puts.QueuesIf b wsize lane turn saving old next state new → SamePages old new
 put-queues true wsize lane turn saving old next state new q =
     then-same old q.gone new (ap (λ (s : Shelf). s.pages) q.others) (put-follows q.gives lane q.saved q.gone next state new q.follows)
 put-queues false wsize lane turn saving old next state new q = kept-as old old new q.shelf_is refl
 
-after-write : (told : Next) (wsize lane : ℕ) (file : List ℕ) (turn : Turn) (old : Shelf) (next : Next) (state : Putting) (new : Shelf)
+after-write : (told : Step) (wsize lane : ℕ) (file : List ℕ) (turn : Turn) (old : Shelf) (next : Step) (state : Putting) (new : Shelf)
     → puts.AfterWrite told wsize lane file turn old next state new → SamePages old new
 after-write (nexts.Send call) wsize lane file turn old next state new a = kept-as old old new a.2 refl
 after-write nexts.Wait wsize lane file turn old next state new a = kept-as old old new a.2 refl
@@ -187,7 +187,7 @@ after-write (nexts.Done (answers.Done value)) wsize lane file turn old next stat
     put-queues (is_first lane (joined lane file old).order) wsize lane turn (saves.begun file old.seq) (joined lane file old) next state new a
 after-write (nexts.Done (answers.Refused fault)) wsize lane file turn old next state new a = put-ends lane file (Some fault) old next state new a
 
-adds-same : (wsize : ℕ) (m : PutFile) (file : List ℕ) (turn : Turn) (old : Shelf) (next : Next) (new : PutFile) (after : Shelf) → puts.AddsBytes wsize m file turn old next new after
+adds-same : (wsize : ℕ) (m : PutFile) (file : List ℕ) (turn : Turn) (old : Shelf) (next : Step) (new : PutFile) (after : Shelf) → puts.AddsBytes wsize m file turn old next new after
     → SamePages old after
 adds-same wsize m file turn old next new after a =
     then-same old a.mid after
@@ -195,14 +195,14 @@ adds-same wsize m file turn old next new after a =
     (puts.put_at m.write.lane file old) a.told a.written a.mid a.writes)
     (after-write a.told wsize m.write.lane file turn a.mid next new.state after a.goes.follows)
 
-after-opening : (step : OpeningNext) (wsize : ℕ) (m : PutFile) (turn : Turn) (old : Shelf) (next : Next) (new : PutFile) (after : Shelf)
+after-opening : (step : OpeningStep) (wsize : ℕ) (m : PutFile) (turn : Turn) (old : Shelf) (next : Step) (new : PutFile) (after : Shelf)
     → puts.AfterOpening step wsize m turn old next new after → SamePages old after
 after-opening (openings.Send call) wsize m turn old next new after a = kept-as old old after a.2 refl
 after-opening openings.Wait wsize m turn old next new after a = kept-as old old after a.shelf_is refl
 after-opening (openings.Ended (Ok file)) wsize m turn old next new after a = adds-same wsize m file turn old next new after a
 after-opening (openings.Ended (Err fault)) wsize m turn old next new after a = kept-as old old after a.2 refl
 
-put-resumes : (at : Putting) (wsize : ℕ) (m : PutFile) (turn : Turn) (old : Shelf) (next : Next) (new : PutFile) (after : Shelf) → puts.Resumes at wsize m turn old next new after
+put-resumes : (at : Putting) (wsize : ℕ) (m : PutFile) (turn : Turn) (old : Shelf) (next : Step) (new : PutFile) (after : Shelf) → puts.Resumes at wsize m turn old next new after
     → SamePages old after
 put-resumes putting.Idle wsize m turn old next new after r = kept-as old old after r.shelf_is refl
 put-resumes putting.Opens wsize m turn old next new after r = kept-as old old after r.2 refl
@@ -311,13 +311,13 @@ module _ (T : Pages → Type 0) (quiet : QuietLaws T) where
   pub gone-pages : (room : Bool) (s : reading.State) → T s.pages → T (reading.gone room s).pages
   gone-pages room s t = gone-if (reading.asks room s) s t
 
-  starts-with : (begun : Result Reading Fault) (room : Bool) (m : ReadFile) (c : Pages) (back : Pending) (next : Next) (new : ReadFile) (later : Pages)
+  starts-with : (begun : Result Reading Fault) (room : Bool) (m : ReadFile) (c : Pages) (back : Pending) (next : Step) (new : ReadFile) (later : Pages)
       → reads.StartsWith begun room m c back next new later → T c → T later
   starts-with (Err fault) room m c back next new later s t = as-pages c later s.kept t
   starts-with (Ok r) room m c back next new later s t =
       as-pages (reading.gone room (reading.settled r c)).pages later s.kept (gone-pages room (reading.settled r c) (settled-pages r.phase r c t))
 
-  read-resumes : (of : Option Reading) (room : Bool) (m : ReadFile) (c : Pages) (back : Pending) (next : Next) (new : ReadFile) (later : Pages)
+  read-resumes : (of : Option Reading) (room : Bool) (m : ReadFile) (c : Pages) (back : Pending) (next : Step) (new : ReadFile) (later : Pages)
       → reads.ResumesIn of room m c back next new later → T c → T later
   read-resumes None room m c back next new later s t = as-pages c later s.kept t
   read-resumes (Some r) room m c back next new later s t =
@@ -340,12 +340,12 @@ module _ (T : Pages → Type 0) (quiet : QuietLaws T) where
       as-pages (reading.gone room (reading.settled r c)).pages new.pages (ap (λ (s : reading.State). s.pages) is)
       (gone-pages room (reading.settled r c) (settled-pages r.phase r c t))
 
-  after-opened : (result : Result (Unit {0}) memory.Memory) (turn : Turn) (r : Reading) (c : Pages) (back : Pending) (next : Next) (new : reading.State)
+  after-opened : (result : Result (Unit {0}) memory.Memory) (turn : Turn) (r : Reading) (c : Pages) (back : Pending) (next : Step) (new : reading.State)
       → reading.AfterOpened result turn r c back next new → T c → T new.pages
   after-opened (Ok done) turn r c back next new a t = from-settled turn.room (record r { phase = phases.Pages }) c new a.1 t
   after-opened (Err no_memory) turn r c back next new a t = as-pages c new.pages (ap (λ (s : reading.State). s.pages) a.1) t
 
-  attrs-read : (told : Result Attr Fault) (again : Bool) (sent turn : Turn) (r : Reading) (c : Pages) (back : Pending) (next : Next) (new : reading.State)
+  attrs-read : (told : Result Attr Fault) (again : Bool) (sent turn : Turn) (r : Reading) (c : Pages) (back : Pending) (next : Step) (new : reading.State)
       → reading.TakesAttrs again told sent turn r c back next new → T c → T new.pages
   attrs-read (Ok attr) again sent turn r c back next new a t =
       after-opened a.result turn r a.later back next new a.goes (pages-opened a.result r.file attr r.moment sent turn c a.later a.opens t)
@@ -357,7 +357,7 @@ module _ (T : Pages → Type 0) (quiet : QuietLaws T) where
   file-opened (Ok file_is) file to old new f t u = as-pages to new f.1 t
   file-opened (Err fault) file to old new f t u = as-pages old new f.2 u
 
-  led-pages : (again : Bool) (o : Opening) (sent turn : Turn) (led : Led) (step : OpeningNext) (old new : Pages) → opening.LedIf again o sent turn led step old new → T old → T new
+  led-pages : (again : Bool) (o : Opening) (sent turn : Turn) (led : Led) (step : OpeningStep) (old new : Pages) → opening.LedIf again o sent turn led step old new → T old → T new
   led-pages true o sent turn led step old new l t = as-pages old new l.1 t
   led-pages false o sent turn (leads.Goes to) step old new l t = as-pages old new l.1 t
   led-pages false o sent turn (leads.Opens file attr) (openings.Ended result) old new l t =
@@ -372,7 +372,7 @@ module _ (T : Pages → Type 0) (quiet : QuietLaws T) where
 
   -- ---- steps before a reply
 
-  pub file-starts : (m : FileMachine) (wsize : ℕ) (turn : Turn) (old : Shelf) (next : Next) (new : FileMachine) (after : Shelf) → steps.Starts wsize m turn old next new after
+  pub file-starts : (m : FileMachine) (wsize : ℕ) (turn : Turn) (old : Shelf) (next : Step) (new : FileMachine) (after : Shelf) → steps.Starts wsize m turn old next new after
       → T old.pages → T after.pages
   file-starts (files.Open m) wsize turn old next new after s t = as-shelf old after (kept-as old old after s.shelf_is refl) t
   file-starts (files.Read m) wsize turn old next new after s t = starts-with s.step.reading turn.room m old.pages old.back next s.machine after.pages s.step.goes t
@@ -384,7 +384,7 @@ module _ (T : Pages → Type 0) (quiet : QuietLaws T) where
       as-shelf old after (kept-as old (truncates.started_shelf m old) after s.shelf_is (begun-same (truncates.found_file m old) m old)) t
   file-starts (files.Put m) wsize turn old next new after s t = as-shelf old after (kept-as old old after s.shelf_is refl) t
 
-  pub file-resumes : (m : FileMachine) (wsize : ℕ) (turn : Turn) (old : Shelf) (next : Next) (new : FileMachine) (after : Shelf) → steps.Resumes wsize m turn old next new after
+  pub file-resumes : (m : FileMachine) (wsize : ℕ) (turn : Turn) (old : Shelf) (next : Step) (new : FileMachine) (after : Shelf) → steps.Resumes wsize m turn old next new after
       → T old.pages → T after.pages
   file-resumes (files.Open m) wsize turn old next new after s t = as-shelf old after (kept-as old old after s.shelf_is refl) t
   file-resumes (files.Read m) wsize turn old next new after s t = read-resumes m.reading turn.room m old.pages old.back next s.machine after.pages s.step t
@@ -441,7 +441,7 @@ module _ (T : Pages → Type 0) (quiet : QuietLaws T) where
     part-pages (Ok (replies.Mount k)) count sent turn r c is asked t = t
     part-pages (Err fault) count sent turn r c is asked t = t
 
-    heard-pages : (phase : Phase) (sent turn : Turn) (repeats : List Repeat) (r : Reading) (c : Pages) (back : Pending) (next : Next) (new : reading.State) → PhaseAwaits phase r call
+    heard-pages : (phase : Phase) (sent turn : Turn) (repeats : List Repeat) (r : Reading) (c : Pages) (back : Pending) (next : Step) (new : reading.State) → PhaseAwaits phase r call
         → reading.TakesPart (reading.heard phase came) sent turn repeats r c back next new → T c → T new.pages
     heard-pages phases.Attrs sent turn repeats r c back next new asked p t = as-pages c new.pages (ap (λ (s : reading.State). s.pages) p.1) t
     heard-pages phases.AskedAttrs sent turn repeats r c back next new asked p t = as-pages c new.pages (ap (λ (s : reading.State). s.pages) p.1) t
@@ -451,12 +451,12 @@ module _ (T : Pages → Type 0) (quiet : QuietLaws T) where
         as-pages (reading.told sent turn (said_to count came) r c).pages new.pages (ap (λ (s : reading.State). s.pages) p.1) (part-pages came count sent turn r c refl asked t)
     heard-pages phases.Ended sent turn repeats r c back next new asked p t = as-pages c new.pages (ap (λ (s : reading.State). s.pages) p.1) t
 
-    takes-read : (waits : Bool) (sent turn : Turn) (repeats : List Repeat) (r : Reading) (c : Pages) (back : Pending) (next : Next) (new : reading.State) → PhaseAwaits r.phase r call
+    takes-read : (waits : Bool) (sent turn : Turn) (repeats : List Repeat) (r : Reading) (c : Pages) (back : Pending) (next : Step) (new : reading.State) → PhaseAwaits r.phase r call
         → reading.TakesIf waits sent turn came repeats r c back next new → T c → T new.pages
     takes-read true sent turn repeats r c back next new asked p t = attrs-read (got_by came) _ sent turn r c back next new p t
     takes-read false sent turn repeats r c back next new asked p t = heard-pages r.phase sent turn repeats r c back next new asked p t
 
-    read-takes : (of : Option Reading) (sent turn : Turn) (repeats : List Repeat) (m : ReadFile) (c : Pages) (back : Pending) (next : Next) (new : ReadFile) (later : Pages)
+    read-takes : (of : Option Reading) (sent turn : Turn) (repeats : List Repeat) (m : ReadFile) (c : Pages) (back : Pending) (next : Step) (new : ReadFile) (later : Pages)
         → ReadAwaits of call → reads.TakesIn of sent turn came repeats m c back next new later → T c → T later
     read-takes None sent turn repeats m c back next new later asked p t = as-pages c later p.kept t
     read-takes (Some r) sent turn repeats m c back next new later asked p t =
@@ -525,23 +525,23 @@ module _ (T : Pages → Type 0) (quiet : QuietLaws T) where
       saved-pages : (s : Saving) → T old.pages → T (saves.pages_after sent.xid (turn.moment - 1) came s old.back old.pages)
       saved-pages s t = sent-pages s.file (turn.moment - 1) old.pages t (saves.is_sending s.phase) sent.xid old.back link
 
-      write-takes : (at : Writing) (wsize : ℕ) (m : WriteFile) (next : Next) (new : Writing) (after : Shelf) → writes.TakesIn at wsize m sent turn came old next new after
+      write-takes : (at : Writing) (wsize : ℕ) (m : WriteFile) (next : Step) (new : Writing) (after : Shelf) → writes.TakesIn at wsize m sent turn came old next new after
           → T old.pages → T after.pages
       write-takes writing.Idle wsize m next new after p t = as-shelf old after (kept-as old old after p.shelf_is refl) t
       write-takes (writing.Room file s) wsize m next new after p t =
           as-pages _ after.pages (write-follows p.told wsize m file p.saved turn _ next new after p.follows) (saved-pages s t)
 
-      sync-takes : (at : Syncing) (wsize : ℕ) (m : SyncFile) (next : Next) (new : Syncing) (after : Shelf) → syncs.Takes at wsize m sent turn came old next new after
+      sync-takes : (at : Syncing) (wsize : ℕ) (m : SyncFile) (next : Step) (new : Syncing) (after : Shelf) → syncs.Takes at wsize m sent turn came old next new after
           → T old.pages → T after.pages
       sync-takes syncing.Idle wsize m next new after p t = as-shelf old after (kept-as old old after p.shelf_is refl) t
       sync-takes (syncing.Saves s) wsize m next new after p t = as-pages _ after.pages p.pages (saved-pages s t)
 
-      removes-if : (again : Bool) (lane : ℕ) (removal : Removal) (mid : Shelf) (next : Next) (state : Closing) (new : Shelf) → closes.EndsIf again lane removal mid next state new
+      removes-if : (again : Bool) (lane : ℕ) (removal : Removal) (mid : Shelf) (next : Step) (state : Closing) (new : Shelf) → closes.EndsIf again lane removal mid next state new
           → SamePages mid new
       removes-if true lane removal mid next state new e = kept-as mid mid new e.shelf_is refl
       removes-if false lane removal mid next state new e = ap (λ (s : Shelf). s.pages) e.others
 
-      close-takes : (at : Closing) (wsize : ℕ) (m : CloseFile) (next : Next) (state : Closing) (after : Shelf) → closes.Takes at wsize m sent turn came old next state after
+      close-takes : (at : Closing) (wsize : ℕ) (m : CloseFile) (next : Step) (state : Closing) (after : Shelf) → closes.Takes at wsize m sent turn came old next state after
           → T old.pages → T after.pages
       close-takes closing.Idle wsize m next state after p t = as-shelf old after (kept-as old old after p.shelf_is refl) t
       close-takes (closing.Queued s) wsize m next state after p t = as-shelf old after (kept-as old old after p.shelf_is refl) t
@@ -552,7 +552,7 @@ module _ (T : Pages → Type 0) (quiet : QuietLaws T) where
           as-shelf p.took after (removes-if (goes_again (remove_busy came) sent turn old.repeats) m.lane removal p.took next state after p.ends)
           (as-shelf old p.took (ap (λ (s : Shelf). s.pages) p.others) t)
 
-      put-takes : (at : Putting) (wsize : ℕ) (m : PutFile) (next : Next) (new : PutFile) (after : Shelf) → puts.Takes at wsize m sent turn came old next new after
+      put-takes : (at : Putting) (wsize : ℕ) (m : PutFile) (next : Step) (new : PutFile) (after : Shelf) → puts.Takes at wsize m sent turn came old next new after
           → T old.pages → T after.pages
       put-takes putting.Idle wsize m next new after p t = as-shelf old after (kept-as old old after p.shelf_is refl) t
       put-takes putting.Opens wsize m next new after p t =
@@ -590,7 +590,7 @@ module _ (T : Pages → Type 0) (quiet : QuietLaws T) where
 
       -- ---- any of them
 
-      pub file-takes : (m : FileMachine) (wsize : ℕ) (next : Next) (new : FileMachine) (after : Shelf) → FileAwaits m call → steps.Takes wsize m sent turn came old next new after
+      pub file-takes : (m : FileMachine) (wsize : ℕ) (next : Step) (new : FileMachine) (after : Shelf) → FileAwaits m call → steps.Takes wsize m sent turn came old next new after
           → T old.pages → T after.pages
       file-takes (files.Open m) wsize next new after asked p t =
           led-pages (opening.opening_again m.opening sent turn came old.repeats) m.opening sent turn (opening.led_on m.opening turn.now came after.attrs old.pages) p.steps.step old.pages

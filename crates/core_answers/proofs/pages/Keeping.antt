@@ -1,6 +1,6 @@
 -- What the steps of operations keep of the shelf, and of themselves, holds along a history: what they take is known to answer the call that they
 -- wait for, and where that is a WRITE, what is in flight under its xid is what it writes. It is an instance of the engine.
-use Rattle.core_answers.proofs.Prelude.{HadStory, ◌≡◌, ◌<◌, ◌≤◌, ℕ, List, [], ◌∷◌, ◌++◌, length, false, Result, Ok, ap, Refused, Fault, Answer, Entry, Began, Call, Reply, Op, IsLost, Ended, Pending, Next, Shelf, Turn, machine_of, Mounted, Machine, Starts, Resumes, Takes, State, Busy, Over, Setup, IsFresh, numbers_of, View, Reaches, time_next, Passes}
+use Rattle.core_answers.proofs.Prelude.{HadStory, ◌≡◌, ◌<◌, ◌≤◌, ℕ, List, [], ◌∷◌, ◌++◌, length, false, Result, Ok, ap, Refused, Fault, Answer, Entry, Began, Call, Reply, Op, IsLost, Ended, Pending, Step, Shelf, Turn, machine_of, Mounted, Machine, Starts, Resumes, Takes, State, Busy, Over, Setup, IsFresh, numbers_of, View, Reaches, time_next, Passes}
 use Rattle.client_core.specs.Numbers.{IsOther}
 use Rattle.core_answers.proofs.engine.Laws.{DidOf, LaneLaws, then-placed, Anyhow, anyhow-around, anyhow-back, anyhow-gives}
 use Rattle.core_answers.proofs.engine.Told.{AskLaws, IsLate, ToldSince}
@@ -29,12 +29,12 @@ pub record WasTaken (machine_of : ℕ → Op → Machine) (setup : Setup) (h : L
 -- begins.
 pub record BondLaws (machine_of : ℕ → Op → Machine) (setup : Setup) (E : Machine → Call → Type 0) (F : List Entry → ℕ → Shelf → Type 0) (K : List Entry → Shelf → Type 0)
     (S : List Entry → ℕ → Op → State → Type 0) : Type 0 where
-  pub starts : (h : List Entry) (lane line : ℕ) (op : Op) (wsize : ℕ) (turn : Turn) (old : Shelf) (next : Next) (new : Machine) (after : Shelf)
+  pub starts : (h : List Entry) (lane line : ℕ) (op : Op) (wsize : ℕ) (turn : Turn) (old : Shelf) (next : Step) (new : Machine) (after : Shelf)
       → F h lane old → HasPassed machine_of setup (h ++ Began lane line op ∷ []) (length h) old.back → K (h ++ Began lane line op ∷ []) old → time_next h ≤ turn.now → Starts wsize (machine_of lane op) turn old next new after
       → DidOf K S (h ++ Began lane line op ∷ []) (length h) op next new after
-  pub resumes : (h : List Entry) (x : ℕ) (op : Op) (machine : Machine) (wsize : ℕ) (turn : Turn) (old : Shelf) (next : Next) (new : Machine) (after : Shelf)
+  pub resumes : (h : List Entry) (x : ℕ) (op : Op) (machine : Machine) (wsize : ℕ) (turn : Turn) (old : Shelf) (next : Step) (new : Machine) (after : Shelf)
       → K h old → HasPassed machine_of setup h x old.back → x < length h → IsLate h x turn.now → S h x op (Busy machine) → Resumes wsize machine turn old next new after → DidOf K S h x op next new after
-  pub takes : (h : List Entry) (x : ℕ) (op : Op) (machine : Machine) (call : Call) (wsize : ℕ) (sent turn : Turn) (came : Result Reply Fault) (old : Shelf) (next : Next)
+  pub takes : (h : List Entry) (x : ℕ) (op : Op) (machine : Machine) (call : Call) (wsize : ℕ) (sent turn : Turn) (came : Result Reply Fault) (old : Shelf) (next : Step)
       (new : Machine) (after : Shelf) → K h old → x < length h → IsLate h x turn.now → S h x op (Busy machine) → E machine call
       → ((reply : Reply) → came ≡ Ok reply → WasTaken machine_of setup h x call sent old.back reply) → Takes wsize machine sent turn came old next new after
       → DidOf K S h x op next new after

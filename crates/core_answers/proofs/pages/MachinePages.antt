@@ -1,6 +1,6 @@
 -- What each step of any operation makes of the kept pages.
-use Rattle.core_answers.proofs.Prelude.{◌≡◌, ◌-◌, ℕ, Bool, true, false, Result, Ok, refl, Pages, Fault, Call, Reply, Next, Shelf, Turn, WalkNext, Machine, Opener, PathMachine, file_of, slot_taken, begun_at, placed, Starts, Resumes, Takes}
-use Rattle.name_ops.specs.declared.walk.WalkNext.TheVariants as walks
+use Rattle.core_answers.proofs.Prelude.{◌≡◌, ◌-◌, ℕ, Bool, true, false, Result, Ok, refl, Pages, Fault, Call, Reply, Step, Shelf, Turn, WalkStep, Machine, Opener, PathMachine, file_of, slot_taken, begun_at, placed, Starts, Resumes, Takes}
+use Rattle.name_ops.specs.declared.walk.WalkStep.TheVariants as walks
 use Rattle.name_ops.specs.Walking as walking
 use Rattle.op_machines.specs.declared.machine.Machine.TheVariants as machines
 use Rattle.op_machines.specs.declared.opener.Opener.TheVariants as openers
@@ -12,32 +12,32 @@ use Rattle.core_answers.proofs.pages.PageCalls.{FileAwaits, PageAwaits}
 module _ (T : Pages → Type 0) (quiet : QuietLaws T) where
   -- ---- opens and puts on their way
 
-  follows-pages : (step : WalkNext) (wsize : ℕ) (m : PathMachine) (turn : Turn) (old : Shelf) (next : Next) (new : PathMachine) (after : Shelf)
+  follows-pages : (step : WalkStep) (wsize : ℕ) (m : PathMachine) (turn : Turn) (old : Shelf) (next : Step) (new : PathMachine) (after : Shelf)
       → paths.Follows step wsize m turn old next new after → T old.pages → T after.pages
   follows-pages (walks.Send call) wsize m turn old next new after f t = as-shelf T quiet old after (kept-as old old after f.2 refl) t
   follows-pages walks.Wait wsize m turn old next new after f t = as-shelf T quiet old after (kept-as old old after f.2 refl) t
   follows-pages (walks.At dir) wsize m turn old next new after f t = file-resumes T quiet (file_of (placed dir m.opener)) wsize turn old next (file_of f.opener) after f.step t
   follows-pages (walks.Refused fault) wsize m turn old next new after f t = as-shelf T quiet old after (kept-as old old after f.2 refl) t
 
-  path-resumes : (b : Bool) (wsize : ℕ) (m : PathMachine) (turn : Turn) (old : Shelf) (next : Next) (new : PathMachine) (after : Shelf) → paths.PathResumes b wsize m turn old next new after
+  path-resumes : (b : Bool) (wsize : ℕ) (m : PathMachine) (turn : Turn) (old : Shelf) (next : Step) (new : PathMachine) (after : Shelf) → paths.PathResumes b wsize m turn old next new after
       → T old.pages → T after.pages
   path-resumes true wsize m turn old next new after r t = file-resumes T quiet (file_of m.opener) wsize turn old next (file_of r.opener) after r.step t
   path-resumes false wsize m turn old next new after r t =
       follows-pages (walking.go_next m.walk turn old) wsize (record m { walk = walking.go_after m.walk turn old }) turn (walking.go_shelf m.walk turn old) next new after r t
 
-  path-starts : (taken : Bool) (wsize : ℕ) (m : PathMachine) (turn : Turn) (old : Shelf) (next : Next) (new : PathMachine) (after : Shelf) → paths.StartsIf taken wsize m turn old next new after
+  path-starts : (taken : Bool) (wsize : ℕ) (m : PathMachine) (turn : Turn) (old : Shelf) (next : Step) (new : PathMachine) (after : Shelf) → paths.StartsIf taken wsize m turn old next new after
       → T old.pages → T after.pages
   path-starts true wsize m turn old next new after s t = as-shelf T quiet old after (kept-as old old after s.2 refl) t
   path-starts false wsize m turn old next new after s t = path-resumes m.arrived wsize (record m { opener = begun_at (turn.moment - 1) m.opener }) turn old next new after s t
 
   -- ---- any operation
 
-  pub pages-starts : (m : Machine) (wsize : ℕ) (turn : Turn) (old : Shelf) (next : Next) (new : Machine) (after : Shelf) → Starts wsize m turn old next new after → T old.pages → T after.pages
+  pub pages-starts : (m : Machine) (wsize : ℕ) (turn : Turn) (old : Shelf) (next : Step) (new : Machine) (after : Shelf) → Starts wsize m turn old next new after → T old.pages → T after.pages
   pages-starts (machines.File m) wsize turn old next new after s t = file-starts T quiet m wsize turn old next s.machine after s.step t
   pages-starts (machines.Path m) wsize turn old next new after s t = path-starts (slot_taken m.opener old.opens) wsize m turn old next s.machine after s.step t
   pages-starts (machines.Name m) wsize turn old next new after s t = as-shelf T quiet old after (name-goes-kept m turn old next s.machine after s.step) t
 
-  pub pages-resumes : (m : Machine) (wsize : ℕ) (turn : Turn) (old : Shelf) (next : Next) (new : Machine) (after : Shelf) → Resumes wsize m turn old next new after → T old.pages → T after.pages
+  pub pages-resumes : (m : Machine) (wsize : ℕ) (turn : Turn) (old : Shelf) (next : Step) (new : Machine) (after : Shelf) → Resumes wsize m turn old next new after → T old.pages → T after.pages
   pages-resumes (machines.File m) wsize turn old next new after s t = file-resumes T quiet m wsize turn old next s.machine after s.step t
   pages-resumes (machines.Path m) wsize turn old next new after s t = path-resumes m.arrived wsize m turn old next s.machine after s.step t
   pages-resumes (machines.Name m) wsize turn old next new after s t = as-shelf T quiet old after (name-goes-kept m turn old next s.machine after s.step) t
@@ -48,7 +48,7 @@ module _ (T : Pages → Type 0) (quiet : QuietLaws T) where
     opener-awaits (openers.Open m) = tt
     opener-awaits (openers.Put m) = tt
 
-    path-takes : (b : Bool) (wsize : ℕ) (m : PathMachine) (next : Next) (new : PathMachine) (after : Shelf) → paths.PathTakes b wsize m sent turn came old next new after
+    path-takes : (b : Bool) (wsize : ℕ) (m : PathMachine) (next : Step) (new : PathMachine) (after : Shelf) → paths.PathTakes b wsize m sent turn came old next new after
         → T old.pages → T after.pages
     path-takes true wsize m next new after p t =
         file-takes T quiet call came told sent turn old link (file_of m.opener) wsize next (file_of p.opener) after (opener-awaits m.opener) p.step t
@@ -56,7 +56,7 @@ module _ (T : Pages → Type 0) (quiet : QuietLaws T) where
         follows-pages p.step wsize p.walked turn p.heard next new after p.follows
         (as-shelf T quiet old p.heard (walk-takes-kept (walking.waiting_name m.walk) m.walk sent turn came old p.step p.walked.walk p.heard p.takes) t)
 
-    pub pages-takes : (m : Machine) (wsize : ℕ) (next : Next) (new : Machine) (after : Shelf) → PageAwaits m call → Takes wsize m sent turn came old next new after
+    pub pages-takes : (m : Machine) (wsize : ℕ) (next : Step) (new : Machine) (after : Shelf) → PageAwaits m call → Takes wsize m sent turn came old next new after
         → T old.pages → T after.pages
     pages-takes (machines.File m) wsize next new after asked s t = file-takes T quiet call came told sent turn old link m wsize next s.machine after asked s.step t
     pages-takes (machines.Path m) wsize next new after asked s t = path-takes m.arrived wsize m next s.machine after s.step t

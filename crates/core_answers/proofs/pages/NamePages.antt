@@ -1,9 +1,9 @@
 -- No step of an operation on names changes the kept pages.
-use Rattle.core_answers.proofs.Prelude.{◌≡◌, ℕ, Bool, true, false, List, Option, Some, None, Result, Ok, Err, refl, ap, ◌∙◌, inl, inr, if◌then◌else◌, Attr, Fault, Value, Call, Reply, Shelf, Turn, Next, Link, ListDir, Pair, PairNext, Deed, Look, Seek, Move, Remove, RemoveFile, Rename, Stat, SymLink, Visit, VisitNext, Walk, WalkNext, TakesLink, link_call, found_by, look_again, TakesText, text_call, TakesRename, rename_call, TakesShow, lacking, ChangesByCopy, TakesSymLink, access_call, access_attr, access_told, deed_call, deed_told, NameMachine}
+use Rattle.core_answers.proofs.Prelude.{◌≡◌, ℕ, Bool, true, false, List, Option, Some, None, Result, Ok, Err, refl, ap, ◌∙◌, inl, inr, if◌then◌else◌, Attr, Fault, Value, Call, Reply, Shelf, Turn, Step, Link, ListDir, Pair, PairStep, Deed, Look, Seek, Move, Remove, RemoveFile, Rename, Stat, SymLink, Visit, VisitStep, Walk, WalkStep, TakesLink, link_call, found_by, look_again, TakesText, text_call, TakesRename, rename_call, TakesShow, lacking, ChangesByCopy, TakesSymLink, access_call, access_attr, access_told, deed_call, deed_told, NameMachine}
 use Rattle.name_ops.specs.Looking.{Hears}
 use Rattle.name_ops.specs.Showing.{Shows}
 use Rattle.name_ops.specs.declared.told.Told.{Told}
-use Rattle.name_ops.specs.declared.walk.WalkNext.TheVariants as walks
+use Rattle.name_ops.specs.declared.walk.WalkStep.TheVariants as walks
 use Rattle.name_ops.specs.Changing as changing
 use Rattle.name_ops.specs.ListDir.{TakesList, page_call}
 use Rattle.name_ops.specs.Pairs as pairs
@@ -48,7 +48,7 @@ followed-kept true w told turn s = kept-itself s
 followed-kept false w (Ok found) turn s = refl
 followed-kept false w (Err fault) turn s = kept-itself s
 
-pub walk-takes-kept : (name : Option (List ℕ)) (w : Walk) (sent turn : Turn) (came : Result Reply Fault) (old : Shelf) (next : WalkNext) (new : Walk) (after : Shelf)
+pub walk-takes-kept : (name : Option (List ℕ)) (w : Walk) (sent turn : Turn) (came : Result Reply Fault) (old : Shelf) (next : WalkStep) (new : Walk) (after : Shelf)
     → Takes name w sent turn came old next new after → SamePages old after
 walk-takes-kept (Some name) w sent turn came old next new after t =
     kept-then old t.heard after (hears-kept w.spot.dir name sent turn came old t.heard t.hears)
@@ -61,44 +61,44 @@ walk-takes-kept None w sent turn came old next new after t = kept-same old after
 pub visit-kept : (v : Visit) (turn : Turn) (old : Shelf) → SamePages old (visit_shelf v turn old)
 visit-kept v turn old = kept-if v.asked old old (go_shelf v.walk turn old) (kept-itself old) (walk-kept v.walk turn old)
 
-pub visit-takes-kept : (v : Visit) (sent turn : Turn) (came : Result Reply Fault) (old : Shelf) (next : VisitNext) (new : Visit) (after : Shelf)
+pub visit-takes-kept : (v : Visit) (sent turn : Turn) (came : Result Reply Fault) (old : Shelf) (next : VisitStep) (new : Visit) (after : Shelf)
     → VisitTakes v sent turn came old next new after → SamePages old after
 visit-takes-kept v sent turn came old next new after t = walk-takes-kept (waiting_name v.walk) v.walk sent turn came old t.step t.walked.walk after t.takes
 
-changes-kept : (dir : List ℕ) (call : Call) (told : Told) (sent turn : Turn) (old : Shelf) (next : Next) (after : Shelf)
+changes-kept : (dir : List ℕ) (call : Call) (told : Told) (sent turn : Turn) (old : Shelf) (next : Step) (after : Shelf)
     → changing.Changes dir call told sent turn old next after → SamePages old after
 changes-kept dir call told sent turn old next after c = ap (λ (s : Shelf). s.pages) c.others
 
-pub change-takes-kept : (asked : Bool) (call : List ℕ → Call) (told : Told) (v : Visit) (sent turn : Turn) (came : Result Reply Fault) (old : Shelf) (next : Next) (new : Visit) (after : Shelf)
+pub change-takes-kept : (asked : Bool) (call : List ℕ → Call) (told : Told) (v : Visit) (sent turn : Turn) (came : Result Reply Fault) (old : Shelf) (next : Step) (new : Visit) (after : Shelf)
     → changing.TakesChange asked call told v sent turn came old next new after → SamePages old after
 change-takes-kept true call told v sent turn came old next new after t = changes-kept v.walk.spot.dir (call v.walk.spot.dir) told sent turn old next after t.1
 change-takes-kept false call told v sent turn came old next new after t = visit-takes-kept v sent turn came old t.step new after t.takes
 
-shows-kept : (object : List ℕ) (attr : Option Attr) (told : Result Value Fault) (call : Call) (sent turn : Turn) (old : Shelf) (next : Next) (after : Shelf)
+shows-kept : (object : List ℕ) (attr : Option Attr) (told : Result Value Fault) (call : Call) (sent turn : Turn) (old : Shelf) (next : Step) (after : Shelf)
     → Shows object attr told call sent turn old next after → SamePages old after
 shows-kept object attr told call sent turn old next after s = ap (λ (s : Shelf). s.pages) s.others
 
 pub show-takes-kept : (asked : Bool) (call : List ℕ → Call) (attr : Option Attr) (told : Result Value Fault) (v : Visit) (sent turn : Turn) (came : Result Reply Fault) (old : Shelf)
-    (next : Next) (new : Visit) (after : Shelf) → TakesShow asked call attr told v sent turn came old next new after → SamePages old after
+    (next : Step) (new : Visit) (after : Shelf) → TakesShow asked call attr told v sent turn came old next new after → SamePages old after
 show-takes-kept true call attr told v sent turn came old next new after t = shows-kept v.walk.spot.dir attr told (call v.walk.spot.dir) sent turn old next after t.1
 show-takes-kept false call attr told v sent turn came old next new after t = visit-takes-kept v sent turn came old t.step new after t.takes
 
-pub text-takes-kept : (asked : Bool) (v : Visit) (sent turn : Turn) (came : Result Reply Fault) (old : Shelf) (next : Next) (new : Visit) (after : Shelf)
+pub text-takes-kept : (asked : Bool) (v : Visit) (sent turn : Turn) (came : Result Reply Fault) (old : Shelf) (next : Step) (new : Visit) (after : Shelf)
     → TakesText asked v sent turn came old next new after → SamePages old after
 text-takes-kept true v sent turn came old next new after t = ap (λ (s : Shelf). s.pages) t.1.shows.others
 text-takes-kept false v sent turn came old next new after t = visit-takes-kept v sent turn came old t.step new after t.takes
 
-copy-changes-kept : (dir : List ℕ) (call : Call) (told : Told) (sent turn : Turn) (old : Shelf) (next : Next) (after : Shelf)
+copy-changes-kept : (dir : List ℕ) (call : Call) (told : Told) (sent turn : Turn) (old : Shelf) (next : Step) (after : Shelf)
     → ChangesByCopy dir call told sent turn old next after → SamePages old after
 copy-changes-kept dir call told sent turn old next after (inl c) = changes-kept dir call told sent turn old next after c
 copy-changes-kept dir call told sent turn old next after (inr c) = changes-kept dir call (lacking told) sent turn old next after c.1
 
-pub sym-link-takes-kept : (asked : Bool) (m : SymLink) (sent turn : Turn) (came : Result Reply Fault) (old : Shelf) (next : Next) (new : Visit) (after : Shelf)
+pub sym-link-takes-kept : (asked : Bool) (m : SymLink) (sent turn : Turn) (came : Result Reply Fault) (old : Shelf) (next : Step) (new : Visit) (after : Shelf)
     → TakesSymLink asked m sent turn came old next new after → SamePages old after
 sym-link-takes-kept true m sent turn came old next new after t = copy-changes-kept m.visit.walk.spot.dir _ _ sent turn old next after t.1
 sym-link-takes-kept false m sent turn came old next new after t = visit-takes-kept m.visit sent turn came old t.step new after t.takes
 
-pub list-takes-kept : (asked : Bool) (m : ListDir) (sent turn : Turn) (came : Result Reply Fault) (old : Shelf) (next : Next) (new : ListDir) (after : Shelf)
+pub list-takes-kept : (asked : Bool) (m : ListDir) (sent turn : Turn) (came : Result Reply Fault) (old : Shelf) (next : Step) (new : ListDir) (after : Shelf)
     → TakesList asked m sent turn came old next new after → SamePages old after
 list-takes-kept true m sent turn came old next new after t = ap (λ (s : Shelf). s.pages) t.others
 list-takes-kept false m sent turn came old next new after t = visit-takes-kept m.visit sent turn came old t.walks.step t.visit after t.walks.takes
@@ -108,14 +108,14 @@ list-takes-kept false m sent turn came old next new after t = visit-takes-kept m
 pub stat-kept : (m : Stat) (turn : Turn) (old : Shelf) → SamePages old (stats.stat_shelf m turn old)
 stat-kept m turn old = kept-if m.asked old old (go_shelf m.walk turn old) (kept-itself old) (walk-kept m.walk turn old)
 
-pub stat-takes-kept : (asked : Bool) (m : Stat) (sent turn : Turn) (came : Result Reply Fault) (old : Shelf) (next : Next) (new : Stat) (after : Shelf)
+pub stat-takes-kept : (asked : Bool) (m : Stat) (sent turn : Turn) (came : Result Reply Fault) (old : Shelf) (next : Step) (new : Stat) (after : Shelf)
     → stats.StatTakes asked m sent turn came old next new after → SamePages old after
 stat-takes-kept true m sent turn came old next new after t = ap (λ (s : Shelf). s.pages) t.1.others
 stat-takes-kept false m sent turn came old next new after t = walk-takes-kept (waiting_name m.walk) m.walk sent turn came old t.step t.walked.walk after t.takes
 
 -- ---- two walks and a call
 
-first-kept : (step : WalkNext) (p : Pair) (turn : Turn) (old : Shelf) → SamePages old (pairs.first_shelf step p turn old)
+first-kept : (step : WalkStep) (p : Pair) (turn : Turn) (old : Shelf) → SamePages old (pairs.first_shelf step p turn old)
 first-kept (walks.Send call) p turn old = kept-itself old
 first-kept walks.Wait p turn old = kept-itself old
 first-kept (walks.At first) p turn old = walk-kept p.second turn old
@@ -127,49 +127,49 @@ pair-kept p turn old =
     (kept-then old (go_shelf p.first turn old) (pairs.on_shelf p turn old) (walk-kept p.first turn old)
     (first-kept (go_next p.first turn old) (pairs.walked_first p turn old) turn (go_shelf p.first turn old)))
 
-pub pair-takes-kept : (first : Bool) (p : Pair) (sent turn : Turn) (came : Result Reply Fault) (old : Shelf) (next : PairNext) (new : Pair) (after : Shelf)
+pub pair-takes-kept : (first : Bool) (p : Pair) (sent turn : Turn) (came : Result Reply Fault) (old : Shelf) (next : PairStep) (new : Pair) (after : Shelf)
     → pairs.PairTakes first p sent turn came old next new after → SamePages old after
 pair-takes-kept true p sent turn came old next new after t =
     kept-then old t.heard after (walk-takes-kept (waiting_name p.first) p.first sent turn came old t.step t.walked.first t.heard t.takes)
     (kept-as t.heard (pairs.first_shelf t.step t.walked turn t.heard) after t.shelf_is (first-kept t.step t.walked turn t.heard))
 pair-takes-kept false p sent turn came old next new after t = walk-takes-kept (waiting_name p.second) p.second sent turn came old t.step t.walked.second after t.takes
 
-pub rename-takes-kept : (asked : Bool) (m : Rename) (sent turn : Turn) (came : Result Reply Fault) (old : Shelf) (next : Next) (new : Pair) (after : Shelf)
+pub rename-takes-kept : (asked : Bool) (m : Rename) (sent turn : Turn) (came : Result Reply Fault) (old : Shelf) (next : Step) (new : Pair) (after : Shelf)
     → TakesRename asked m sent turn came old next new after → SamePages old after
 rename-takes-kept true m sent turn came old next new after t = ap (λ (s : Shelf). s.pages) t.1.others
 rename-takes-kept false m sent turn came old next new after t = pair-takes-kept m.pair.first.asked m.pair sent turn came old t.step new after t.takes
 
-pub link-takes-kept : (asked : Bool) (m : Link) (sent turn : Turn) (came : Result Reply Fault) (old : Shelf) (next : Next) (new : Pair) (after : Shelf)
+pub link-takes-kept : (asked : Bool) (m : Link) (sent turn : Turn) (came : Result Reply Fault) (old : Shelf) (next : Step) (new : Pair) (after : Shelf)
     → TakesLink asked m sent turn came old next new after → SamePages old after
 link-takes-kept true m sent turn came old next new after t = ap (λ (s : Shelf). s.pages) t.1.others
 link-takes-kept false m sent turn came old next new after t = pair-takes-kept m.pair.first.asked m.pair sent turn came old t.step new after t.takes
 
 -- ---- removals of names
 
-goes-kept : (deed : Option Deed) (m : RemoveFile) (turn : Turn) (old : Shelf) (next : Next) (new : RemoveFile) (after : Shelf) → removals.Goes deed m turn old next new after → SamePages old after
+goes-kept : (deed : Option Deed) (m : RemoveFile) (turn : Turn) (old : Shelf) (next : Step) (new : RemoveFile) (after : Shelf) → removals.Goes deed m turn old next new after → SamePages old after
 goes-kept (Some deed) m turn old next new after g = kept-same old after g.shelf_is
 goes-kept None m turn old next new after g = kept-as old (go_shelf m.walk turn old) after g.shelf_is (walk-kept m.walk turn old)
 
-pub remove-kept : (asked : Bool) (m : RemoveFile) (turn : Turn) (old : Shelf) (next : Next) (new : RemoveFile) (after : Shelf) → removals.Resumes asked m turn old next new after → SamePages old after
+pub remove-kept : (asked : Bool) (m : RemoveFile) (turn : Turn) (old : Shelf) (next : Step) (new : RemoveFile) (after : Shelf) → removals.Resumes asked m turn old next new after → SamePages old after
 remove-kept true m turn old next new after r = kept-same old after r.shelf_is
 remove-kept false m turn old next new after r = goes-kept m.deed m turn old next new after r
 
-plans-kept : (is_open : Bool) (file : List ℕ) (m : RemoveFile) (room : Bool) (old : Shelf) (next : Next) (new : RemoveFile) (after : Shelf) → removals.Plans is_open file m room old next new after → SamePages old after
+plans-kept : (is_open : Bool) (file : List ℕ) (m : RemoveFile) (room : Bool) (old : Shelf) (next : Step) (new : RemoveFile) (after : Shelf) → removals.Plans is_open file m room old next new after → SamePages old after
 plans-kept is_open file m room old next new after p = ap (λ (s : Shelf). s.pages) p.shelf_is
 
-look-kept : (again : Bool) (told : Result (List ℕ) Fault) (m : RemoveFile) (room : Bool) (old : Shelf) (next : Next) (new : RemoveFile) (after : Shelf)
+look-kept : (again : Bool) (told : Result (List ℕ) Fault) (m : RemoveFile) (room : Bool) (old : Shelf) (next : Step) (new : RemoveFile) (after : Shelf)
     → removals.FollowsLook again told m room old next new after → SamePages old after
 look-kept true told m room old next new after f = kept-same old after f.shelf_is
 look-kept false (Ok file) m room old next new after f = plans-kept f.is_open file m room old next new after f.plans
 look-kept false (Err fault) m room old next new after f = kept-same old after f.shelf_is
 
-seek-kept : (again : Bool) (told : Result (List ℕ) Fault) (file to : List ℕ) (m : RemoveFile) (room : Bool) (old : Shelf) (next : Next) (new : RemoveFile) (after : Shelf)
+seek-kept : (again : Bool) (told : Result (List ℕ) Fault) (file to : List ℕ) (m : RemoveFile) (room : Bool) (old : Shelf) (next : Step) (new : RemoveFile) (after : Shelf)
     → removals.FollowsSeek again told file to m room old next new after → SamePages old after
 seek-kept true told file to m room old next new after f = kept-same old after f.shelf_is
 seek-kept false (Ok found) file to m room old next new after f = plans-kept true file m room old next new after f
 seek-kept false (Err fault) file to m room old next new after f = kept-same old after f.shelf_is
 
-deed-kept : (deed : Deed) (m : RemoveFile) (sent turn : Turn) (came : Result Reply Fault) (old : Shelf) (next : Next) (new : RemoveFile) (after : Shelf)
+deed-kept : (deed : Deed) (m : RemoveFile) (sent turn : Turn) (came : Result Reply Fault) (old : Shelf) (next : Step) (new : RemoveFile) (after : Shelf)
     → removals.TakesDeed deed m sent turn came old next new after → SamePages old after
 deed-kept Look m sent turn came old next new after t =
     kept-then old t.heard after (hears-kept m.walk.spot.dir m.name sent turn came old t.heard t.hears)
@@ -180,27 +180,27 @@ deed-kept (Seek file to) m sent turn came old next new after t =
 deed-kept (Move file to) m sent turn came old next new after t = ap (λ (s : Shelf). s.pages) t.1.others
 deed-kept Remove m sent turn came old next new after t = changes-kept m.walk.spot.dir (removals.call_of m Remove) (removals.removed_told came) sent turn old next after t.1
 
-asked-kept : (asked : Bool) (deed : Deed) (m : RemoveFile) (sent turn : Turn) (came : Result Reply Fault) (old : Shelf) (next : Next) (new : RemoveFile) (after : Shelf)
+asked-kept : (asked : Bool) (deed : Deed) (m : RemoveFile) (sent turn : Turn) (came : Result Reply Fault) (old : Shelf) (next : Step) (new : RemoveFile) (after : Shelf)
     → removals.TakesIf asked deed m sent turn came old next new after → SamePages old after
 asked-kept true deed m sent turn came old next new after t = deed-kept deed m sent turn came old next new after t
 asked-kept false deed m sent turn came old next new after t = kept-same old after t.shelf_is
 
-pub remove-takes-kept : (deed : Option Deed) (m : RemoveFile) (sent turn : Turn) (came : Result Reply Fault) (old : Shelf) (next : Next) (new : RemoveFile) (after : Shelf)
+pub remove-takes-kept : (deed : Option Deed) (m : RemoveFile) (sent turn : Turn) (came : Result Reply Fault) (old : Shelf) (next : Step) (new : RemoveFile) (after : Shelf)
     → removals.Takes deed m sent turn came old next new after → SamePages old after
 remove-takes-kept (Some deed) m sent turn came old next new after t = asked-kept m.asked deed m sent turn came old next new after t
 remove-takes-kept None m sent turn came old next new after t = walk-takes-kept (waiting_name m.walk) m.walk sent turn came old t.step t.walked.walk after t.takes
 
 -- ---- any of them
 
-visit-goes-kept : (call : List ℕ → Call) (v : Visit) (with_visit : Visit → NameMachine) (turn : Turn) (old : Shelf) (next : Next) (new : NameMachine) (after : Shelf)
+visit-goes-kept : (call : List ℕ → Call) (v : Visit) (with_visit : Visit → NameMachine) (turn : Turn) (old : Shelf) (next : Step) (new : NameMachine) (after : Shelf)
     → steps.VisitGoes call v with_visit turn old next new after → SamePages old after
 visit-goes-kept call v with_visit turn old next new after g = kept-as old (visit_shelf v turn old) after g.shelf_is (visit-kept v turn old)
 
-pair-goes-kept : (call : List ℕ → List ℕ → Call) (p : Pair) (with_pair : Pair → NameMachine) (turn : Turn) (old : Shelf) (next : Next) (new : NameMachine) (after : Shelf)
+pair-goes-kept : (call : List ℕ → List ℕ → Call) (p : Pair) (with_pair : Pair → NameMachine) (turn : Turn) (old : Shelf) (next : Step) (new : NameMachine) (after : Shelf)
     → steps.PairGoes call p with_pair turn old next new after → SamePages old after
 pair-goes-kept call p with_pair turn old next new after g = kept-as old (pairs.pair_shelf p turn old) after g.shelf_is (pair-kept p turn old)
 
-pub name-goes-kept : (m : NameMachine) (turn : Turn) (old : Shelf) (next : Next) (new : NameMachine) (after : Shelf) → NameGoes m turn old next new after → SamePages old after
+pub name-goes-kept : (m : NameMachine) (turn : Turn) (old : Shelf) (next : Step) (new : NameMachine) (after : Shelf) → NameGoes m turn old next new after → SamePages old after
 name-goes-kept (machines.Change m) turn old next new after g = visit-goes-kept (deed_call m.deed m.name) m.visit (steps.change_with m) turn old next new after g
 name-goes-kept (machines.Stat m) turn old next new after g = kept-as old (stats.stat_shelf m turn old) after g.shelf_is (stat-kept m turn old)
 name-goes-kept (machines.Access m) turn old next new after g = visit-goes-kept (access_call m.bits) m.visit (steps.access_with m) turn old next new after g
@@ -211,7 +211,7 @@ name-goes-kept (machines.Link m) turn old next new after g = pair-goes-kept (lin
 name-goes-kept (machines.SymLink m) turn old next new after g = kept-as old (visit_shelf m.visit turn old) after g.shelf_is (visit-kept m.visit turn old)
 name-goes-kept (machines.List m) turn old next new after g = visit-goes-kept (page_call m.place) m.visit (steps.list_with m) turn old next new after g
 
-pub name-takes-kept : (m : NameMachine) (sent turn : Turn) (came : Result Reply Fault) (old : Shelf) (next : Next) (new : NameMachine) (after : Shelf)
+pub name-takes-kept : (m : NameMachine) (sent turn : Turn) (came : Result Reply Fault) (old : Shelf) (next : Step) (new : NameMachine) (after : Shelf)
     → NameTakes m sent turn came old next new after → SamePages old after
 name-takes-kept (machines.Change m) sent turn came old next new after t =
     change-takes-kept m.visit.asked (deed_call m.deed m.name) (deed_told m.deed came) m.visit sent turn came old next t.visit after t.step

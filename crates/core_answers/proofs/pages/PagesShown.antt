@@ -1,5 +1,5 @@
 -- Each page that is kept was read, and follows what the client wrote and cut since.
-use Rattle.core_answers.proofs.Prelude.{◌≡◌, ℕ, List, [], ◌∷◌, ◌++◌, length, Option, Some, None, Result, Ok, refl, sym, subst, arith, Stamp, Pages, known_of, page_of, Fault, Entry, Began, Call, Reply, Heard-wide, Next, Send, Wait, Done, Shelf, Turn, machine_of, Mounted, Machine, Takes, Setup, View, Reaches, ThenOf, IsAnswered, WasRead, WasWritten, WasCut, IsPage}
+use Rattle.core_answers.proofs.Prelude.{◌≡◌, ℕ, List, [], ◌∷◌, ◌++◌, length, Option, Some, None, Result, Ok, refl, sym, subst, arith, Stamp, Pages, known_of, page_of, Fault, Entry, Began, Call, Reply, Heard-wide, Step, Send, Wait, Done, Shelf, Turn, machine_of, Mounted, Machine, Takes, Setup, View, Reaches, ThenOf, IsAnswered, WasRead, WasWritten, WasCut, IsPage}
 use Rattle.std.proofs.Common.{IsSome}
 use Rattle.std.proofs.lemmas.List.Elements.{All-weaker}
 use Rattle.page_cache.specs.Sound.{IsSound}
@@ -57,13 +57,13 @@ abbrev pub GoodShelf : Pages → List Entry → Shelf → Type 0
 GoodShelf first h shelf = Good first h shelf.pages
 
 -- what a step makes of the pages, by what came of its call
-pub takes-good : (first : Pages) (h : List Entry) (machine : Machine) (call : Call) (wsize : ℕ) (sent turn : Turn) (came : Result Reply Fault) (old : Shelf) (next : Next) (new : Machine) (after : Shelf)
+pub takes-good : (first : Pages) (h : List Entry) (machine : Machine) (call : Call) (wsize : ℕ) (sent turn : Turn) (came : Result Reply Fault) (old : Shelf) (next : Step) (new : Machine) (after : Shelf)
     → PageAwaits machine call → ((reply : Reply) → came ≡ Ok reply → IsAnswered h 0 (length h) call reply × IsSentAs sent.xid call old.back)
     → Takes wsize machine sent turn came old next new after → GoodShelf first h old → GoodShelf first h after
 takes-good first h machine call wsize sent turn came old next new after on told t g =
     pages-takes (Good first h) (quiet-good first h) call came (told-good-laws first h call came (λ reply is. (told reply is).0)) sent turn old (λ reply is. (told reply is).1) machine wsize next new after on t g
 
-no-story : (next : Next) (new : Machine) → ThenOf (λ k. Unit {0}) (λ a. Unit {0}) next new
+no-story : (next : Step) (new : Machine) → ThenOf (λ k. Unit {0}) (λ a. Unit {0}) next new
 no-story (Send call) new = tt
 no-story Wait new = tt
 no-story (Done answer) new = tt

@@ -1,9 +1,9 @@
 -- A call that waits under an xid spells the WRITE of what is in flight under it, if anything is: so through each step of an operation.
-use Rattle.core_answers.proofs.Prelude.{◌≡◌, ◌≢◌, ℕ, Bool, true, false, nat_eq, List, [], ◌∷◌, ◌++◌, Option, Some, None, option_map, Result, refl, sym, ap, subst, ◌∙◌, arith, eqb-true, Waiting, next_xid, WaitedAs, made_call, waiting_at, without, waits_early, at_made, others_made, others_taken, gone, Fault, Entry, Call, Reply, SpellsCallBy, program_of, proc_of, Pending, of_file, Sent, piece_under, Next, Shelf, Turn, IsUnused, Machine, Opener, file_of, Starts, Resumes, Takes, Purpose, Setup, Makes, record_of, View, turn_at, IsMade, Flown, sender, look_at, Flies, Rows, made-known, made-asked}
+use Rattle.core_answers.proofs.Prelude.{◌≡◌, ◌≢◌, ℕ, Bool, true, false, nat_eq, List, [], ◌∷◌, ◌++◌, Option, Some, None, option_map, Result, refl, sym, ap, subst, ◌∙◌, arith, eqb-true, Waiting, next_xid, WaitedAs, made_call, waiting_at, without, waits_early, at_made, others_made, others_taken, gone, Fault, Entry, Call, Reply, SpellsCallBy, program_of, proc_of, Pending, of_file, Sent, piece_under, Step, Shelf, Turn, IsUnused, Machine, Opener, file_of, Starts, Resumes, Takes, Purpose, Setup, Makes, record_of, View, turn_at, IsMade, Flown, sender, look_at, Flies, Rows, made-known, made-asked}
 use Rattle.nfs_types.specs.declared.program.TheConstants.{NFS_PROGRAM}
 use Rattle.rpc_message.specs.declared.cred.Cred.{Cred}
 use Rattle.world_model.specs.declared.message.Call.TheVariants as calls
-use Rattle.client_shelf.specs.declared.next.Next.TheVariants as nexts
+use Rattle.client_shelf.specs.declared.step.Step.TheVariants as nexts
 use Rattle.file_ops.specs.Saves as saves
 use Rattle.file_ops.proofs.Unmade.{AnyCall}
 use Rattle.file_ops.proofs.Walks.{LeftAs}
@@ -43,7 +43,7 @@ all-any P (machines.File m) back h = has-all P (λ s k. P k) (λ s k q. q) m bac
 all-any P (machines.Path m) back h = path-any P m.arrived m.opener back h
 all-any P (machines.Name m) back h = h
 
-left-any : (P : Pending → Type 0) (next : Next) (m : Machine) (back : Pending) → LeftAs P (HasAll P (λ s k. P k)) AnyCall next m back → P back
+left-any : (P : Pending → Type 0) (next : Step) (m : Machine) (back : Pending) → LeftAs P (HasAll P (λ s k. P k)) AnyCall next m back → P back
 left-any P (nexts.Send call) m back l = all-any P m back l.0
 left-any P nexts.Wait m back l = l
 left-any P (nexts.Done answer) m back l = l
@@ -55,21 +55,21 @@ module _ (cred : Cred) (xid : ℕ) (bytes : List ℕ) (wsize : ℕ) (turn : Turn
   abbrev Of : List ℕ → List Sent → Type 0
   Of file pieces = EachUnder xid (λ piece. SpellsCallBy cred xid (saves.write_of file piece) bytes) pieces
 
-  pub starts-spelled : (m : Machine) (old : Shelf) (next : Next) (new : Machine) (after : Shelf) → Starts wsize m turn old next new after → Spelled cred xid bytes old.back
+  pub starts-spelled : (m : Machine) (old : Shelf) (next : Step) (new : Machine) (after : Shelf) → Starts wsize m turn old next new after → Spelled cred xid bytes old.back
       → Spelled cred xid bytes after.back
   starts-spelled m old next new after s k file =
       left-any (AtFile file (Of file)) next new after.back
       (all-starts wsize turn (AtFile file (Of file)) (λ s b. AtFile file (Of file) b) AnyCall any-call
       (carries-file xid (Of file) (of-each xid (λ piece. SpellsCallBy cred xid (saves.write_of file piece) bytes)) file wsize turn foreign) m old next new after (k file) s)
 
-  pub resumes-spelled : (m : Machine) (old : Shelf) (next : Next) (new : Machine) (after : Shelf) → Resumes wsize m turn old next new after → Spelled cred xid bytes old.back
+  pub resumes-spelled : (m : Machine) (old : Shelf) (next : Step) (new : Machine) (after : Shelf) → Resumes wsize m turn old next new after → Spelled cred xid bytes old.back
       → Spelled cred xid bytes after.back
   resumes-spelled m old next new after s k file =
       left-any (AtFile file (Of file)) next new after.back
       (all-resumes wsize turn (AtFile file (Of file)) (λ s b. AtFile file (Of file) b) AnyCall any-call
       (carries-file xid (Of file) (of-each xid (λ piece. SpellsCallBy cred xid (saves.write_of file piece) bytes)) file wsize turn foreign) m old next new after (k file) s)
 
-  pub takes-spelled : (sent : Turn) (came : Result Reply Fault) (m : Machine) (old : Shelf) (next : Next) (new : Machine) (after : Shelf) → Takes wsize m sent turn came old next new after
+  pub takes-spelled : (sent : Turn) (came : Result Reply Fault) (m : Machine) (old : Shelf) (next : Step) (new : Machine) (after : Shelf) → Takes wsize m sent turn came old next new after
       → Spelled cred xid bytes old.back → Spelled cred xid bytes after.back
   takes-spelled sent came m old next new after s k file =
       left-any (AtFile file (Of file)) next new after.back

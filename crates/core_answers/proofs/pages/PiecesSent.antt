@@ -1,11 +1,11 @@
 -- A WRITE that an operation asks for is that of the bytes that come into flight under the xid of its turn.
-use Rattle.core_answers.proofs.Prelude.{◌≡◌, ◌≢◌, ◌&&◌, ◌==◌, ◌-◌, ◌+◌, ℕ, Bool, true, false, nat_eq, List, [], ◌∷◌, ◌++◌, Option, Some, None, Result, Ok, Err, refl, sym, ap, subst, ◌∙◌, ◌⊎◌, inl, inr, nat_lt, unwrap_or, if◌then◌else◌, eq-eqb, Verf, Fault, Call, Reply, Segments, last_end, lost, Sent, FilePending, piece_under, renumbered, chosen, piece_of, with_sent, with_xid, Pending, of_file, OnFile, same-or, Verdict, AllStable, SendAgain, verdict_of, left, is_first, Next, Repeat, Shelf, Turn, goes_again, CloseFile, Closing, Removal, OpeningNext, PutFile, Putting, Sending, Committing, Resending, CommittingAgain, Saving, SyncFile, Syncing, WriteFile, Writing, is_full, refusal_of, remove_busy, commit_told, file_to_write, IsUnused, file_at, joined, by-step, ends_as, FileMachine, Machine, Opener, PathMachine, file_of, placed, slot_taken, begun_at, Starts, Resumes, Takes, WalkNext, flies_if, flies_save, flies_write, flies_sync, flies_close, flies_put, flies_file, flies_path, flies_of, Flies, AskedOf}
+use Rattle.core_answers.proofs.Prelude.{◌≡◌, ◌≢◌, ◌&&◌, ◌==◌, ◌-◌, ◌+◌, ℕ, Bool, true, false, nat_eq, List, [], ◌∷◌, ◌++◌, Option, Some, None, Result, Ok, Err, refl, sym, ap, subst, ◌∙◌, ◌⊎◌, inl, inr, nat_lt, unwrap_or, if◌then◌else◌, eq-eqb, Verf, Fault, Call, Reply, Segments, last_end, lost, Sent, FilePending, piece_under, renumbered, chosen, piece_of, with_sent, with_xid, Pending, of_file, OnFile, same-or, Verdict, AllStable, SendAgain, verdict_of, left, is_first, Step, Repeat, Shelf, Turn, goes_again, CloseFile, Closing, Removal, OpeningStep, PutFile, Putting, Sending, Committing, Resending, CommittingAgain, Saving, SyncFile, Syncing, WriteFile, Writing, is_full, refusal_of, remove_busy, commit_told, file_to_write, IsUnused, file_at, joined, by-step, ends_as, FileMachine, Machine, Opener, PathMachine, file_of, placed, slot_taken, begun_at, Starts, Resumes, Takes, WalkStep, flies_if, flies_save, flies_write, flies_sync, flies_close, flies_put, flies_file, flies_path, flies_of, Flies, AskedOf}
 use Rattle.core_facts.proofs.Flights.{has-flies}
 use Rattle.world_model.specs.declared.answer.Answer.TheVariants as answers
 use Rattle.world_model.specs.declared.answer.Fault.TheVariants as faults
-use Rattle.client_shelf.specs.declared.next.Next.TheVariants as nexts
+use Rattle.client_shelf.specs.declared.step.Step.TheVariants as nexts
 use Rattle.file_ops.specs.declared.close_file.Closing.TheVariants as closing
-use Rattle.file_ops.specs.declared.opening.OpeningNext.TheVariants as openings
+use Rattle.file_ops.specs.declared.opening.OpeningStep.TheVariants as openings
 use Rattle.file_ops.specs.declared.put_file.Putting.TheVariants as putting
 use Rattle.file_ops.specs.declared.saving.Phase.{Phase}
 use Rattle.file_ops.specs.declared.sync_file.Syncing.TheVariants as syncing
@@ -24,7 +24,7 @@ use Rattle.op_machines.specs.declared.file_machine.FileMachine.TheVariants as fi
 use Rattle.op_machines.specs.declared.machine.Machine.TheVariants as machines
 use Rattle.op_machines.specs.FileSteps as steps
 use Rattle.op_machines.specs.PathSteps as paths
-use Rattle.name_ops.specs.declared.walk.WalkNext.TheVariants as walks
+use Rattle.name_ops.specs.declared.walk.WalkStep.TheVariants as walks
 use Rattle.name_ops.specs.Walking as walking
 use Rattle.name_ops.proofs.Keeps.{walk-takes-kept}
 use Rattle.op_machines.proofs.Walk.{has-any}
@@ -96,7 +96,7 @@ module _ (xid : ℕ) where
   SaveOf back s call = IsOf xid (flies_save s) call back
 
   -- a step of a save, as one of an operation
-  abbrev SendsOf : Next → Saving → Pending → Type 0
+  abbrev SendsOf : Step → Saving → Pending → Type 0
   SendsOf next s back = AskedOf (SaveOf back) next s
 
   of-either : (b : Bool) (file : List ℕ) (call : Call) (back : Pending) → IsOf xid (Some file) call back → IsOf xid (flies_if b file) call back
@@ -190,7 +190,7 @@ again-of asked to file back after on free piece is =
     same-write p q a b c = λ i. saves.write_of file (record { xid = p.xid; offset = sym a i; how = sym b i; bytes = sym c i; parts = p.parts })
 
 module _ (sent turn : Turn) where
-  abbrev TurnSends : Next → Saving → Pending → Type 0
+  abbrev TurnSends : Step → Saving → Pending → Type 0
   TurnSends next s back = AskedOf (λ k call. IsOf turn.xid (flies_save k) call back) next s
 
   repeats-sends : (again : Bool) (wsize : ℕ) (told : _) (s : Saving) (back : Pending) (gives : _) (new : Saving) (after : Pending)
@@ -234,7 +234,7 @@ module _ (sent turn : Turn) where
 -- ---- the machines with saves
 
 module _ (turn : Turn) (wsize : ℕ) where
-  abbrev Sends : Next → Saving → Pending → Type 0
+  abbrev Sends : Step → Saving → Pending → Type 0
   Sends next s back = AskedOf (λ k call. IsOf turn.xid (flies_save k) call back) next s
 
   abbrev WriteOf : Pending → Writing → Call → Type 0
@@ -249,35 +249,35 @@ module _ (turn : Turn) (wsize : ℕ) where
   abbrev PutOf : Pending → Writing → Putting → Call → Type 0
   PutOf back write p call = IsOf turn.xid (flies_put p write) call back
 
-  to-back : (to back : Pending) (next : Next) {S : Type 0} → (E : Pending → S → Call → Type 0) (state : S) → back ≡ to → AskedOf (E to) next state → AskedOf (E back) next state
+  to-back : (to back : Pending) (next : Step) {S : Type 0} → (E : Pending → S → Call → Type 0) (state : S) → back ≡ to → AskedOf (E to) next state → AskedOf (E back) next state
   to-back to back next E state is a = subst (λ (b : Pending). AskedOf (E b) next state) (sym is) a
 
   -- syncs
-  sync-as : (gives : _) (saved : Saving) (next : Next) (state : Syncing) (back : Pending) → next ≡ syncs.sync_next gives → state ≡ syncs.sync_state gives saved
+  sync-as : (gives : _) (saved : Saving) (next : Step) (state : Syncing) (back : Pending) → next ≡ syncs.sync_next gives → state ≡ syncs.sync_state gives saved
       → Sends (syncs.sync_next gives) saved back → AskedOf (SyncOf back) next state
   sync-as gives saved next state back n s l = by-step
       (λ g. next ≡ syncs.sync_next g → state ≡ syncs.sync_state g saved → Sends (syncs.sync_next g) saved back → AskedOf (SyncOf back) next state)
       (λ call is at own. asked-sends (SyncOf back) call next state is (subst (λ (k : Syncing). SyncOf back k call) (sym at) own))
       (λ is at own. asked-waits (SyncOf back) next state is) (λ result is at own. asked-done (SyncOf back) _ next state is) gives n s l
 
-  sync-queues : (b : Bool) (lane : ℕ) (s : Saving) (old : Shelf) (next : Next) (state : Syncing) (new : Shelf) → syncs.QueuesIf b wsize lane turn s old next state new
+  sync-queues : (b : Bool) (lane : ℕ) (s : Saving) (old : Shelf) (next : Step) (state : Syncing) (new : Shelf) → syncs.QueuesIf b wsize lane turn s old next state new
       → IsUnused turn.xid old.back → AskedOf (SyncOf new.back) next state
   sync-queues true lane s old next state new q free =
       sync-as q.gives q.saved next state new.back q.follows.next_is q.follows.state_is (goes-sends turn.xid wsize turn.room false s old.back q.gives q.saved new.back q.goes free)
   sync-queues false lane s old next state new q free = asked-waits (SyncOf new.back) next state q.next_is
 
-  sync-starts : (found : Option (List ℕ)) (m : SyncFile) (old : Shelf) (next : Next) (state : Syncing) (new : Shelf) → syncs.StartsAt found wsize m turn old next state new
+  sync-starts : (found : Option (List ℕ)) (m : SyncFile) (old : Shelf) (next : Step) (state : Syncing) (new : Shelf) → syncs.StartsAt found wsize m turn old next state new
       → IsUnused turn.xid old.back → AskedOf (SyncOf new.back) next state
   sync-starts None m old next state new s free = asked-done (SyncOf new.back) _ next state s.next_is
   sync-starts (Some file) m old next state new s free =
       sync-queues (is_first m.lane (joined m.lane file old).order) m.lane (saves.begun file old.seq) (joined m.lane file old) next state new s free
 
-  sync-resumes : (at : Syncing) (m : SyncFile) (old : Shelf) (next : Next) (state : Syncing) (new : Shelf) → syncs.Resumes at wsize m turn old next state new
+  sync-resumes : (at : Syncing) (m : SyncFile) (old : Shelf) (next : Step) (state : Syncing) (new : Shelf) → syncs.Resumes at wsize m turn old next state new
       → IsUnused turn.xid old.back → AskedOf (SyncOf new.back) next state
   sync-resumes syncing.Idle m old next state new r free = asked-waits (SyncOf new.back) next state r.next_is
   sync-resumes (syncing.Saves s) m old next state new r free = sync-queues (is_first m.lane old.order) m.lane s old next state new r free
 
-  sync-takes : (at : Syncing) (m : SyncFile) (sent : Turn) (came : Result Reply Fault) (old : Shelf) (next : Next) (state : Syncing) (new : Shelf)
+  sync-takes : (at : Syncing) (m : SyncFile) (sent : Turn) (came : Result Reply Fault) (old : Shelf) (next : Step) (state : Syncing) (new : Shelf)
       → syncs.Takes at wsize m sent turn came old next state new → IsUnused turn.xid old.back → AskedOf (SyncOf new.back) next state
   sync-takes syncing.Idle m sent came old next state new t free = asked-waits (SyncOf new.back) next state t.next_is
   sync-takes (syncing.Saves s) m sent came old next state new t free =
@@ -285,20 +285,20 @@ module _ (turn : Turn) (wsize : ℕ) where
       (takes-sends sent turn came wsize old.repeats s old.back t.gives t.saved new.back new.repeats t.takes free)
 
   -- closes
-  close-to : (call : Call) (at : Closing) (back : Pending) (next : Next) (state : Closing) → next ≡ nexts.Send call → state ≡ at → CloseOf back at call → AskedOf (CloseOf back) next state
+  close-to : (call : Call) (at : Closing) (back : Pending) (next : Step) (state : Closing) → next ≡ nexts.Send call → state ≡ at → CloseOf back at call → AskedOf (CloseOf back) next state
   close-to call at back next state n s l = asked-sends (CloseOf back) call next state n (subst (λ (k : Closing). CloseOf back k call) (sym s) l)
 
-  close-asks : (room : Bool) (removal : Removal) (back : Pending) (next : Next) (state : Closing) → next ≡ closes.ask_next room removal → state ≡ closes.ask_state room removal
+  close-asks : (room : Bool) (removal : Removal) (back : Pending) (next : Step) (state : Closing) → next ≡ closes.ask_next room removal → state ≡ closes.ask_state room removal
       → AskedOf (CloseOf back) next state
   close-asks true removal back next state is at = close-to _ (closing.Removing removal) back next state is at tt
   close-asks false removal back next state is at = asked-waits (CloseOf back) next state is
 
-  close-ends-at : (place : Option (List ℕ × List ℕ)) (lane : ℕ) (file : List ℕ) (why : Option Fault) (old : Shelf) (next : Next) (state : Closing) (new : Shelf)
+  close-ends-at : (place : Option (List ℕ × List ℕ)) (lane : ℕ) (file : List ℕ) (why : Option Fault) (old : Shelf) (next : Step) (state : Closing) (new : Shelf)
       → closes.EndsAt place lane turn.room file why old next state new → AskedOf (CloseOf new.back) next state
   close-ends-at None lane file why old next state new e = asked-done (CloseOf new.back) _ next state e.next_is
   close-ends-at (Some place) lane file why old next state new e = close-asks turn.room _ new.back next state e.next_is e.state_is
 
-  close-follows : (gives : _) (lane slot : ℕ) (begun : Bool) (saved : Saving) (old : Shelf) (next : Next) (state : Closing) (new : Shelf)
+  close-follows : (gives : _) (lane slot : ℕ) (begun : Bool) (saved : Saving) (old : Shelf) (next : Step) (state : Closing) (new : Shelf)
       → closes.Follows gives lane slot turn.room begun saved old next state new → Sends (syncs.sync_next gives) saved old.back → AskedOf (CloseOf new.back) next state
   close-follows gives lane slot begun saved old next state new f l = by-step
       (λ g. closes.Follows g lane slot turn.room begun saved old next state new → Sends (syncs.sync_next g) saved old.back → AskedOf (CloseOf new.back) next state)
@@ -306,33 +306,33 @@ module _ (turn : Turn) (wsize : ℕ) where
       (λ t own. asked-waits (CloseOf new.back) next state t.0)
       (λ result t own. close-ends-at t.place lane saved.file (refusal_of result) t.freed next state new t.ends) gives f l
 
-  close-on : (lane slot : ℕ) (begun : Bool) (s : Saving) (old : Shelf) (next : Next) (state : Closing) (new : Shelf) → closes.GoesOn wsize lane slot turn begun s old next state new
+  close-on : (lane slot : ℕ) (begun : Bool) (s : Saving) (old : Shelf) (next : Step) (state : Closing) (new : Shelf) → closes.GoesOn wsize lane slot turn begun s old next state new
       → IsUnused turn.xid old.back → AskedOf (CloseOf new.back) next state
   close-on lane slot begun s old next state new g free =
       close-follows g.gives lane slot begun g.saved g.gone next state new g.follows (goes-sends turn.xid wsize turn.room false s old.back g.gives g.saved g.gone.back g.goes free)
 
-  close-begins : (end : Option ℕ) (lane slot : ℕ) (s : Saving) (old : Shelf) (next : Next) (state : Closing) (new : Shelf) → closes.Begins end wsize lane slot turn s old next state new
+  close-begins : (end : Option ℕ) (lane slot : ℕ) (s : Saving) (old : Shelf) (next : Step) (state : Closing) (new : Shelf) → closes.Begins end wsize lane slot turn s old next state new
       → IsUnused turn.xid old.back → AskedOf (CloseOf new.back) next state
   close-begins None lane slot s old next state new b free = close-ends-at b.place lane s.file None b.freed next state new b.ends
   close-begins (Some end) lane slot s old next state new b free = close-on lane slot false s old next state new b free
 
-  close-queues : (b : Bool) (lane slot : ℕ) (s : Saving) (old : Shelf) (next : Next) (state : Closing) (new : Shelf) → closes.QueuesIf b wsize lane slot turn s old next state new
+  close-queues : (b : Bool) (lane slot : ℕ) (s : Saving) (old : Shelf) (next : Step) (state : Closing) (new : Shelf) → closes.QueuesIf b wsize lane slot turn s old next state new
       → IsUnused turn.xid old.back → AskedOf (CloseOf new.back) next state
   close-queues true lane slot s old next state new q free = close-begins (last_end (of_file s.file old.back).segments) lane slot s old next state new q free
   close-queues false lane slot s old next state new q free = asked-waits (CloseOf new.back) next state q.next_is
 
-  close-starts : (found : Option (List ℕ)) (m : CloseFile) (old : Shelf) (next : Next) (state : Closing) (new : Shelf) → closes.StartsAt found wsize m turn old next state new
+  close-starts : (found : Option (List ℕ)) (m : CloseFile) (old : Shelf) (next : Step) (state : Closing) (new : Shelf) → closes.StartsAt found wsize m turn old next state new
       → IsUnused turn.xid old.back → AskedOf (CloseOf new.back) next state
   close-starts None m old next state new s free = asked-done (CloseOf new.back) _ next state s.next_is
   close-starts (Some file) m old next state new s free =
       close-queues (is_first m.lane (joined m.lane file old).order) m.lane m.slot (saves.begun file old.seq) (joined m.lane file old) next state new s free
 
-  close-if : (b : Bool) (lane slot : ℕ) (s : Saving) (old : Shelf) (next : Next) (state : Closing) (new : Shelf) → closes.GoesOnIf b wsize lane slot turn s old next state new
+  close-if : (b : Bool) (lane slot : ℕ) (s : Saving) (old : Shelf) (next : Step) (state : Closing) (new : Shelf) → closes.GoesOnIf b wsize lane slot turn s old next state new
       → IsUnused turn.xid old.back → AskedOf (CloseOf new.back) next state
   close-if true lane slot s old next state new g free = close-on lane slot true s old next state new g free
   close-if false lane slot s old next state new g free = asked-waits (CloseOf new.back) next state g.next_is
 
-  close-resumes : (at : Closing) (m : CloseFile) (old : Shelf) (next : Next) (state : Closing) (new : Shelf) → closes.Resumes at wsize m turn old next state new
+  close-resumes : (at : Closing) (m : CloseFile) (old : Shelf) (next : Step) (state : Closing) (new : Shelf) → closes.Resumes at wsize m turn old next state new
       → IsUnused turn.xid old.back → AskedOf (CloseOf new.back) next state
   close-resumes closing.Idle m old next state new r free = asked-waits (CloseOf new.back) next state r.next_is
   close-resumes (closing.Queued s) m old next state new r free = close-queues (is_first m.lane old.order) m.lane m.slot s old next state new r free
@@ -340,12 +340,12 @@ module _ (turn : Turn) (wsize : ℕ) where
   close-resumes (closing.ToRemove removal) m old next state new r free = close-asks turn.room removal new.back next state r.next_is r.state_is
   close-resumes (closing.Removing removal) m old next state new r free = asked-waits (CloseOf new.back) next state r.next_is
 
-  close-removed : (again : Bool) (lane : ℕ) (removal : Removal) (old : Shelf) (next : Next) (state : Closing) (new : Shelf) → closes.EndsIf again lane removal old next state new
+  close-removed : (again : Bool) (lane : ℕ) (removal : Removal) (old : Shelf) (next : Step) (state : Closing) (new : Shelf) → closes.EndsIf again lane removal old next state new
       → AskedOf (CloseOf new.back) next state
   close-removed true lane removal old next state new e = close-to _ (closing.Removing removal) new.back next state e.next_is e.state_is tt
   close-removed false lane removal old next state new e = asked-done (CloseOf new.back) _ next state e.next_is
 
-  close-takes : (at : Closing) (m : CloseFile) (sent : Turn) (came : Result Reply Fault) (old : Shelf) (next : Next) (state : Closing) (new : Shelf)
+  close-takes : (at : Closing) (m : CloseFile) (sent : Turn) (came : Result Reply Fault) (old : Shelf) (next : Step) (state : Closing) (new : Shelf)
       → closes.Takes at wsize m sent turn came old next state new → IsUnused turn.xid old.back → AskedOf (CloseOf new.back) next state
   close-takes closing.Idle m sent came old next state new t free = asked-waits (CloseOf new.back) next state t.next_is
   close-takes (closing.Queued s) m sent came old next state new t free = asked-waits (CloseOf new.back) next state t.next_is
@@ -357,7 +357,7 @@ module _ (turn : Turn) (wsize : ℕ) where
       close-removed (goes_again (remove_busy came) sent turn old.repeats) m.lane removal t.took next state new t.ends
 
   -- writes
-  room-as : (told : _) (lane : ℕ) (file : List ℕ) (saved : Saving) (shelf : Shelf) (next : Next) (state : Writing) (after : Shelf)
+  room-as : (told : _) (lane : ℕ) (file : List ℕ) (saved : Saving) (shelf : Shelf) (next : Step) (state : Writing) (after : Shelf)
       → writes.Leads (writes.room_next told) (writes.room_state told file saved) (writes.room_shelf told lane shelf) next state after
       → Sends (syncs.sync_next told) saved shelf.back → AskedOf (WriteOf after.back) next state
   room-as told lane file saved shelf next state after r l = by-step
@@ -373,13 +373,13 @@ module _ (turn : Turn) (wsize : ℕ) where
       ended (Ok done) t own = asked-waits (WriteOf after.back) next state t.gives_next
       ended (Err fault) t own = asked-done (WriteOf after.back) _ next state t.gives_next
 
-  write-saves : (b : Bool) (lane : ℕ) (file : List ℕ) (s : Saving) (shelf : Shelf) (next : Next) (state : Writing) (after : Shelf)
+  write-saves : (b : Bool) (lane : ℕ) (file : List ℕ) (s : Saving) (shelf : Shelf) (next : Step) (state : Writing) (after : Shelf)
       → writes.SavesIf b wsize lane file s turn shelf next state after → IsUnused turn.xid shelf.back → AskedOf (WriteOf after.back) next state
   write-saves false lane file s shelf next state after g free = asked-waits (WriteOf after.back) next state g.gives_next
   write-saves true lane file s shelf next state after g free =
       room-as g.told lane file g.saved (record shelf { back = g.back }) next state after g.leads (goes-sends turn.xid wsize turn.room false s shelf.back g.told g.saved g.back g.goes free)
 
-  write-ifs : (b : Bool) (lane : ℕ) (file : List ℕ) (offset : ℕ) (bytes : List ℕ) (shelf : Shelf) (next : Next) (state : Writing) (after : Shelf)
+  write-ifs : (b : Bool) (lane : ℕ) (file : List ℕ) (offset : ℕ) (bytes : List ℕ) (shelf : Shelf) (next : Step) (state : Writing) (after : Shelf)
       → writes.WritesIf b wsize lane file offset bytes turn shelf next state after → IsUnused turn.xid shelf.back → AskedOf (WriteOf after.back) next state
   write-ifs true lane file offset bytes shelf next state after (inl g) free =
       write-saves (is_first lane (joined lane g.of shelf).order) lane file (saves.begun g.of shelf.seq) (joined lane g.of shelf) next state after g.saves free
@@ -387,19 +387,19 @@ module _ (turn : Turn) (wsize : ℕ) where
   write-ifs false lane file offset bytes shelf next state after (inl g) free = asked-done (WriteOf after.back) _ next state g.leads.gives_next
   write-ifs false lane file offset bytes shelf next state after (inr g) free = asked-done (WriteOf after.back) _ next state g.gives_next
 
-  write-starts : (found : Result (List ℕ) Fault) (m : WriteFile) (shelf : Shelf) (next : Next) (new : WriteFile) (after : Shelf) → writes.StartsAt found wsize m turn shelf next new after
+  write-starts : (found : Result (List ℕ) Fault) (m : WriteFile) (shelf : Shelf) (next : Step) (new : WriteFile) (after : Shelf) → writes.StartsAt found wsize m turn shelf next new after
       → IsUnused turn.xid shelf.back → AskedOf (WriteOf after.back) next new.state
   write-starts (Err fault) m shelf next new after s free = asked-done (WriteOf after.back) _ next new.state s.refuses.gives_next
   write-starts (Ok file) m shelf next new after (inl s) free =
       write-ifs (is_full (writes.text_bytes m.text) shelf.back) m.lane file m.offset (writes.text_bytes m.text) shelf next new.state after s.writes free
   write-starts (Ok file) m shelf next new after (inr s) free = asked-done (WriteOf after.back) _ next new.state s.refuses.gives_next
 
-  write-resumes : (at : Writing) (lane : ℕ) (shelf : Shelf) (next : Next) (state : Writing) (after : Shelf) → writes.ResumesIn at wsize lane turn shelf next state after
+  write-resumes : (at : Writing) (lane : ℕ) (shelf : Shelf) (next : Step) (state : Writing) (after : Shelf) → writes.ResumesIn at wsize lane turn shelf next state after
       → IsUnused turn.xid shelf.back → AskedOf (WriteOf after.back) next state
   write-resumes writing.Idle lane shelf next state after r free = asked-waits (WriteOf after.back) next state r.gives_next
   write-resumes (writing.Room file s) lane shelf next state after r free = write-saves (is_first lane shelf.order) lane file s shelf next state after r free
 
-  write-follows : (told : _) (m : WriteFile) (file : List ℕ) (saved : Saving) (shelf : Shelf) (next : Next) (state : Writing) (after : Shelf)
+  write-follows : (told : _) (m : WriteFile) (file : List ℕ) (saved : Saving) (shelf : Shelf) (next : Step) (state : Writing) (after : Shelf)
       → writes.Follows told wsize m file saved turn shelf next state after → Sends (syncs.sync_next told) saved shelf.back
       → Left (λ b. IsUnused turn.xid b) (Mine turn.xid) AnyCall told saved shelf.back → AskedOf (WriteOf after.back) next state
   write-follows told m file saved shelf next state after f l free = by-step
@@ -416,7 +416,7 @@ module _ (turn : Turn) (wsize : ℕ) where
           unused
       ended (Err fault) t own unused = asked-done (WriteOf after.back) _ next state t.gives_next
 
-  write-takes : (at : Writing) (m : WriteFile) (sent : Turn) (came : Result Reply Fault) (shelf : Shelf) (next : Next) (state : Writing) (after : Shelf)
+  write-takes : (at : Writing) (m : WriteFile) (sent : Turn) (came : Result Reply Fault) (shelf : Shelf) (next : Step) (state : Writing) (after : Shelf)
       → writes.TakesIn at wsize m sent turn came shelf next state after → IsUnused turn.xid shelf.back → AskedOf (WriteOf after.back) next state
   write-takes writing.Idle m sent came shelf next state after t free = asked-waits (WriteOf after.back) next state t.gives_next
   write-takes (writing.Room file s) m sent came shelf next state after t free =
@@ -424,7 +424,7 @@ module _ (turn : Turn) (wsize : ℕ) where
       ((replies-mine wsize sent turn came).takes shelf.repeats s shelf.back t.told t.saved t.back t.repeats t.takes free)
 
   -- puts
-  put-follows : (gives : _) (write : Writing) (lane : ℕ) (saved : Saving) (old : Shelf) (next : Next) (state : Putting) (new : Shelf)
+  put-follows : (gives : _) (write : Writing) (lane : ℕ) (saved : Saving) (old : Shelf) (next : Step) (state : Putting) (new : Shelf)
       → puts.Follows gives lane saved old next state new → Sends (syncs.sync_next gives) saved old.back → AskedOf (PutOf new.back write) next state
   put-follows gives write lane saved old next state new f l = by-step
       (λ g. puts.Follows g lane saved old next state new → Sends (syncs.sync_next g) saved old.back → AskedOf (PutOf new.back write) next state)
@@ -432,13 +432,13 @@ module _ (turn : Turn) (wsize : ℕ) where
       (asked-sends (PutOf old.back write) call next state t.0 (subst (λ (k : Putting). PutOf old.back write k call) (sym t.1) own)))
       (λ t own. asked-waits (PutOf new.back write) next state t.0) (λ result t own. asked-done (PutOf new.back write) _ next state t.next_is) gives f l
 
-  put-queues : (b : Bool) (write : Writing) (lane : ℕ) (s : Saving) (old : Shelf) (next : Next) (state : Putting) (new : Shelf) → puts.QueuesIf b wsize lane turn s old next state new
+  put-queues : (b : Bool) (write : Writing) (lane : ℕ) (s : Saving) (old : Shelf) (next : Step) (state : Putting) (new : Shelf) → puts.QueuesIf b wsize lane turn s old next state new
       → IsUnused turn.xid old.back → AskedOf (PutOf new.back write) next state
   put-queues true write lane s old next state new g free =
       put-follows g.gives write lane g.saved g.gone next state new g.follows (goes-sends turn.xid wsize turn.room false s old.back g.gives g.saved g.gone.back g.goes free)
   put-queues false write lane s old next state new g free = asked-waits (PutOf new.back write) next state g.next_is
 
-  after-write : (told : Next) (write : Writing) (lane : ℕ) (file : List ℕ) (old : Shelf) (next : Next) (state : Putting) (new : Shelf)
+  after-write : (told : Step) (write : Writing) (lane : ℕ) (file : List ℕ) (old : Shelf) (next : Step) (state : Putting) (new : Shelf)
       → puts.AfterWrite told wsize lane file turn old next state new → AskedOf (WriteOf old.back) told write
       → LeftAs (λ b. IsUnused turn.xid b) (WriteHas (λ b. IsUnused turn.xid b) (Mine turn.xid)) AnyCall told write old.back → AskedOf (PutOf new.back write) next state
   after-write (nexts.Send call) write lane file old next state new a l free =
@@ -452,19 +452,19 @@ module _ (turn : Turn) (wsize : ℕ) where
   abbrev PutFileOf : Pending → PutFile → Call → Type 0
   PutFileOf back m call = PutOf back m.write.state m.state call
 
-  writes-on : (m : PutFile) (file : List ℕ) (told : Next) (written : Writing) (mid : Shelf) (next : Next) (new : PutFile) (after : Shelf)
+  writes-on : (m : PutFile) (file : List ℕ) (told : Step) (written : Writing) (mid : Shelf) (next : Step) (new : PutFile) (after : Shelf)
       → puts.WritesOn wsize m file turn told written mid next new after → AskedOf (WriteOf mid.back) told written
       → LeftAs (λ b. IsUnused turn.xid b) (WriteHas (λ b. IsUnused turn.xid b) (Mine turn.xid)) AnyCall told written mid.back → AskedOf (PutFileOf after.back) next new
   writes-on m file told written mid next new after w l free =
       put-of next new after.back (subst (λ (k : Writing). AskedOf (PutOf after.back k) next new.state) (sym (ap (λ (p : PutFile). p.write.state) w.machine_is))
       (after-write told written m.write.lane file mid next new.state after w.follows l free))
     where
-      put-of : (next : Next) (k : PutFile) (back : Pending) → AskedOf (PutOf back k.write.state) next k.state → AskedOf (PutFileOf back) next k
+      put-of : (next : Step) (k : PutFile) (back : Pending) → AskedOf (PutOf back k.write.state) next k.state → AskedOf (PutFileOf back) next k
       put-of (nexts.Send call) k back a = a
       put-of nexts.Wait k back a = tt
       put-of (nexts.Done answer) k back a = tt
 
-  put-adds : (m : PutFile) (file : List ℕ) (old : Shelf) (next : Next) (new : PutFile) (after : Shelf) → puts.AddsBytes wsize m file turn old next new after → IsUnused turn.xid old.back
+  put-adds : (m : PutFile) (file : List ℕ) (old : Shelf) (next : Step) (new : PutFile) (after : Shelf) → puts.AddsBytes wsize m file turn old next new after → IsUnused turn.xid old.back
       → AskedOf (PutFileOf after.back) next new
   put-adds m file old next new after a free =
       writes-on m file a.told a.written a.mid next new after a.goes
@@ -473,34 +473,34 @@ module _ (turn : Turn) (wsize : ℕ) where
       (write-writes wsize turn (λ b. IsUnused turn.xid b) (Mine turn.xid) AnyCall (carries-mine wsize turn) m.write.lane file m.write.offset (writes.made_bytes m.write.text)
       (puts.put_at m.write.lane file old) a.told a.written a.mid a.writes free)
 
-  opens-of : (call : Call) (m : PutFile) (back : Pending) (next : Next) (new : PutFile) → m.state ≡ putting.Opens → next ≡ nexts.Send call → new ≡ m → AskedOf (PutFileOf back) next new
+  opens-of : (call : Call) (m : PutFile) (back : Pending) (next : Step) (new : PutFile) → m.state ≡ putting.Opens → next ≡ nexts.Send call → new ≡ m → AskedOf (PutFileOf back) next new
   opens-of call m back next new at is same =
       asked-sends (PutFileOf back) call next new is
       (subst (λ (k : PutFile). PutFileOf back k call) (sym same) (subst (λ (p : Putting). PutOf back m.write.state p call) (sym at) tt))
 
-  after-opening : (step : OpeningNext) (m : PutFile) (old : Shelf) (next : Next) (new : PutFile) (after : Shelf) → m.state ≡ putting.Opens → puts.AfterOpening step wsize m turn old next new after
+  after-opening : (step : OpeningStep) (m : PutFile) (old : Shelf) (next : Step) (new : PutFile) (after : Shelf) → m.state ≡ putting.Opens → puts.AfterOpening step wsize m turn old next new after
       → IsUnused turn.xid old.back → AskedOf (PutFileOf after.back) next new
   after-opening (openings.Send call) m old next new after at a free = opens-of call m after.back next new at a.0 a.1
   after-opening openings.Wait m old next new after at a free = asked-waits (PutFileOf after.back) next new a.next_is
   after-opening (openings.Ended (Ok file)) m old next new after at a free = put-adds m file old next new after a free
   after-opening (openings.Ended (Err fault)) m old next new after at a free = asked-done (PutFileOf after.back) _ next new a.0
 
-  put-state : (m new : PutFile) (next : Next) (back : Pending) → new ≡ record m { state = new.state } → AskedOf (PutOf back m.write.state) next new.state → AskedOf (PutFileOf back) next new
+  put-state : (m new : PutFile) (next : Step) (back : Pending) → new ≡ record m { state = new.state } → AskedOf (PutOf back m.write.state) next new.state → AskedOf (PutFileOf back) next new
   put-state m new next back is a = by next (subst (λ (k : Writing). AskedOf (PutOf back k) next new.state) (sym (ap (λ (p : PutFile). p.write.state) is)) a)
     where
-      by : (n : Next) → AskedOf (PutOf back new.write.state) n new.state → AskedOf (PutFileOf back) n new
+      by : (n : Step) → AskedOf (PutOf back new.write.state) n new.state → AskedOf (PutFileOf back) n new
       by (nexts.Send call) a = a
       by nexts.Wait a = tt
       by (nexts.Done answer) a = tt
 
-  put-opens : (step : OpeningNext) (m : PutFile) (back : Pending) (next : Next) (new : PutFile) (o : _) → m.state ≡ putting.Opens → next ≡ goes_as step
+  put-opens : (step : OpeningStep) (m : PutFile) (back : Pending) (next : Step) (new : PutFile) (o : _) → m.state ≡ putting.Opens → next ≡ goes_as step
       → new ≡ record m { opening = o } → AskedOf (PutFileOf back) next new
   put-opens (openings.Send call) m back next new o at is same = opens-of call (record m { opening = o }) back next new at is same
   put-opens openings.Wait m back next new o at is same = asked-waits (PutFileOf back) next new is
   put-opens (openings.Ended (Ok file)) m back next new o at is same = asked-done (PutFileOf back) _ next new is
   put-opens (openings.Ended (Err fault)) m back next new o at is same = asked-done (PutFileOf back) _ next new is
 
-  put-resumes : (at : Putting) (m : PutFile) (old : Shelf) (next : Next) (new : PutFile) (after : Shelf) → m.state ≡ at → puts.Resumes at wsize m turn old next new after
+  put-resumes : (at : Putting) (m : PutFile) (old : Shelf) (next : Step) (new : PutFile) (after : Shelf) → m.state ≡ at → puts.Resumes at wsize m turn old next new after
       → IsUnused turn.xid old.back → AskedOf (PutFileOf after.back) next new
   put-resumes putting.Idle m old next new after at r free = asked-waits (PutFileOf after.back) next new r.next_is
   put-resumes putting.Opens m old next new after at r free = put-opens _ m after.back next new _ at r.0 r.1
@@ -514,7 +514,7 @@ module _ (turn : Turn) (wsize : ℕ) where
   any-write writing.Idle back free = free
   any-write (writing.Room file s) back free = free
 
-  put-takes : (at : Putting) (m : PutFile) (sent : Turn) (came : Result Reply Fault) (old : Shelf) (next : Next) (new : PutFile) (after : Shelf) → m.state ≡ at
+  put-takes : (at : Putting) (m : PutFile) (sent : Turn) (came : Result Reply Fault) (old : Shelf) (next : Step) (new : PutFile) (after : Shelf) → m.state ≡ at
       → puts.Takes at wsize m sent turn came old next new after → IsUnused turn.xid old.back → AskedOf (PutFileOf after.back) next new
   put-takes putting.Idle m sent came old next new after at t free = asked-waits (PutFileOf after.back) next new t.next_is
   put-takes putting.Opens m sent came old next new after at t free =
@@ -536,18 +536,18 @@ module _ (turn : Turn) (wsize : ℕ) where
   abbrev pub MachineOf : Pending → Machine → Call → Type 0
   MachineOf back m call = IsOf turn.xid (flies_of m) call back
 
-  any-of : {S : Type 0} → (E : S → Call → Type 0) (next : Next) (to new : S) → new ≡ to → ((call : Call) → E to call) → AskedOf E next new
+  any-of : {S : Type 0} → (E : S → Call → Type 0) (next : Step) (to new : S) → new ≡ to → ((call : Call) → E to call) → AskedOf E next new
   any-of E (nexts.Send call) to new is any = subst (λ s. E s call) (sym is) (any call)
   any-of E nexts.Wait to new is any = tt
   any-of E (nexts.Done answer) to new is any = tt
 
-  of-state : {S T : Type 0} → (E : S → Call → Type 0) (F : T → Call → Type 0) (next : Next) (state : S) (to new : T) → new ≡ to → ((call : Call) → E state call → F to call)
+  of-state : {S T : Type 0} → (E : S → Call → Type 0) (F : T → Call → Type 0) (next : Step) (state : S) (to new : T) → new ≡ to → ((call : Call) → E state call → F to call)
       → AskedOf E next state → AskedOf F next new
   of-state E F (nexts.Send call) state to new is same a = subst (λ t. F t call) (sym is) (same call a)
   of-state E F nexts.Wait state to new is same a = tt
   of-state E F (nexts.Done answer) state to new is same a = tt
 
-  file-starts : (m : FileMachine) (old : Shelf) (next : Next) (new : FileMachine) (after : Shelf) → steps.Starts wsize m turn old next new after → IsUnused turn.xid old.back
+  file-starts : (m : FileMachine) (old : Shelf) (next : Step) (new : FileMachine) (after : Shelf) → steps.Starts wsize m turn old next new after → IsUnused turn.xid old.back
       → AskedOf (FileOf after.back) next new
   file-starts (files.Open m) old next new after s free = any-of (FileOf after.back) next _ new s.machine_is (λ c. tt)
   file-starts (files.Read m) old next new after s free = any-of (FileOf after.back) next _ new s.machine_is (λ c. tt)
@@ -563,7 +563,7 @@ module _ (turn : Turn) (wsize : ℕ) where
   file-starts (files.Truncate m) old next new after s free = any-of (FileOf after.back) next _ new s.machine_is (λ c. tt)
   file-starts (files.Put m) old next new after s free = any-of (FileOf after.back) next _ new s.machine_is (λ c. tt)
 
-  file-resumes : (m : FileMachine) (old : Shelf) (next : Next) (new : FileMachine) (after : Shelf) → steps.Resumes wsize m turn old next new after → IsUnused turn.xid old.back
+  file-resumes : (m : FileMachine) (old : Shelf) (next : Step) (new : FileMachine) (after : Shelf) → steps.Resumes wsize m turn old next new after → IsUnused turn.xid old.back
       → AskedOf (FileOf after.back) next new
   file-resumes (files.Open m) old next new after s free = any-of (FileOf after.back) next _ new s.machine_is (λ c. tt)
   file-resumes (files.Read m) old next new after s free = any-of (FileOf after.back) next _ new s.machine_is (λ c. tt)
@@ -580,7 +580,7 @@ module _ (turn : Turn) (wsize : ℕ) where
   file-resumes (files.Put m) old next new after s free =
       of-state (PutFileOf after.back) (FileOf after.back) next s.machine (files.Put s.machine) new s.machine_is (λ c is. is) (put-resumes m.state m old next s.machine after refl s.step free)
 
-  file-takes : (m : FileMachine) (sent : Turn) (came : Result Reply Fault) (old : Shelf) (next : Next) (new : FileMachine) (after : Shelf) → steps.Takes wsize m sent turn came old next new after
+  file-takes : (m : FileMachine) (sent : Turn) (came : Result Reply Fault) (old : Shelf) (next : Step) (new : FileMachine) (after : Shelf) → steps.Takes wsize m sent turn came old next new after
       → IsUnused turn.xid old.back → AskedOf (FileOf after.back) next new
   file-takes (files.Open m) sent came old next new after s free = any-of (FileOf after.back) next _ new s.machine_is (λ c. tt)
   file-takes (files.Read m) sent came old next new after s free = any-of (FileOf after.back) next _ new s.machine_is (λ c. tt)
@@ -604,16 +604,16 @@ module _ (turn : Turn) (wsize : ℕ) where
   path-of : (back : Pending) (m : PathMachine) (opener : Opener) → m.arrived ≡ true → (call : Call) → FileOf back (file_of opener) call → PathOf back (record m { opener = opener }) call
   path-of back m opener at call is = subst (λ (b : Bool). IsOf turn.xid (flies_path b opener) call back) (sym at) is
 
-  path-then : (m : PathMachine) (opener : Opener) (next : Next) (new : PathMachine) (back : Pending) → m.arrived ≡ true → new ≡ record m { opener = opener }
+  path-then : (m : PathMachine) (opener : Opener) (next : Step) (new : PathMachine) (back : Pending) → m.arrived ≡ true → new ≡ record m { opener = opener }
       → AskedOf (FileOf back) next (file_of opener) → AskedOf (PathOf back) next new
   path-then m opener next new back at is a = of-state (FileOf back) (PathOf back) next (file_of opener) (record m { opener = opener }) new is (path-of back m opener at) a
 
-  path-waits : (call : Call) (m : PathMachine) (back : Pending) (next : Next) (new : PathMachine) → m.arrived ≡ false → next ≡ nexts.Send call → new ≡ m → AskedOf (PathOf back) next new
+  path-waits : (call : Call) (m : PathMachine) (back : Pending) (next : Step) (new : PathMachine) → m.arrived ≡ false → next ≡ nexts.Send call → new ≡ m → AskedOf (PathOf back) next new
   path-waits call m back next new at is same =
       asked-sends (PathOf back) call next new is
       (subst (λ (k : PathMachine). PathOf back k call) (sym same) (subst (λ (b : Bool). IsOf turn.xid (flies_path b m.opener) call back) (sym at) tt))
 
-  path-follows : (step : WalkNext) (m : PathMachine) (old : Shelf) (next : Next) (new : PathMachine) (after : Shelf) → m.arrived ≡ false → paths.Follows step wsize m turn old next new after
+  path-follows : (step : WalkStep) (m : PathMachine) (old : Shelf) (next : Step) (new : PathMachine) (after : Shelf) → m.arrived ≡ false → paths.Follows step wsize m turn old next new after
       → IsUnused turn.xid old.back → AskedOf (PathOf after.back) next new
   path-follows (walks.Send call) m old next new after at f free = path-waits call m after.back next new at f.0 f.1
   path-follows walks.Wait m old next new after at f free = asked-waits (PathOf after.back) next new f.0
@@ -622,19 +622,19 @@ module _ (turn : Turn) (wsize : ℕ) where
       (file-resumes (file_of (placed dir m.opener)) old next (file_of f.opener) after f.step free)
   path-follows (walks.Refused fault) m old next new after at f free = asked-done (PathOf after.back) _ next new f.0
 
-  path-resumes : (b : Bool) (m : PathMachine) (old : Shelf) (next : Next) (new : PathMachine) (after : Shelf) → m.arrived ≡ b → paths.PathResumes b wsize m turn old next new after
+  path-resumes : (b : Bool) (m : PathMachine) (old : Shelf) (next : Step) (new : PathMachine) (after : Shelf) → m.arrived ≡ b → paths.PathResumes b wsize m turn old next new after
       → IsUnused turn.xid old.back → AskedOf (PathOf after.back) next new
   path-resumes true m old next new after at r free =
       path-then m r.opener next new after.back at r.machine_is (file-resumes (file_of m.opener) old next (file_of r.opener) after r.step free)
   path-resumes false m old next new after at r free =
       path-follows (walking.go_next m.walk turn old) (record m { walk = walking.go_after m.walk turn old }) (walking.go_shelf m.walk turn old) next new after at r free
 
-  path-starts : (taken : Bool) (m : PathMachine) (old : Shelf) (next : Next) (new : PathMachine) (after : Shelf) → paths.StartsIf taken wsize m turn old next new after
+  path-starts : (taken : Bool) (m : PathMachine) (old : Shelf) (next : Step) (new : PathMachine) (after : Shelf) → paths.StartsIf taken wsize m turn old next new after
       → IsUnused turn.xid old.back → AskedOf (PathOf after.back) next new
   path-starts true m old next new after s free = asked-done (PathOf after.back) _ next new s.0
   path-starts false m old next new after s free = path-resumes m.arrived (record m { opener = begun_at (turn.moment - 1) m.opener }) old next new after refl s free
 
-  path-takes : (b : Bool) (m : PathMachine) (sent : Turn) (came : Result Reply Fault) (old : Shelf) (next : Next) (new : PathMachine) (after : Shelf) → m.arrived ≡ b
+  path-takes : (b : Bool) (m : PathMachine) (sent : Turn) (came : Result Reply Fault) (old : Shelf) (next : Step) (new : PathMachine) (after : Shelf) → m.arrived ≡ b
       → paths.PathTakes b wsize m sent turn came old next new after → IsUnused turn.xid old.back → AskedOf (PathOf after.back) next new
   path-takes true m sent came old next new after at t free =
       path-then m t.opener next new after.back at t.machine_is (file-takes (file_of m.opener) sent came old next (file_of t.opener) after t.step free)
@@ -643,7 +643,7 @@ module _ (turn : Turn) (wsize : ℕ) where
       (subst (λ (b : Pending). IsUnused turn.xid b)
       (sym (walk-takes-kept (walking.waiting_name m.walk) m.walk sent turn came old t.step t.walked.walk t.heard t.takes).back) free)
 
-  sends-starts : (m : Machine) (old : Shelf) (next : Next) (new : Machine) (after : Shelf) → Starts wsize m turn old next new after → IsUnused turn.xid old.back
+  sends-starts : (m : Machine) (old : Shelf) (next : Step) (new : Machine) (after : Shelf) → Starts wsize m turn old next new after → IsUnused turn.xid old.back
       → AskedOf (MachineOf after.back) next new
   sends-starts (machines.File m) old next new after s free =
       of-state (FileOf after.back) (MachineOf after.back) next s.machine (machines.File s.machine) new s.machine_is (λ c is. is) (file-starts m old next s.machine after s.step free)
@@ -652,7 +652,7 @@ module _ (turn : Turn) (wsize : ℕ) where
       (path-starts (slot_taken m.opener old.opens) m old next s.machine after s.step free)
   sends-starts (machines.Name m) old next new after s free = any-of (MachineOf after.back) next (machines.Name s.machine) new s.machine_is (λ c. tt)
 
-  sends-resumes : (m : Machine) (old : Shelf) (next : Next) (new : Machine) (after : Shelf) → Resumes wsize m turn old next new after → IsUnused turn.xid old.back
+  sends-resumes : (m : Machine) (old : Shelf) (next : Step) (new : Machine) (after : Shelf) → Resumes wsize m turn old next new after → IsUnused turn.xid old.back
       → AskedOf (MachineOf after.back) next new
   sends-resumes (machines.File m) old next new after s free =
       of-state (FileOf after.back) (MachineOf after.back) next s.machine (machines.File s.machine) new s.machine_is (λ c is. is) (file-resumes m old next s.machine after s.step free)
@@ -661,7 +661,7 @@ module _ (turn : Turn) (wsize : ℕ) where
       (path-resumes m.arrived m old next s.machine after refl s.step free)
   sends-resumes (machines.Name m) old next new after s free = any-of (MachineOf after.back) next (machines.Name s.machine) new s.machine_is (λ c. tt)
 
-  sends-takes : (m : Machine) (sent : Turn) (came : Result Reply Fault) (old : Shelf) (next : Next) (new : Machine) (after : Shelf) → Takes wsize m sent turn came old next new after
+  sends-takes : (m : Machine) (sent : Turn) (came : Result Reply Fault) (old : Shelf) (next : Step) (new : Machine) (after : Shelf) → Takes wsize m sent turn came old next new after
       → IsUnused turn.xid old.back → AskedOf (MachineOf after.back) next new
   sends-takes (machines.File m) sent came old next new after s free =
       of-state (FileOf after.back) (MachineOf after.back) next s.machine (machines.File s.machine) new s.machine_is (λ c is. is)
@@ -677,7 +677,7 @@ module _ (turn : Turn) (wsize : ℕ) where
 abbrev pub AllSentAs : ℕ → Call → Pending → Type 0
 AllSentAs xid call back = (file : List ℕ) → EachUnder xid (λ piece. call ≡ saves.write_of file piece) (of_file file back).pieces
 
-abbrev pub SentAs : ℕ → Next → Pending → Type 0
+abbrev pub SentAs : ℕ → Step → Pending → Type 0
 SentAs xid (nexts.Send call) back = AllSentAs xid call back
 SentAs xid nexts.Wait back = Unit {0}
 SentAs xid (nexts.Done answer) back = Unit {0}
@@ -692,7 +692,7 @@ sent-as xid (Some own) call back f is file = by (same-or own file)
         (each-alone xid (λ piece. call ≡ saves.write_of own piece) (of_file own back).pieces f.alone is)
     by (inr apart) = each-none xid (λ piece. call ≡ saves.write_of file piece) (of_file file back).pieces (f.others file apart)
 
-left-sent : (xid : ℕ) (next : Next) (m : Machine) (back : Pending) → LeftAs (λ b. IsUnused xid b) (HasAll (λ b. IsUnused xid b) (Mine xid)) AnyCall next m back
+left-sent : (xid : ℕ) (next : Step) (m : Machine) (back : Pending) → LeftAs (λ b. IsUnused xid b) (HasAll (λ b. IsUnused xid b) (Mine xid)) AnyCall next m back
     → AskedOf (λ k call. IsOf xid (flies_of k) call back) next m → SentAs xid next back
 left-sent xid (nexts.Send call) m back l a = sent-as xid (flies_of m) call back (has-flies xid back m l.0) a
 left-sent xid nexts.Wait m back l a = tt
@@ -711,21 +711,21 @@ all-free xid (machines.Path m) back free = path-free xid m.arrived m.opener back
 all-free xid (machines.Name m) back free = free
 
 module _ (turn : Turn) (wsize : ℕ) where
-  pub starts-sent : (m : Machine) (old : Shelf) (next : Next) (new : Machine) (after : Shelf) → IsUnused turn.xid old.back → Starts wsize m turn old next new after
+  pub starts-sent : (m : Machine) (old : Shelf) (next : Step) (new : Machine) (after : Shelf) → IsUnused turn.xid old.back → Starts wsize m turn old next new after
       → SentAs turn.xid next after.back
   starts-sent m old next new after free s =
       left-sent turn.xid next new after.back
       (all-starts wsize turn (λ b. IsUnused turn.xid b) (Mine turn.xid) AnyCall any-call (carries-mine wsize turn) m old next new after free s)
       (sends-starts turn wsize m old next new after s free)
 
-  pub resumes-sent : (m : Machine) (old : Shelf) (next : Next) (new : Machine) (after : Shelf) → IsUnused turn.xid old.back → Resumes wsize m turn old next new after
+  pub resumes-sent : (m : Machine) (old : Shelf) (next : Step) (new : Machine) (after : Shelf) → IsUnused turn.xid old.back → Resumes wsize m turn old next new after
       → SentAs turn.xid next after.back
   resumes-sent m old next new after free s =
       left-sent turn.xid next new after.back
       (all-resumes wsize turn (λ b. IsUnused turn.xid b) (Mine turn.xid) AnyCall any-call (carries-mine wsize turn) m old next new after free s)
       (sends-resumes turn wsize m old next new after s free)
 
-  pub takes-sent : (m : Machine) (sent : Turn) (came : Result Reply Fault) (old : Shelf) (next : Next) (new : Machine) (after : Shelf) → IsUnused turn.xid old.back
+  pub takes-sent : (m : Machine) (sent : Turn) (came : Result Reply Fault) (old : Shelf) (next : Step) (new : Machine) (after : Shelf) → IsUnused turn.xid old.back
       → Takes wsize m sent turn came old next new after → SentAs turn.xid next after.back
   takes-sent m sent came old next new after free s =
       left-sent turn.xid next new after.back

@@ -1,5 +1,5 @@
 -- What a read has found at each step, and what it answers.
-use Rattle.core_answers.proofs.Prelude.{◌≡◌, ◌<◌, ◌≤◌, ◌+◌, ◌-◌, ◌/◌, ◌%◌, ◌||◌, ◌==◌, ◌⊎◌, inl, inr, ℕ, zero, suc, not, Bool, true, false, nat_le, List, length, take, drop, slice_get, Option, Some, None, Result, Ok, Err, refl, sym, ap, subst, ◌∙◌, arith, if◌then◌else◌, cases_lt, nat_tests, length-append, Attr, Stamp, FileKept, start_of, Pages, page_of, known_of, after_page, Pending, of_file, Answer, Fault, Entry, Call, Reply, Op, Modes, IsOf, Next, Repeat, Turn, Phase, Reading, Bytes, place_after, nothing_of, part, refusal, said_to, breaks_rule, got_by, Machine, Setup, ThenOf, IsAnswered, IsPage, IsShown}
+use Rattle.core_answers.proofs.Prelude.{◌≡◌, ◌<◌, ◌≤◌, ◌+◌, ◌-◌, ◌/◌, ◌%◌, ◌||◌, ◌==◌, ◌⊎◌, inl, inr, ℕ, zero, suc, not, Bool, true, false, nat_le, List, length, take, drop, slice_get, Option, Some, None, Result, Ok, Err, refl, sym, ap, subst, ◌∙◌, arith, if◌then◌else◌, cases_lt, nat_tests, length-append, Attr, Stamp, FileKept, start_of, Pages, page_of, known_of, after_page, Pending, of_file, Answer, Fault, Entry, Call, Reply, Op, Modes, IsOf, Step, Repeat, Turn, Phase, Reading, Bytes, place_after, nothing_of, part, refusal, said_to, breaks_rule, got_by, Machine, Setup, ThenOf, IsAnswered, IsPage, IsShown}
 use Rattle.std.proofs.Common.{◌*◌, nat_lt}
 use Rattle.std.proofs.lemmas.List.{length-take}
 use Rattle.file_ops.specs.Base.{is_whole, with_more}
@@ -19,7 +19,7 @@ use Rattle.world_model.specs.declared.answer.Fault.TheVariants as faults
 use Rattle.world_model.specs.declared.answer.Value.TheVariants as values
 use Rattle.world_model.specs.declared.message.Call.TheVariants as calls
 use Rattle.world_model.specs.declared.message.Reply.TheVariants as replies
-use Rattle.client_shelf.specs.declared.next.Next.TheVariants as nexts
+use Rattle.client_shelf.specs.declared.step.Step.TheVariants as nexts
 use Rattle.file_ops.specs.declared.gather.Found.{Found}
 use Rattle.file_ops.specs.declared.gather.Found.TheVariants as founds
 use Rattle.file_ops.specs.declared.reading.Phase.TheVariants as phases
@@ -272,13 +272,13 @@ module _ (mo : ℕ → Op → Machine) (setup : Setup) (modes : Modes) where
 
     -- ---- steps
 
-    abbrev Goes : Next → Reading → Type 0
+    abbrev Goes : Step → Reading → Type 0
     Goes next r = ThenOf (ReadAt h x op offset count) (Answered h x op offset) next r
 
-    goes-as : (to next : Next) (state new : Reading) → next ≡ to → new ≡ state → Goes to state → Goes next new
+    goes-as : (to next : Step) (state new : Reading) → next ≡ to → new ≡ state → Goes to state → Goes next new
     goes-as to next state new is at g = subst (λ n. Goes n new) (sym is) (subst (λ s. Goes to s) (sym at) g)
 
-    stays : (p : Phase) (r : Reading) (back : Pending) (next : Next) → ReadAt h x op offset count r → HasPassed mo setup h x back → reading.Stays p r back next
+    stays : (p : Phase) (r : Reading) (back : Pending) (next : Step) → ReadAt h x op offset count r → HasPassed mo setup h x back → reading.Stays p r back next
         → Goes next (reading.answered p r)
     stays phases.Attrs r back next a passed is = goes-as nexts.Wait next r r is refl a
     stays phases.AskedAttrs r back next a passed is = goes-as nexts.Wait next r r is refl a
@@ -305,16 +305,16 @@ module _ (mo : ℕ → Op → Machine) (setup : Setup) (modes : Modes) where
     asked-at true s is a = in-phase h x op offset count s.reading phases.AskedAttrs a (asks-aligned s.reading.phase s.reading.file s.reading.base is a.aligned)
     asked-at false s is a = in-phase h x op offset count s.reading _ a tt
 
-    abbrev GoesTo : Next → reading.State → Type 0
+    abbrev GoesTo : Step → reading.State → Type 0
     GoesTo next s = Goes next s.reading
 
-    goes-if : (b : Bool) (back : Pending) (s : reading.State) (next : Next) → OfState s → HasPassed mo setup h x back → reading.GoesIf b back s next
+    goes-if : (b : Bool) (back : Pending) (s : reading.State) (next : Step) → OfState s → HasPassed mo setup h x back → reading.GoesIf b back s next
         → GoesTo next (if b then reading.asked s else record { reading = reading.answered s.reading.phase s.reading; pages = s.pages })
     goes-if true back s next a passed g =
         goes-as (nexts.Send (reading.asked_call s)) next (reading.asked s).reading (reading.asked s).reading g refl (asked-at (reading.asks_attrs s.reading.phase) s refl a)
     goes-if false back s next a passed g = stays s.reading.phase s.reading back next a passed g
 
-    pub goes-on : (room : Bool) (back : Pending) (s : reading.State) (next : Next) → OfState s → HasPassed mo setup h x back → reading.Goes room back s next
+    pub goes-on : (room : Bool) (back : Pending) (s : reading.State) (next : Step) → OfState s → HasPassed mo setup h x back → reading.Goes room back s next
         → Goes next (reading.gone room s).reading
     goes-on room back s next a passed g = goes-if (reading.asks room s) back s next a passed g
 
@@ -339,19 +339,19 @@ module _ (mo : ℕ → Op → Machine) (setup : Setup) (modes : Modes) where
     settled-in (phases.Asked size) r c is good a = a
     settled-in phases.Ended r c is good a = a
 
-    pub from-settled : (room : Bool) (back : Pending) (r : Reading) (c : Pages) (next : Next) (new : reading.State) → ReadAt h x op offset count r → Good setup.pages h c → HasPassed mo setup h x back
+    pub from-settled : (room : Bool) (back : Pending) (r : Reading) (c : Pages) (next : Step) (new : reading.State) → ReadAt h x op offset count r → Good setup.pages h c → HasPassed mo setup h x back
         → reading.Goes room back (reading.settled r c) next → new ≡ reading.gone room (reading.settled r c) → Goes next new.reading
     from-settled room back r c next new a good passed g is =
         goes-as next next (reading.gone room (reading.settled r c)).reading new.reading refl (ap (λ (s : reading.State). s.reading) is)
         (goes-on room back (reading.settled r c) next (settled-in r.phase r c refl good a) passed g)
 
-    again-read : (again : Bool) (call : Call) (fault : Fault) (r : Reading) (c : Pages) (next : Next) (new : reading.State) → ReadAt h x op offset count r
+    again-read : (again : Bool) (call : Call) (fault : Fault) (r : Reading) (c : Pages) (next : Step) (new : reading.State) → ReadAt h x op offset count r
         → next ≡ reading.again_next again call fault → new ≡ record { reading = r; pages = c } → Goes next new.reading
     again-read true call fault r c next new a is same = goes-as (nexts.Send call) next r new.reading is (ap (λ (s : reading.State). s.reading) same) a
     again-read false call fault r c next new a is same =
         goes-as (reading.refused fault) next r new.reading is (ap (λ (s : reading.State). s.reading) same) (λ bytes no_way. absurd cc)
 
-    after-opened : (result : Result (Unit {0}) memory.Memory) (turn : Turn) (r : Reading) (c : Pages) (back : Pending) (next : Next) (new : reading.State) → ReadAt h x op offset count r
+    after-opened : (result : Result (Unit {0}) memory.Memory) (turn : Turn) (r : Reading) (c : Pages) (back : Pending) (next : Step) (new : reading.State) → ReadAt h x op offset count r
         → Aligned setup.pages h x r.file r.base → Good setup.pages h c → HasPassed mo setup h x back → reading.AfterOpened result turn r c back next new → Goes next new.reading
     after-opened (Ok done) turn r c back next new a aligned good passed o =
         from-settled turn.room back (record r { phase = phases.Pages }) c next new (in-phase h x op offset count r phases.Pages a aligned) good passed o.0 o.1
@@ -366,7 +366,7 @@ module _ (mo : ℕ → Op → Machine) (setup : Setup) (modes : Modes) where
     waits-aligned (phases.Asked size) file b is a = absurd cc
     waits-aligned phases.Ended file b is a = absurd cc
 
-    attrs-read : (told : Result Attr Fault) (again : Bool) (sent turn : Turn) (r : Reading) (c : Pages) (back : Pending) (next : Next) (new : reading.State) → ReadAt h x op offset count r
+    attrs-read : (told : Result Attr Fault) (again : Bool) (sent turn : Turn) (r : Reading) (c : Pages) (back : Pending) (next : Step) (new : reading.State) → ReadAt h x op offset count r
         → Aligned setup.pages h x r.file r.base → Good setup.pages h c → ((attr : Attr) → told ≡ Ok attr → HasPassed mo setup h x back) → reading.TakesAttrs again told sent turn r c back next new → Goes next new.reading
     attrs-read (Ok attr) again sent turn r c back next new a aligned good passed t =
         after-opened t.result turn r t.later back next new a aligned (pages-opened (Good setup.pages h) (quiet-good setup.pages h) t.result r.file attr r.moment sent turn c t.later t.opens good) (passed attr refl) t.goes
@@ -410,7 +410,7 @@ module _ (mo : ℕ → Op → Machine) (setup : Setup) (modes : Modes) where
                   (λ no_more. ends-whole (nat_lt (length given) (reading.count_of r.phase)) (place_after (with_more given r.base) % 4096) no_more);
             }
 
-        part-if : (b : Bool) (attr : Option Attr) (counted : ℕ) (eof : Bool) (given : List ℕ) (size : ℕ) (again : Bool) (next : Next) (new : reading.State)
+        part-if : (b : Bool) (attr : Option Attr) (counted : ℕ) (eof : Bool) (given : List ℕ) (size : ℕ) (again : Bool) (next : Step) (new : reading.State)
             → came ≡ Ok (replies.File (kept.Read attr counted eof given)) → call ≡ calls.File (file_calls.Read r.file (place_after r.base) size)
             → reading.Tells again sent turn (if b then refusal attr (faults.Bad 5) else part attr eof given) r c back next
             → new ≡ reading.told sent turn (if b then refusal attr (faults.Bad 5) else part attr eof given) r c → Goes next new.reading
@@ -421,14 +421,14 @@ module _ (mo : ℕ → Op → Machine) (setup : Setup) (modes : Modes) where
             (noted-pages (Good setup.pages h) (quiet-good setup.pages h) call came laws attr r.file counted eof given (place_after r.base) size sent.moment c is asked good)
             (told (replies.File (kept.Read attr counted eof given)) is).passed t same
 
-        file-part : (k : FileKept) (size : ℕ) (again : Bool) (next : Next) (new : reading.State) → came ≡ Ok (replies.File k)
+        file-part : (k : FileKept) (size : ℕ) (again : Bool) (next : Step) (new : reading.State) → came ≡ Ok (replies.File k)
             → call ≡ calls.File (file_calls.Read r.file (place_after r.base) size) → reading.Tells again sent turn (said_by size (replies.File k)) r c back next
             → new ≡ reading.told sent turn (said_by size (replies.File k)) r c → Goes next new.reading
         file-part (kept.Read attr counted eof given) size again next new is asked t same = part-if (breaks_rule size counted eof given) attr counted eof given size again next new is asked t same
         file-part (kept.ReadFail status attr) size again next new is asked t same = again-read again (reading.part_call r) _ r c next new a t same
         file-part k size again next new is asked t same = again-read again (reading.part_call r) _ r c next new a t same
 
-        part-came : (what : Result Reply Fault) (size : ℕ) (again : Bool) (next : Next) (new : reading.State) → came ≡ what
+        part-came : (what : Result Reply Fault) (size : ℕ) (again : Bool) (next : Step) (new : reading.State) → came ≡ what
             → call ≡ calls.File (file_calls.Read r.file (place_after r.base) size) → reading.Tells again sent turn (said_to size what) r c back next
             → new ≡ reading.told sent turn (said_to size what) r c → Goes next new.reading
         part-came (Ok (replies.File k)) size again next new is asked t same = file-part k size again next new is asked t same
@@ -436,10 +436,10 @@ module _ (mo : ℕ → Op → Machine) (setup : Setup) (modes : Modes) where
         part-came (Ok (replies.Mount k)) size again next new is asked t same = again-read again (reading.part_call r) _ r c next new a t same
         part-came (Err fault) size again next new is asked t same = again-read again (reading.part_call r) _ r c next new a t same
 
-        waits-still : (next : Next) (new : reading.State) → next ≡ nexts.Wait → new ≡ record { reading = r; pages = c } → Goes next new.reading
+        waits-still : (next : Step) (new : reading.State) → next ≡ nexts.Wait → new ≡ record { reading = r; pages = c } → Goes next new.reading
         waits-still next new is same = goes-as nexts.Wait next r new.reading is (ap (λ (s : reading.State). s.reading) same) a
 
-        heard-part : (p : Phase) (repeats : List Repeat) (next : Next) (new : reading.State) → PhaseAwaits p r call
+        heard-part : (p : Phase) (repeats : List Repeat) (next : Step) (new : reading.State) → PhaseAwaits p r call
             → reading.TakesPart (reading.heard p came) sent turn repeats r c back next new → Goes next new.reading
         heard-part phases.Attrs repeats next new asked t = waits-still next new t.0 t.1
         heard-part phases.AskedAttrs repeats next new asked t = waits-still next new t.0 t.1
@@ -452,7 +452,7 @@ module _ (mo : ℕ → Op → Machine) (setup : Setup) (modes : Modes) where
         got-ok (Ok reply) attr is got = (told reply is).passed
         got-ok (Err fault) attr is got = absurd cc
 
-        pub takes-read : (waits : Bool) (repeats : List Repeat) (next : Next) (new : reading.State) → reading.waits_attrs r.phase ≡ waits → PhaseAwaits r.phase r call
+        pub takes-read : (waits : Bool) (repeats : List Repeat) (next : Step) (new : reading.State) → reading.waits_attrs r.phase ≡ waits → PhaseAwaits r.phase r call
             → reading.TakesIf waits sent turn came repeats r c back next new → Goes next new.reading
         takes-read true repeats next new is asked t =
             attrs-read (got_by came) _ sent turn r c back next new a (waits-aligned r.phase r.file r.base is a.aligned) good (λ attr got. got-ok came attr refl got) t

@@ -1,5 +1,5 @@
 -- What a read answers, along a history.
-use Rattle.core_answers.proofs.Prelude.{◌≡◌, ◌+◌, ◌-◌, inl, inr, ℕ, Bool, true, false, List, [], ◌∷◌, ◌++◌, length, take, Option, Some, None, Result, Ok, Err, refl, sym, ap, subst, ◌∙◌, append_assoc, arith, Mode, Opened, Pages, Pending, Fault, Entry, Began, Call, Reply, Op, Modes, Ended, IsOf, Terms, At-grow, At-below, Next, Shelf, Turn, ReadFile, Reading, nothing_of, machine_of, Mounted, FileMachine, Machine, Starts, Resumes, Takes, State, Busy, Over, Setup, View, Held, Given, is-given, held-begins, ThenOf, IsShown}
+use Rattle.core_answers.proofs.Prelude.{◌≡◌, ◌+◌, ◌-◌, inl, inr, ℕ, Bool, true, false, List, [], ◌∷◌, ◌++◌, length, take, Option, Some, None, Result, Ok, Err, refl, sym, ap, subst, ◌∙◌, append_assoc, arith, Mode, Opened, Pages, Pending, Fault, Entry, Began, Call, Reply, Op, Modes, Ended, IsOf, Terms, At-grow, At-below, Step, Shelf, Turn, ReadFile, Reading, nothing_of, machine_of, Mounted, FileMachine, Machine, Starts, Resumes, Takes, State, Busy, Over, Setup, View, Held, Given, is-given, held-begins, ThenOf, IsShown}
 use Rattle.core_facts.proofs.HeldSlots.{may}
 use Rattle.core_answers.specs.pages.Read.{IsFound, in_page, in_reply, WasPending, own, served, empty, ReadShown, ReadsShown}
 use Rattle.std.specs.FinMap as finite
@@ -8,7 +8,7 @@ use Rattle.world_model.specs.declared.answer.Answer.TheVariants as answers
 use Rattle.world_model.specs.declared.answer.Fault.TheVariants as faults
 use Rattle.world_model.specs.declared.answer.Value.TheVariants as values
 use Rattle.world_model.specs.declared.op.Op.TheVariants as ops
-use Rattle.client_shelf.specs.declared.next.Next.TheVariants as nexts
+use Rattle.client_shelf.specs.declared.step.Step.TheVariants as nexts
 use Rattle.file_ops.specs.ReadFile as reads
 use Rattle.file_ops.specs.Reading as reading
 use Rattle.op_machines.specs.declared.file_machine.FileMachine.TheVariants as files
@@ -112,10 +112,10 @@ module _ (mo : ℕ → Op → Machine) (setup : Setup) (modes_ : Modes) where
   abbrev pub Story : List Entry → ℕ → Op → State → Type 0
   Story h x op state = (slot offset count : ℕ) → op ≡ ops.Read slot offset count → StateOf h x op offset count state
 
-  abbrev ThenState : List Entry → ℕ → Op → ℕ → ℕ → Next → Machine → Type 0
+  abbrev ThenState : List Entry → ℕ → Op → ℕ → ℕ → Step → Machine → Type 0
   ThenState h x op offset count next new = ThenOf (IsReading h x op offset count) (Answered mo setup modes_ h x op offset) next new
 
-  then-story : (h : List Entry) (x : ℕ) (op : Op) (next : Next) (new : Machine) → ((slot offset count : ℕ) → op ≡ ops.Read slot offset count → ThenState h x op offset count next new)
+  then-story : (h : List Entry) (x : ℕ) (op : Op) (next : Step) (new : Machine) → ((slot offset count : ℕ) → op ≡ ops.Read slot offset count → ThenState h x op offset count next new)
       → ThenOf (λ k. Story h x op (Busy k)) (λ a. Story h x op (Over a)) next new
   then-story h x op (nexts.Send call) new g = λ slot offset count is. g slot offset count is
   then-story h x op nexts.Wait new g = λ slot offset count is. g slot offset count is
@@ -128,31 +128,31 @@ module _ (mo : ℕ → Op → Machine) (setup : Setup) (modes_ : Modes) where
 
   module _ (h : List Entry) (x : ℕ) (op : Op) (offset count : ℕ) where
     -- a step of the reading, as one of the machine
-    as-machine : (next : Next) (m k : ReadFile) (r : Reading) (new : Machine) → new ≡ machines.File (files.Read k) → k ≡ record m { reading = Some r }
+    as-machine : (next : Step) (m k : ReadFile) (r : Reading) (new : Machine) → new ≡ machines.File (files.Read k) → k ≡ record m { reading = Some r }
         → ThenOf (ReadAt mo setup modes_ h x op offset count) (Answered mo setup modes_ h x op offset) next r → ThenState h x op offset count next new
     as-machine (nexts.Send call) m k r new is same a = record { m = k; is = is; r = r; reading = ap (λ (z : ReadFile). z.reading) same; at = a }
     as-machine nexts.Wait m k r new is same a = record { m = k; is = is; r = r; reading = ap (λ (z : ReadFile). z.reading) same; at = a }
     as-machine (nexts.Done answer) m k r new is same a = a
 
-    as-file : (next : Next) (m : ReadFile) (r : Reading) (k : ReadFile) (f : FileMachine) (new : Machine) → new ≡ machines.File f → f ≡ files.Read k → k ≡ record m { reading = Some r }
+    as-file : (next : Step) (m : ReadFile) (r : Reading) (k : ReadFile) (f : FileMachine) (new : Machine) → new ≡ machines.File f → f ≡ files.Read k → k ≡ record m { reading = Some r }
         → ThenOf (ReadAt mo setup modes_ h x op offset count) (Answered mo setup modes_ h x op offset) next r → ThenState h x op offset count next new
     as-file next m r k f new is at same a = as-machine next m k r new (is ∙ ap machines.File at) same a
 
-    goes-from : (room : Bool) (m : ReadFile) (back : Pending) (r : Reading) (c : Pages) (next : Next) (k : ReadFile) (later : Pages) (f : FileMachine) (new : Machine) → new ≡ machines.File f
+    goes-from : (room : Bool) (m : ReadFile) (back : Pending) (r : Reading) (c : Pages) (next : Step) (k : ReadFile) (later : Pages) (f : FileMachine) (new : Machine) → new ≡ machines.File f
         → f ≡ files.Read k → ReadAt mo setup modes_ h x op offset count r → Good setup.pages h c → HasPassed mo setup h x back → reads.GoesFrom room m back (reading.settled r c) next k later
         → ThenState h x op offset count next new
     goes-from room m back r c next k later f new is at a good passed g =
         as-file next m (reading.gone room (reading.settled r c)).reading k f new is at g.machine
         (from-settled mo setup modes_ h x op offset count room back r c next (reading.gone room (reading.settled r c)) a good passed g.step refl)
 
-    resumes-in : (o : Option Reading) (m : ReadFile) (r : Reading) (room : Bool) (back : Pending) (c : Pages) (next : Next) (k : ReadFile) (later : Pages) (f : FileMachine) (new : Machine)
+    resumes-in : (o : Option Reading) (m : ReadFile) (r : Reading) (room : Bool) (back : Pending) (c : Pages) (next : Step) (k : ReadFile) (later : Pages) (f : FileMachine) (new : Machine)
         → o ≡ Some r → new ≡ machines.File f → f ≡ files.Read k → ReadAt mo setup modes_ h x op offset count r → Good setup.pages h c → HasPassed mo setup h x back
         → reads.ResumesIn o room m c back next k later → ThenState h x op offset count next new
     resumes-in None m r room back c next k later f new there is at a good passed s = absurd (let no_way : None ≡ Some r = there in cc)
     resumes-in (Some q) m r room back c next k later f new there is at a good passed s =
         goes-from room m back q c next k later f new is at (subst (ReadAt mo setup modes_ h x op offset count) (let same : r ≡ q = cc in same) a) good passed s
 
-    takes-in : (o : Option Reading) (m : ReadFile) (r : Reading) (call : Call) (sent turn : Turn) (came : Result Reply Fault) (repeats : _) (back : Pending) (c : Pages) (next : Next) (k : ReadFile)
+    takes-in : (o : Option Reading) (m : ReadFile) (r : Reading) (call : Call) (sent turn : Turn) (came : Result Reply Fault) (repeats : _) (back : Pending) (c : Pages) (next : Step) (k : ReadFile)
         (later : Pages) (f : FileMachine) (new : Machine) → o ≡ Some r → new ≡ machines.File f → f ≡ files.Read k → ReadAt mo setup modes_ h x op offset count r → Good setup.pages h c
         → PartAwaits r call → ((reply : Reply) → came ≡ Ok reply → WasTaken mo setup h x call sent back reply) → reads.TakesIn o sent turn came repeats m c back next k later
         → ThenState h x op offset count next new
@@ -229,7 +229,7 @@ module _ (mo : ℕ → Op → Machine) (setup : Setup) (modes_ : Modes) where
         first true = (0, refl)
         first false = (0, refl)
 
-    starts-with : (begun : Result Reading Fault) (rsize : ℕ) (noac : Bool) (turn : Turn) (next : Next) (k : ReadFile) (after_ : Pages) (f : FileMachine) (new : Machine) → new ≡ machines.File f
+    starts-with : (begun : Result Reading Fault) (rsize : ℕ) (noac : Bool) (turn : Turn) (next : Step) (k : ReadFile) (after_ : Pages) (f : FileMachine) (new : Machine) → new ≡ machines.File f
         → f ≡ files.Read k → HasPassed mo setup later (length h) old.back → Good setup.pages later old.pages
         → reads.Begins (reads.begun_at (finite.get old.opens (lane, slot)) (turn.moment - 1)
         (record { lane = lane; slot = slot; offset = offset; count = count; rsize = rsize; noac = noac; reading = None }) old.back) begun
@@ -247,7 +247,7 @@ module _ (mounted : Mounted) (modes_ : Modes) (setup : Setup) where
   abbrev mo : ℕ → Op → Machine
   mo = machine_of mounted
 
-  starts-read : (h : List Entry) (lane line slot offset count wsize : ℕ) (turn : Turn) (old : Shelf) (next : Next) (new : Machine) (after : Shelf) → Given modes_ h lane old
+  starts-read : (h : List Entry) (lane line slot offset count wsize : ℕ) (turn : Turn) (old : Shelf) (next : Step) (new : Machine) (after : Shelf) → Given modes_ h lane old
       → HasPassed mo setup (h ++ Began lane line (ops.Read slot offset count) ∷ []) (length h) old.back → Good setup.pages (h ++ Began lane line (ops.Read slot offset count) ∷ []) old.pages
       → Starts wsize (machine_of mounted lane (ops.Read slot offset count)) turn old next new after
       → ThenState mo setup modes_ (h ++ Began lane line (ops.Read slot offset count) ∷ []) (length h) (ops.Read slot offset count) offset count next new

@@ -1,10 +1,10 @@
 -- A save ends well only by a reply.
-use Rattle.core_answers.proofs.Prelude.{◌≡◌, inl, inr, ℕ, Bool, true, false, List, [], ◌∷◌, length, Option, Some, None, Err, refl, sym, subst, Answer, Fault, Segments, Pending, of_file, chosen, Next, Repeat, Turn, goes_again, Sending, Committing, Resending, CommittingAgain, Saving, write_told}
+use Rattle.core_answers.proofs.Prelude.{◌≡◌, inl, inr, ℕ, Bool, true, false, List, [], ◌∷◌, length, Option, Some, None, Err, refl, sym, subst, Answer, Fault, Segments, Pending, of_file, chosen, Step, Repeat, Turn, goes_again, Sending, Committing, Resending, CommittingAgain, Saving, write_told}
 use Rattle.std.proofs.Common.{nat_lt}
 use Rattle.std.specs.Prelude.{◌==◌, ◌&&◌}
 use Rattle.world_model.specs.declared.answer.Answer.TheVariants as answers
 use Rattle.world_model.specs.declared.answer.Fault.TheVariants as faults
-use Rattle.client_shelf.specs.declared.next.Next.TheVariants as nexts
+use Rattle.client_shelf.specs.declared.step.Step.TheVariants as nexts
 use Rattle.file_ops.specs.declared.saving.Phase.{Phase}
 use Rattle.file_ops.specs.Saves as saves
 use Rattle.file_ops.specs.Syncs as syncs
@@ -16,7 +16,7 @@ well-map : (C D : Type 0) → (C → D) → (answer : Answer) → WellDone C ans
 well-map C D f (answers.Done value) w = f w
 well-map C D f (answers.Refused fault) w = tt
 
-pub ends-map : (C D : Type 0) → (C → D) → (next : Next) → EndsSo C next → EndsSo D next
+pub ends-map : (C D : Type 0) → (C → D) → (next : Step) → EndsSo C next → EndsSo D next
 ends-map C D f (nexts.Send call) e = tt
 ends-map C D f nexts.Wait e = tt
 ends-map C D f (nexts.Done answer) e = well-map C D f answer e
@@ -25,7 +25,7 @@ well-any : (C : Type 0) → C → (answer : Answer) → WellDone C answer
 well-any C c (answers.Done value) = c
 well-any C c (answers.Refused fault) = tt
 
-pub ends-any : (C : Type 0) → C → (next : Next) → EndsSo C next
+pub ends-any : (C : Type 0) → C → (next : Step) → EndsSo C next
 ends-any C c (nexts.Send call) = tt
 ends-any C c nexts.Wait = tt
 ends-any C c (nexts.Done answer) = well-any C c answer

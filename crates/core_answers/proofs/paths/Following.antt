@@ -1,6 +1,6 @@
 -- What the steps of operations keep of the shelf, and of themselves, holds along a history: what they take is the last record that came, and answers
 -- the call that they wait for, which was first sent at a place that the operation knows, or after it. It is an instance of the engine.
-use Rattle.core_answers.proofs.Prelude.{HadStory, ◌≡◌, ◌<◌, ◌≤◌, ◌+◌, ℕ, List, [], ◌∷◌, ◌++◌, length, Result, Ok, Refused, Fault, Answer, Entry, Began, Call, Reply, Op, IsLost, Ended, IsDelivered, Next, Shelf, Turn, machine_of, Mounted, Machine, Starts, Resumes, Takes, Setup, IsFresh, View, in_flight, Reaches, ThenOf, time_next}
+use Rattle.core_answers.proofs.Prelude.{HadStory, ◌≡◌, ◌<◌, ◌≤◌, ◌+◌, ℕ, List, [], ◌∷◌, ◌++◌, length, Result, Ok, Refused, Fault, Answer, Entry, Began, Call, Reply, Op, IsLost, Ended, IsDelivered, Step, Shelf, Turn, machine_of, Mounted, Machine, Starts, Resumes, Takes, Setup, IsFresh, View, in_flight, Reaches, ThenOf, time_next}
 use Rattle.core_answers.proofs.engine.Laws.{FromPlace, LaneLaws, Anyhow, anyhow-around, anyhow-back, anyhow-gives}
 use Rattle.core_answers.proofs.engine.Told.{AskLaws, ShelfLaws, IsLate, ToldLast}
 use Rattle.world_model.specs.declared.answer.Fault.TheVariants as faults
@@ -11,12 +11,12 @@ use Rattle.core_answers.proofs.engine.Lanes as lanes
 pub record FollowLaws (machine_of : ℕ → Op → Machine) (E : Machine → Call → Type 0) (K : List Entry → Shelf → Type 0) (B : List Entry → ℕ → ℕ → Op → Machine → Type 0)
     (O : List Entry → ℕ → Op → Answer → Type 0) : Type 0 where
   pub shelf : ShelfLaws E K
-  pub starts : (h : List Entry) (lane line : ℕ) (op : Op) (wsize : ℕ) (turn : Turn) (old : Shelf) (next : Next) (new : Machine) (after : Shelf)
+  pub starts : (h : List Entry) (lane line : ℕ) (op : Op) (wsize : ℕ) (turn : Turn) (old : Shelf) (next : Step) (new : Machine) (after : Shelf)
       → K (h ++ Began lane line op ∷ []) old → time_next h ≤ turn.now → Starts wsize (machine_of lane op) turn old next new after
       → ThenOf (B (h ++ Began lane line op ∷ []) (length h) (length h) op) (O (h ++ Began lane line op ∷ []) (length h) op) next new
-  pub resumes : (h : List Entry) (place x : ℕ) (op : Op) (machine : Machine) (wsize : ℕ) (turn : Turn) (old : Shelf) (next : Next) (new : Machine) (after : Shelf)
+  pub resumes : (h : List Entry) (place x : ℕ) (op : Op) (machine : Machine) (wsize : ℕ) (turn : Turn) (old : Shelf) (next : Step) (new : Machine) (after : Shelf)
       → K h old → x < length h → IsLate h x turn.now → B h place x op machine → Resumes wsize machine turn old next new after → ThenOf (B h place x op) (O h x op) next new
-  pub takes : (h : List Entry) (place x : ℕ) (op : Op) (machine : Machine) (call : Call) (wsize : ℕ) (sent turn : Turn) (came : Result Reply Fault) (old : Shelf) (next : Next)
+  pub takes : (h : List Entry) (place x : ℕ) (op : Op) (machine : Machine) (call : Call) (wsize : ℕ) (sent turn : Turn) (came : Result Reply Fault) (old : Shelf) (next : Step)
       (new : Machine) (after : Shelf) (others : ℕ) → K h old → K h after → x < length h → place ≤ length h → IsLate h x turn.now → in_flight machine ≡ others + 1
       → B h place x op machine → E machine call
       → ((reply : Reply) → came ≡ Ok reply → ToldLast h x place call sent.now reply) → Takes wsize machine sent turn came old next new after

@@ -1,5 +1,5 @@
 -- A list, step by step: its walk leads to its directory, whose pages come one after the other, and its answer shows their names.
-use Rattle.core_answers.proofs.Prelude.{◌≡◌, ◌<◌, ◌≤◌, ◌+◌, inl, inr, ℕ, zero, suc, Bool, true, false, List, [], ◌∷◌, ◌++◌, length, Contains, Option, None, Result, Ok, Err, refl, sym, ap, subst, ◌∙◌, arith, if◌then◌else◌, nat_lt, Attr, Verf, DirKept, PlusRow, Step, More, End, ListFault, listing_limit, last_cookie, page_step, Answer, Fault, Value, Entry, Began, Call, Reply, Op, LastCookie, names_of, list_call, page_reply, IsDelivered, length_last, goes_again, fails_busy, Next, Shelf, Turn, ListDir, Visit, Walk, Mounted, Machine, machine_of, Starts, Resumes, Takes, in_flight, Awaits, OwnOr, then-as, ThenOf, IsAnswered, time_next}
+use Rattle.core_answers.proofs.Prelude.{◌≡◌, ◌<◌, ◌≤◌, ◌+◌, inl, inr, ℕ, zero, suc, Bool, true, false, List, [], ◌∷◌, ◌++◌, length, Contains, Option, None, Result, Ok, Err, refl, sym, ap, subst, ◌∙◌, arith, if◌then◌else◌, nat_lt, Attr, Verf, DirKept, PlusRow, ListStep, More, End, ListFault, listing_limit, last_cookie, page_step, Answer, Fault, Value, Entry, Began, Call, Reply, Op, LastCookie, names_of, list_call, page_reply, IsDelivered, length_last, goes_again, fails_busy, Step, Shelf, Turn, ListDir, Visit, Walk, Mounted, Machine, machine_of, Starts, Resumes, Takes, in_flight, Awaits, OwnOr, then-as, ThenOf, IsAnswered, time_next}
 use Rattle.std.specs.Prelude.{◌↔◌}
 use Rattle.dir_list.specs.Listings.{counts, counted}
 use Rattle.core_facts.proofs.Awaited.{one-visit}
@@ -13,8 +13,8 @@ use Rattle.world_model.specs.declared.answer.Fault.TheVariants as faults
 use Rattle.world_model.specs.declared.answer.Value.TheVariants as values
 use Rattle.world_model.specs.declared.message.Reply.TheVariants as replies
 use Rattle.world_model.specs.declared.op.Op.TheVariants as ops
-use Rattle.client_shelf.specs.declared.next.Next.TheVariants as nexts
-use Rattle.name_ops.specs.declared.walk.WalkNext.TheVariants as walks
+use Rattle.client_shelf.specs.declared.step.Step.TheVariants as nexts
+use Rattle.name_ops.specs.declared.walk.WalkStep.TheVariants as walks
 use Rattle.name_ops.specs.ListDir as listing
 use Rattle.name_ops.specs.Visiting as visiting
 use Rattle.name_ops.specs.Walking as walking
@@ -56,7 +56,7 @@ is-more before [] verf false cookie with_ is = absurd (cc)
 is-more before (row ∷ rows) verf eof cookie with_ is = by (nat_lt listing_limit (length before + length (counted (row ∷ rows)))) eof is
   where
     by : (b e : Bool)
-        → ◌≡◌ {A = Result Step ListFault} (if b then Err list_faults.Many else if e then Ok End else Ok (More (last_cookie row rows) verf)) (Ok (More cookie with_))
+        → ◌≡◌ {A = Result ListStep ListFault} (if b then Err list_faults.Many else if e then Ok End else Ok (More (last_cookie row rows) verf)) (Ok (More cookie with_))
         → IsMore (row ∷ rows) verf cookie with_
     by true e same = absurd (cc)
     by false true same = absurd (cc)
@@ -72,7 +72,7 @@ is-end before [] verf true is = refl
 is-end before [] verf false is = absurd (cc)
 is-end before (row ∷ rows) verf eof is = by (nat_lt listing_limit (length before + length (counted (row ∷ rows)))) eof is
   where
-    by : (b e : Bool) → ◌≡◌ {A = Result Step ListFault} (if b then Err list_faults.Many else if e then Ok End else Ok (More (last_cookie row rows) verf)) (Ok End) → e ≡ true
+    by : (b e : Bool) → ◌≡◌ {A = Result ListStep ListFault} (if b then Err list_faults.Many else if e then Ok End else Ok (More (last_cookie row rows) verf)) (Ok End) → e ≡ true
     by true e same = absurd (cc)
     by false true same = refl
     by false false same = absurd (cc)
@@ -187,7 +187,7 @@ module _ (most : ℕ) (top : List ℕ) (h : List Entry) (x : ℕ) (path : List (
   ListAnswer (answers.Done value) = IsListed most top h x path value
   ListAnswer (answers.Refused fault) = Unit {0}
 
-  abbrev pub Steps : ℕ → Next → Machine → Type 0
+  abbrev pub Steps : ℕ → Step → Machine → Type 0
   Steps place next_is new = ThenOf (ListRuns place) ListAnswer next_is new
 
 module _ (most : ℕ) (top : List ℕ) (h : List Entry) (x : ℕ) (within : x < length h) (path : List (List ℕ)) where
@@ -206,11 +206,11 @@ module _ (most : ℕ) (top : List ℕ) (h : List Entry) (x : ℕ) (within : x < 
   abbrev Answers : Answer → Type 0
   Answers answer = ListAnswer most top h x path answer
 
-  abbrev Goes : ℕ → Next → Machine → Type 0
+  abbrev Goes : ℕ → Step → Machine → Type 0
   Goes place next_is new = Steps most top h x path place next_is new
 
   -- a visit of the list goes on
-  on-visit : (place : ℕ) (next_is : Next) (m : ListDir) (visit : Visit) (new : Machine) → new ≡ machines.Name (names.List (record m { visit = visit })) → x ≤ place
+  on-visit : (place : ℕ) (next_is : Step) (m : ListDir) (visit : Visit) (new : Machine) → new ≡ machines.Name (names.List (record m { visit = visit })) → x ≤ place
       → Staged place (record m { visit = visit }) → ThenOf Visits Answers next_is visit → Goes place next_is new
   on-visit place (nexts.Send call) m visit new is began s t = record { m = record m { visit = visit }; is = is; began = began; visit = t; stage = s }
   on-visit place nexts.Wait m visit new is began s t = record { m = record m { visit = visit }; is = is; began = began; visit = t; stage = s }
@@ -232,7 +232,7 @@ module _ (most : ℕ) (top : List ℕ) (h : List Entry) (x : ℕ) (within : x < 
         listing_is = l.listing_is;
       })
 
-  pub goes : (place : ℕ) (machine : Machine) (wsize : ℕ) (turn : Turn) (old : Shelf) (next_is : Next) (new : Machine) (after : Shelf) → Kept most h old → IsLate h x turn.now
+  pub goes : (place : ℕ) (machine : Machine) (wsize : ℕ) (turn : Turn) (old : Shelf) (next_is : Step) (new : Machine) (after : Shelf) → Kept most h old → IsLate h x turn.now
       → Runs place machine → Resumes wsize machine turn old next_is new after → Goes place next_is new
   goes place machine wsize turn old next_is new after t late k r =
       let g = subst (λ (n : Machine). Resumes wsize n turn old next_is new after) k.is r in
@@ -257,7 +257,7 @@ module _ (most : ℕ) (top : List ℕ) (h : List Entry) (x : ℕ) (within : x < 
   abbrev PageTold : ℕ → ℕ → Result Reply Fault → ListDir → Type 0
   PageTold place ms came m = (reply : Reply) → came ≡ Ok reply → ToldLast h x place (list_call m.visit.walk.spot.dir m.place.cookie m.place.verf) ms reply
 
-  more-then : (next_is : Next) (room : Bool) (m : ListDir) (place : _) (visit : Visits m.visit) → (done : walking.next_name m.visit.walk ≡ None)
+  more-then : (next_is : Step) (room : Bool) (m : ListDir) (place : _) (visit : Visits m.visit) → (done : walking.next_name m.visit.walk ≡ None)
       → Listing (length h) (record m { place = place }) → (to : ListDir) → to ≡ listing.more_after place room m → next_is ≡ listing.more_next place room m
       → Goes (length h) next_is (machines.Name (names.List to))
   more-then next_is room m place visit done l to is at = then-as (Runs (length h)) Answers (listing.more_next place room m) next_is (machines.Name (names.List to)) at (by room)
@@ -279,7 +279,7 @@ module _ (most : ℕ) (top : List ℕ) (h : List Entry) (x : ℕ) (within : x < 
   rows-both m rows page is =
       ap (λ (ns : List (List ℕ)). ns ++ counted page) (is ∙ counted-are rows) ∙ ap (λ (ns : List (List ℕ)). names_of rows ++ ns) (counted-are page) ∙ sym (names-both rows page)
 
-  page-then : (place ms : ℕ) (step : Result Step ListFault) (heard : _) (came : Result Reply Fault) (room : Bool) (m : ListDir) (next_is : Next) (to : ListDir)
+  page-then : (place ms : ℕ) (step : Result ListStep ListFault) (heard : _) (came : Result Reply Fault) (room : Bool) (m : ListDir) (next_is : Step) (to : ListDir)
       → Visits m.visit → Listing place m → LedBy h most x top path m.visit.walk.spot.dir → PageTold place ms came m
       → listing.TakesStep step heard room m next_is to → IsPage came heard.verf heard.page heard.eof
       → page_step m.listing heard.page heard.verf heard.eof ≡ step → Goes (length h) next_is (machines.Name (names.List to))
@@ -330,7 +330,7 @@ module _ (most : ℕ) (top : List ℕ) (h : List Entry) (x : ℕ) (within : x < 
   page-then place ms (Err fault) heard came room m next_is to visit l led told t page is =
       then-as (Runs (length h)) Answers (nexts.Done (answers.Refused (listing.refusal_of fault))) next_is (machines.Name (names.List to)) t.0 tt
 
-  list-then : (place ms : ℕ) (low : place ≤ length h) (told_page : Result _ Fault) (again : Bool) (came : Result Reply Fault) (room : Bool) (m : ListDir) (next_is : Next) (to : ListDir)
+  list-then : (place ms : ℕ) (low : place ≤ length h) (told_page : Result _ Fault) (again : Bool) (came : Result Reply Fault) (room : Bool) (m : ListDir) (next_is : Step) (to : ListDir)
       → Visits m.visit → Listing place m → LedBy h most x top path m.visit.walk.spot.dir → PageTold place ms came m → listing.page_heard came ≡ told_page
       → Staged place m → listing.Follows told_page again room m next_is to → Goes (length h) next_is (machines.Name (names.List to))
   list-then place ms low (Ok heard) again came room m next_is to visit l led told is s (inl f) =
@@ -350,7 +350,7 @@ module _ (most : ℕ) (top : List ℕ) (h : List Entry) (x : ℕ) (within : x < 
       }
       by false = tt
 
-  pub takes-list : (asked : Bool) (place : ℕ) (low : place ≤ length h) (m : ListDir) (sent turn : Turn) (came : Result Reply Fault) (old : Shelf) (next_is : Next) (to : ListDir) (after : Shelf)
+  pub takes-list : (asked : Bool) (place : ℕ) (low : place ≤ length h) (m : ListDir) (sent turn : Turn) (came : Result Reply Fault) (old : Shelf) (next_is : Step) (to : ListDir) (after : Shelf)
       (call : Call) → m.visit.asked ≡ asked → Kept most h old → Kept most h after → IsLate h x turn.now → x ≤ place → Visits m.visit → Staged place m
       → OwnOr asked (listing.page_call m.place) m.visit.walk call → ((reply : Reply) → came ≡ Ok reply → ToldLast h x place call sent.now reply)
       → listing.TakesList asked m sent turn came old next_is to after → Goes (length h) next_is (machines.Name (names.List to))
@@ -433,27 +433,27 @@ module _ (m : Mounted) (most : ℕ) where
       same v value is = cc
   answer-of h x path (answers.Refused fault) a value is = absurd (cc)
 
-  for-list : (h : List Entry) (place x : ℕ) (op : Op) (next_is : Next) (new : Machine) → x < length h
+  for-list : (h : List Entry) (place x : ℕ) (op : Op) (next_is : Step) (new : Machine) → x < length h
       → ((path : List (List ℕ)) → op ≡ ops.List path → Steps most m.root h x path place next_is new) → ThenOf (ListsRun h place x op) (ListsOver h x op) next_is new
   for-list h place x op (nexts.Send call) new within t = λ path is. record { within = within; runs = t path is }
   for-list h place x op nexts.Wait new within t = λ path is. record { within = within; runs = t path is }
   for-list h place x op (nexts.Done answer) new within t = λ path is. answer-of h x path answer (t path is)
 
   -- nothing is known of another operation
-  other-list : (h : List Entry) (others was x : ℕ) (op : Op) (next_is : Next) (new : Machine) → ((path : List (List ℕ)) → op ≡ ops.List path → ⊥)
+  other-list : (h : List Entry) (others was x : ℕ) (op : Op) (next_is : Step) (new : Machine) → ((path : List (List ℕ)) → op ≡ ops.List path → ⊥)
       → ThenOf (λ k. FromPlace h others was (λ n. ListsRun h n x op k)) (ListsOver h x op) next_is new
   other-list h others was x op (nexts.Send call) new other = record { place = 0; within = omega arith; fits = inl (omega arith); holds = λ path is. absurd (other path is) }
   other-list h others was x op nexts.Wait new other = record { place = 0; within = omega arith; fits = inl (omega arith); holds = λ path is. absurd (other path is) }
   other-list h others was x op (nexts.Done answer) new other = λ path is. absurd (other path is)
 
-  own-list : (h : List Entry) (others was x : ℕ) (op : Op) (next_is : Next) (new : Machine) → x < length h → others ≡ 0
+  own-list : (h : List Entry) (others was x : ℕ) (op : Op) (next_is : Step) (new : Machine) → x < length h → others ≡ 0
       → ((path : List (List ℕ)) → op ≡ ops.List path → Steps most m.root h x path (length h) next_is new)
       → ThenOf (λ k. FromPlace h others was (λ n. ListsRun h n x op k)) (ListsOver h x op) next_is new
   own-list h others was x op (nexts.Send call) new within alone t = record { place = length h; within = omega arith; fits = inr alone; holds = λ path is. record { within = within; runs = t path is } }
   own-list h others was x op nexts.Wait new within alone t = record { place = length h; within = omega arith; fits = inr alone; holds = λ path is. record { within = within; runs = t path is } }
   own-list h others was x op (nexts.Done answer) new within alone t = λ path is. answer-of h x path answer (t path is)
 
-  from-list : (h : List Entry) (others was x : ℕ) (op : Op) (next_is : Next) (new : Machine) → x < length h → ((path : List (List ℕ)) → op ≡ ops.List path → others ≡ 0)
+  from-list : (h : List Entry) (others was x : ℕ) (op : Op) (next_is : Step) (new : Machine) → x < length h → ((path : List (List ℕ)) → op ≡ ops.List path → others ≡ 0)
       → ((path : List (List ℕ)) → op ≡ ops.List path → Steps most m.root h x path (length h) next_is new)
       → ThenOf (λ k. FromPlace h others was (λ n. ListsRun h n x op k)) (ListsOver h x op) next_is new
   from-list h others was x (ops.List path) next_is new within alone t = own-list h others was x (ops.List path) next_is new within (alone path refl) t
@@ -468,7 +468,7 @@ module _ (m : Mounted) (most : ℕ) where
     stage = fresh refl refl;
   }
 
-  step-as : (h : List Entry) (x : ℕ) (path : List (List ℕ)) (place : ℕ) (next_is : Next) (to new : Machine) → new ≡ to → Steps most m.root h x path place next_is to
+  step-as : (h : List Entry) (x : ℕ) (path : List (List ℕ)) (place : ℕ) (next_is : Step) (to new : Machine) → new ≡ to → Steps most m.root h x path place next_is to
       → Steps most m.root h x path place next_is new
   step-as h x path place next_is to new is t = subst (λ (k : Machine). Steps most m.root h x path place next_is k) (sym is) t
 

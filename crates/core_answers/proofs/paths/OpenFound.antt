@@ -1,5 +1,5 @@
 -- An open finds its file by the reply to its own LOOKUP or CREATE of its last name, and its last reply is that to GETATTR of the file, or that one.
-use Rattle.core_answers.proofs.Prelude.{◌≡◌, ◌<◌, ◌==◌, inl, inr, ℕ, Bool, true, false, List, [], ◌∷◌, ◌++◌, length, Option, Some, None, Result, Ok, Err, refl, sym, ap, subst, arith, if◌then◌else◌, Attr, Wcc, Mode, DirKept, FileKept, looked, known_of, Answer, Fault, Entry, Call, Reply, IsDelivered, length_last, Next, Turn, OpenFile, Led, Opening, OpeningNext, OpeningStep, got_by, front_of, last_of, then-as, ThenOf, IsAnswered}
+use Rattle.core_answers.proofs.Prelude.{◌≡◌, ◌<◌, ◌==◌, inl, inr, ℕ, Bool, true, false, List, [], ◌∷◌, ◌++◌, length, Option, Some, None, Result, Ok, Err, refl, sym, ap, subst, arith, if◌then◌else◌, Attr, Wcc, Mode, DirKept, FileKept, looked, known_of, Answer, Fault, Entry, Call, Reply, IsDelivered, length_last, Step, Turn, OpenFile, Led, Opening, OpeningStep, OpeningPhase, got_by, front_of, last_of, then-as, ThenOf, IsAnswered}
 use Rattle.file_ops.specs.Told.{found_by, made_by}
 use Rattle.std.specs.FinMap as finite
 use Rattle.nfs_dir_calls.specs.declared.call.DirCall.TheVariants as dirs
@@ -11,10 +11,10 @@ use Rattle.world_model.specs.declared.answer.Answer.TheVariants as answers
 use Rattle.world_model.specs.declared.answer.Fault.TheVariants as faults
 use Rattle.world_model.specs.declared.message.Call.TheVariants as calls
 use Rattle.world_model.specs.declared.message.Reply.TheVariants as replies
-use Rattle.client_shelf.specs.declared.next.Next.TheVariants as nexts
+use Rattle.client_shelf.specs.declared.step.Step.TheVariants as nexts
 use Rattle.file_ops.specs.declared.opening.Led.TheVariants as leads
-use Rattle.file_ops.specs.declared.opening.OpeningNext.TheVariants as openings
-use Rattle.file_ops.specs.declared.opening.OpeningStep.TheVariants as opening_steps
+use Rattle.file_ops.specs.declared.opening.OpeningStep.TheVariants as openings
+use Rattle.file_ops.specs.declared.opening.OpeningPhase.TheVariants as opening_steps
 use Rattle.file_ops.specs.OpenFile as opens
 use Rattle.file_ops.specs.Opening as opening
 use Rattle.name_ops.specs.Looking.{look_up}
@@ -54,7 +54,7 @@ pub data LastOf (h : List Entry) (x n : ℕ) (file : List ℕ) : Type 0 where
 -- ---- one step of an opening
 
 module _ (most : ℕ) (top : List ℕ) (h : List Entry) (x : ℕ) (path : List (List ℕ)) where
-  abbrev pub StepFound : List ℕ → OpeningStep → Type 0
+  abbrev pub StepFound : List ℕ → OpeningPhase → Type 0
   StepFound d opening_steps.Look = Unit {0}
   StepFound d opening_steps.Make = Unit {0}
   StepFound d opening_steps.Find = Unit {0}
@@ -82,13 +82,13 @@ module _ (most : ℕ) (top : List ℕ) (h : List Entry) (x : ℕ) (path : List (
     pub given : GivenBy h x d (last_of path) file
     pub last : LastOf h x (length h) file
 
-  abbrev pub NowFound : List ℕ → OpeningStep → Type 0
+  abbrev pub NowFound : List ℕ → OpeningPhase → Type 0
   NowFound d opening_steps.Look = Unit {0}
   NowFound d opening_steps.Make = Unit {0}
   NowFound d opening_steps.Find = Unit {0}
   NowFound d (opening_steps.Ask file) = JustGiven d file
 
-  now-step : (d : List ℕ) (step : OpeningStep) → NowFound d step → StepFound d step
+  now-step : (d : List ℕ) (step : OpeningPhase) → NowFound d step → StepFound d step
   now-step d opening_steps.Look s = tt
   now-step d opening_steps.Make s = tt
   now-step d opening_steps.Find s = tt
@@ -160,10 +160,10 @@ module _ (most : ℕ) (top : List ℕ) (h : List Entry) (x : ℕ) (path : List (
       named-call : look_up o.dir o.name ≡ look_up o.dir (last_of path)
       named-call = ap (look_up o.dir) s.name_is
 
-      at : (k : OpeningStep) → o.step ≡ k → IsHeard came (opening.call_of o k)
+      at : (k : OpeningPhase) → o.step ≡ k → IsHeard came (opening.call_of o k)
       at k is = heard-as came (opening.call_of o o.step) (opening.call_of o k) (ap (opening.call_of o) is) t
 
-      by : (k : OpeningStep) → o.step ≡ k → StepFound o.dir k → LedFound o.dir (opening.led_to o.mode k came)
+      by : (k : OpeningPhase) → o.step ≡ k → StepFound o.dir k → LedFound o.dir (opening.led_to o.mode k came)
       by opening_steps.Look is p = look-led o.dir o.mode came (heard-as came (look_up o.dir o.name) (look_up o.dir (last_of path)) named-call (at opening_steps.Look is))
       by opening_steps.Find is p = found-led o.dir came (heard-as came (look_up o.dir o.name) (look_up o.dir (last_of path)) named-call (at opening_steps.Find is))
       by opening_steps.Make is p =
@@ -200,7 +200,7 @@ module _ (most : ℕ) (top : List ℕ) (h : List Entry) (x : ℕ) (path : List (
 
   -- ---- what a step comes to
 
-  abbrev pub NextFound : OpeningNext → Opening → Type 0
+  abbrev pub NextFound : OpeningStep → Opening → Type 0
   NextFound (openings.Send call) o = OpeningAt o
   NextFound openings.Wait o = OpeningAt o
   NextFound (openings.Ended (Ok file)) o = FoundNow file
@@ -226,8 +226,8 @@ module _ (most : ℕ) (top : List ℕ) (h : List Entry) (x : ℕ) (path : List (
       by true k = k
       by false k = k
 
-  next-as : (to step : OpeningNext) (o : Opening) → step ≡ to → NextFound to o → NextFound step o
-  next-as to step o is s = subst (λ (n : OpeningNext). NextFound n o) (sym is) s
+  next-as : (to step : OpeningStep) (o : Opening) → step ≡ to → NextFound to o → NextFound step o
+  next-as to step o is s = subst (λ (n : OpeningStep). NextFound n o) (sym is) s
 
   opened : (within : x < length h) (o : Opening) (file : List ℕ) (to : _) (result : Result (List ℕ) Fault) (pages later : _) → OpeningAt o → JustGiven o.dir file
       → opening.FileOpened file to result pages later → NextFound (openings.Ended result) o
@@ -235,7 +235,7 @@ module _ (most : ℕ) (top : List ℕ) (h : List Entry) (x : ℕ) (path : List (
       subst FoundNow (sym f.0) (record { found = record { within = within; d = o.dir; led = s.led; given = g.given }; last = g.last })
   opened within o file to (Err fault) pages later s g f = tt
 
-  pub led-next : (within : x < length h) (again : Bool) (o : Opening) (sent turn : Turn) (led : Led) (step : OpeningNext) (pages later : _) → OpeningAt o → LedFound o.dir led
+  pub led-next : (within : x < length h) (again : Bool) (o : Opening) (sent turn : Turn) (led : Led) (step : OpeningStep) (pages later : _) → OpeningAt o → LedFound o.dir led
       → opening.LedIf again o sent turn led step pages later → NextFound step (opening.opening_after again o turn led)
   led-next within true o sent turn led step pages later s d l = next-as (openings.Send (opening.call_of o o.step)) step (opening.counted o) l.0 (counted-at o s)
   led-next within false o sent turn (leads.Goes to) step pages later s d l =
@@ -256,19 +256,19 @@ module _ (most : ℕ) (top : List ℕ) (h : List Entry) (x : ℕ) (path : List (
   OpenAnswer (answers.Done value) = (file : List ℕ) × FoundNow file
   OpenAnswer (answers.Refused fault) = Unit {0}
 
-  pub as-next : (step : OpeningNext) (m : OpenFile) → NextFound step m.opening → ThenOf (λ (n : OpenFile). OpeningAt n.opening) OpenAnswer (opens.goes_as step) m
+  pub as-next : (step : OpeningStep) (m : OpenFile) → NextFound step m.opening → ThenOf (λ (n : OpenFile). OpeningAt n.opening) OpenAnswer (opens.goes_as step) m
   as-next (openings.Send call) m s = s
   as-next openings.Wait m s = s
   as-next (openings.Ended (Ok file)) m s = (file, s)
   as-next (openings.Ended (Err fault)) m s = tt
 
-  puts-then : (file : List ℕ) (other : Option _) (place of : _) (next : Next) (old new : _) (m : OpenFile) → FoundNow file → opens.PutsOver other place of next old new
+  puts-then : (file : List ℕ) (other : Option _) (place of : _) (next : Step) (old new : _) (m : OpenFile) → FoundNow file → opens.PutsOver other place of next old new
       → ThenOf (λ (n : OpenFile). OpeningAt n.opening) OpenAnswer next m
   puts-then file (Some other) place of next old new m s p = then-as (λ (n : OpenFile). OpeningAt n.opening) OpenAnswer (opens.refused faults.Slot) next m p.0 tt
   puts-then file None place of next old new m s (inl p) = then-as (λ (n : OpenFile). OpeningAt n.opening) OpenAnswer opens.well next m p.0 (file, s)
   puts-then file None place of next old new m s (inr p) = then-as (λ (n : OpenFile). OpeningAt n.opening) OpenAnswer (opens.refused faults.Memory) next m p.0 tt
 
-  pub follows-then : (m after : OpenFile) (step : OpeningNext) (next : Next) (old new : _) → NextFound step after.opening → opens.Follows m step next old new
+  pub follows-then : (m after : OpenFile) (step : OpeningStep) (next : Step) (old new : _) → NextFound step after.opening → opens.Follows m step next old new
       → ThenOf (λ (n : OpenFile). OpeningAt n.opening) OpenAnswer next after
   follows-then m after (openings.Send call) next old new s f = then-as (λ (n : OpenFile). OpeningAt n.opening) OpenAnswer (nexts.Send call) next after f.0 s
   follows-then m after openings.Wait next old new s f = then-as (λ (n : OpenFile). OpeningAt n.opening) OpenAnswer nexts.Wait next after f.0 s
@@ -287,7 +287,7 @@ last-of-later h e x file quiet (by_lookup d name attr dir k) = by_lookup d name 
 last-of-later h e x file quiet (by_create d name making attr wcc k) = by_create d name making attr wcc (last-later h e x _ _ quiet k)
 
 module _ (most : ℕ) (top : List ℕ) (h : List Entry) (e : Entry) (x : ℕ) (path : List (List ℕ)) where
-  step-grows : (d : List ℕ) (step : OpeningStep) → StepFound most top h x path d step → StepFound most top (h ++ e ∷ []) x path d step
+  step-grows : (d : List ℕ) (step : OpeningPhase) → StepFound most top h x path d step → StepFound most top (h ++ e ∷ []) x path d step
   step-grows d opening_steps.Look s = tt
   step-grows d opening_steps.Make s = tt
   step-grows d opening_steps.Find s = tt

@@ -1,13 +1,13 @@
 -- An open's walk leads to its directory by recent names, and there it finds its file.
-use Rattle.core_answers.proofs.Prelude.{◌≡◌, ◌<◌, ◌≤◌, ◌-◌, inl, ℕ, Bool, true, false, List, [], ◌∷◌, ◌++◌, length, Result, Ok, refl, sym, ap, subst, ◌∙◌, arith, Mode, Answer, Fault, Entry, Began, Call, Reply, Op, IsDelivered, length_last, Next, Shelf, Turn, OpenFile, Opening, PutFile, Walk, WalkNext, walk_of, Mounted, Machine, Opener, PathMachine, front_of, last_of, machine_of, file_of, Starts, Resumes, Takes, PathOr, Awaits, WalkStep, go-step, took-step, then-as, ThenOf, time_next}
+use Rattle.core_answers.proofs.Prelude.{◌≡◌, ◌<◌, ◌≤◌, ◌-◌, inl, ℕ, Bool, true, false, List, [], ◌∷◌, ◌++◌, length, Result, Ok, refl, sym, ap, subst, ◌∙◌, arith, Mode, Answer, Fault, Entry, Began, Call, Reply, Op, IsDelivered, length_last, Step, Shelf, Turn, OpenFile, Opening, PutFile, Walk, WalkStep, walk_of, Mounted, Machine, Opener, PathMachine, front_of, last_of, machine_of, file_of, Starts, Resumes, Takes, PathOr, Awaits, WalkMoves, go-step, took-step, then-as, ThenOf, time_next}
 use Rattle.nfs_types.specs.declared.mode.Mode.TheVariants as modes
 use Rattle.world_model.specs.declared.answer.Answer.TheVariants as answers
 use Rattle.world_model.specs.declared.answer.Fault.TheVariants as faults
 use Rattle.world_model.specs.declared.op.Op.TheVariants as ops
-use Rattle.client_shelf.specs.declared.next.Next.TheVariants as nexts
+use Rattle.client_shelf.specs.declared.step.Step.TheVariants as nexts
 use Rattle.file_ops.specs.OpenFile as opens
 use Rattle.file_ops.specs.Opening as opening
-use Rattle.name_ops.specs.declared.walk.WalkNext.TheVariants as walks
+use Rattle.name_ops.specs.declared.walk.WalkStep.TheVariants as walks
 use Rattle.name_ops.specs.Walking as walking
 use Rattle.op_machines.specs.declared.file_machine.FileMachine.TheVariants as files
 use Rattle.op_machines.specs.declared.machine.Machine.TheVariants as machines
@@ -36,7 +36,7 @@ open-of (openers.Put a) m is = absurd (put a m is)
     put a b e = cc
 
 -- as its walk ends, the shelf stays
-heard-open : (step : WalkNext) (wsize : ℕ) (walk : Walk) (o : OpenFile) (turn : Turn) (heard : Shelf) (next : Next) (new : PathMachine) (after : Shelf)
+heard-open : (step : WalkStep) (wsize : ℕ) (walk : Walk) (o : OpenFile) (turn : Turn) (heard : Shelf) (next : Step) (new : PathMachine) (after : Shelf)
     → paths.Follows step wsize (record { walk = walk; opener = openers.Open o; arrived = false }) turn heard next new after → after ≡ heard
 heard-open (walks.Send call) wsize walk o turn heard next new after f = f.2
 heard-open walks.Wait wsize walk o turn heard next new after f = f.2
@@ -55,12 +55,12 @@ module _ (most : ℕ) (top : List ℕ) (h : List Entry) (x : ℕ) (path : List (
     pub on_way : arrived ≡ false → WalkAt most top h x (front_of path) walk
     pub there : arrived ≡ true → OpeningAt most top h x path opener.opening
 
-  abbrev pub Step : Next → Machine → Type 0
-  Step next new = ThenOf OpenRuns (OpenAnswer most top h x path) next new
+  abbrev pub StepIs : Step → Machine → Type 0
+  StepIs next new = ThenOf OpenRuns (OpenAnswer most top h x path) next new
 
   -- what the opening comes to
-  path-then : (next : Next) (n : OpenFile) (walk : Walk) (new : Machine) → x < length h → new ≡ machines.Path (record { walk = walk; opener = openers.Open n; arrived = true })
-      → ThenOf (λ (k : OpenFile). OpeningAt most top h x path k.opening) (OpenAnswer most top h x path) next n → Step next new
+  path-then : (next : Step) (n : OpenFile) (walk : Walk) (new : Machine) → x < length h → new ≡ machines.Path (record { walk = walk; opener = openers.Open n; arrived = true })
+      → ThenOf (λ (k : OpenFile). OpeningAt most top h x path k.opening) (OpenAnswer most top h x path) next n → StepIs next new
   path-then next n walk new within is t = by next t
     where
       runs : OpeningAt most top h x path n.opening → OpenRuns new
@@ -75,14 +75,14 @@ module _ (most : ℕ) (top : List ℕ) (h : List Entry) (x : ℕ) (path : List (
         there = λ yes_is. s;
       }
 
-      by : (k : Next) → ThenOf (λ (k : OpenFile). OpeningAt most top h x path k.opening) (OpenAnswer most top h x path) k n → Step k new
+      by : (k : Step) → ThenOf (λ (k : OpenFile). OpeningAt most top h x path k.opening) (OpenAnswer most top h x path) k n → StepIs k new
       by (nexts.Send call) s = runs s
       by nexts.Wait s = runs s
       by (nexts.Done answer) s = s
 
-  then-open : (wsize : ℕ) (walk : Walk) (o : OpenFile) (turn : Turn) (old : Shelf) (next : Next) (new : PathMachine) (after : Shelf) → x < length h
+  then-open : (wsize : ℕ) (walk : Walk) (o : OpenFile) (turn : Turn) (old : Shelf) (next : Step) (new : PathMachine) (after : Shelf) → x < length h
       → OpeningAt most top h x path o.opening → paths.ThenResumes wsize (record { walk = walk; opener = openers.Open o; arrived = true }) turn old next new after
-      → Step next (machines.Path new)
+      → StepIs next (machines.Path new)
   then-open wsize walk o turn old next new after within s t =
       let opener : t.opener ≡ openers.Open (opens.gone o turn) = open-of t.opener (opens.gone o turn) t.step.machine_is in
       path-then next (opens.gone o turn) walk (machines.Path new) within
@@ -102,9 +102,9 @@ module _ (most : ℕ) (top : List ℕ) (h : List Entry) (x : ℕ) (path : List (
       by modes.RW = tt
       by modes.C = tt
 
-  follows-open : (step : WalkNext) (wsize : ℕ) (walk : Walk) (o : OpenFile) (turn : Turn) (old : Shelf) (next : Next) (new : PathMachine) (after : Shelf) → x < length h
-      → o.opening.name ≡ last_of path → WalkAt most top h x (front_of path) walk → WalkStep step walk
-      → paths.Follows step wsize (record { walk = walk; opener = openers.Open o; arrived = false }) turn old next new after → Step next (machines.Path new)
+  follows-open : (step : WalkStep) (wsize : ℕ) (walk : Walk) (o : OpenFile) (turn : Turn) (old : Shelf) (next : Step) (new : PathMachine) (after : Shelf) → x < length h
+      → o.opening.name ≡ last_of path → WalkAt most top h x (front_of path) walk → WalkMoves step walk
+      → paths.Follows step wsize (record { walk = walk; opener = openers.Open o; arrived = false }) turn old next new after → StepIs next (machines.Path new)
   follows-open step wsize walk o turn old next new after within name_is l s f = by step s f
     where
       runs : new ≡ record { walk = walk; opener = openers.Open o; arrived = false } → OpenRuns (machines.Path new)
@@ -119,7 +119,7 @@ module _ (most : ℕ) (top : List ℕ) (h : List Entry) (x : ℕ) (path : List (
         there = λ no_way. absurd (cc);
       }
 
-      by : (w : WalkNext) → WalkStep w walk → paths.Follows w wsize (record { walk = walk; opener = openers.Open o; arrived = false }) turn old next new after → Step next (machines.Path new)
+      by : (w : WalkStep) → WalkMoves w walk → paths.Follows w wsize (record { walk = walk; opener = openers.Open o; arrived = false }) turn old next new after → StepIs next (machines.Path new)
       by (walks.Send call) k g = then-as OpenRuns (OpenAnswer most top h x path) (nexts.Send call) next (machines.Path new) g.0 (runs g.1)
       by walks.Wait k g = then-as OpenRuns (OpenAnswer most top h x path) nexts.Wait next (machines.Path new) g.0 (runs g.1)
       by (walks.At dir) k g = then-open wsize walk (record o { opening = record { dir = dir; name = o.opening.name; mode = o.opening.mode; nocto = o.opening.nocto; moment = o.opening.moment; step = opening.first_step o.opening.mode; asked = false; put_off = 0 } })
@@ -127,19 +127,19 @@ module _ (most : ℕ) (top : List ℕ) (h : List Entry) (x : ℕ) (path : List (
           (first-at dir o.opening name_is (subst (λ (d : List ℕ). LedBy h most x top (front_of path) d) (sym k.0) (end-led most top h x within (front_of path) walk l k.1))) g
       by (walks.Refused fault) k g = then-as OpenRuns (OpenAnswer most top h x path) (nexts.Done (answers.Refused fault)) next (machines.Path new) g.0 tt
 
-  pub open-resumes : (b : Bool) (wsize : ℕ) (walk : Walk) (o : OpenFile) (turn : Turn) (old : Shelf) (next : Next) (new : PathMachine) (after : Shelf) → x < length h
+  pub open-resumes : (b : Bool) (wsize : ℕ) (walk : Walk) (o : OpenFile) (turn : Turn) (old : Shelf) (next : Step) (new : PathMachine) (after : Shelf) → x < length h
       → o.opening.name ≡ last_of path → (b ≡ false → WalkAt most top h x (front_of path) walk) → (b ≡ true → OpeningAt most top h x path o.opening) → Kept most h old → IsLate h x turn.now
-      → paths.PathResumes b wsize (record { walk = walk; opener = openers.Open o; arrived = b }) turn old next new after → Step next (machines.Path new)
+      → paths.PathResumes b wsize (record { walk = walk; opener = openers.Open o; arrived = b }) turn old next new after → StepIs next (machines.Path new)
   open-resumes true wsize walk o turn old next new after within name_is l s k late r = then-open wsize walk o turn old next new after within (s refl) r
   open-resumes false wsize walk o turn old next new after within name_is l s k late r =
       follows-open (walking.go_next walk turn old) wsize (walking.go_after walk turn old) o turn (walking.go_shelf walk turn old) next new after within name_is
       (go-led most top h x within (front_of path) walk turn old k.0 late k.1 (l refl)) (go-step walk turn old) r
 
-  pub open-takes : (b : Bool) (wsize : ℕ) (walk : Walk) (o : OpenFile) (sent turn : Turn) (came : Result Reply Fault) (old : Shelf) (next : Next) (new : PathMachine) (after : Shelf) (call : Call)
+  pub open-takes : (b : Bool) (wsize : ℕ) (walk : Walk) (o : OpenFile) (sent turn : Turn) (came : Result Reply Fault) (old : Shelf) (next : Step) (new : PathMachine) (after : Shelf) (call : Call)
       → x < length h → o.opening.name ≡ last_of path → (b ≡ false → WalkAt most top h x (front_of path) walk) → (b ≡ true → OpeningAt most top h x path o.opening)
       → Kept most h old → Kept most h after → IsLate h x turn.now → PathOr b (record { walk = walk; opener = openers.Open o; arrived = b }) call
       → ((reply : Reply) → came ≡ Ok reply → ToldSince h x call sent.now reply) → IsHeard most top h x path came call
-      → paths.PathTakes b wsize (record { walk = walk; opener = openers.Open o; arrived = b }) sent turn came old next new after → Step next (machines.Path new)
+      → paths.PathTakes b wsize (record { walk = walk; opener = openers.Open o; arrived = b }) sent turn came old next new after → StepIs next (machines.Path new)
   open-takes true wsize walk o sent turn came old next new after call within name_is l s before kept late e since told k =
       let again = opening.opening_again o.opening sent turn came old.repeats in
       let led = opening.led_on o.opening turn.now came after.attrs old.pages in
@@ -190,23 +190,23 @@ module _ (m : Mounted) (most : ℕ) where
   abbrev pub OpensOver : List Entry → ℕ → Op → Answer → Type 0
   OpensOver h x op answer = (slot : ℕ) (mode : Mode) (path : List (List ℕ)) → op ≡ ops.OpenFile slot mode path → OpenAnswer most m.root h x path answer
 
-  for-open : (h : List Entry) (place x : ℕ) (op : Op) (next : Next) (new : Machine) → ((slot : ℕ) (mode : Mode) (path : List (List ℕ)) → op ≡ ops.OpenFile slot mode path → Step most m.root h x path next new)
+  for-open : (h : List Entry) (place x : ℕ) (op : Op) (next : Step) (new : Machine) → ((slot : ℕ) (mode : Mode) (path : List (List ℕ)) → op ≡ ops.OpenFile slot mode path → StepIs most m.root h x path next new)
       → ThenOf (OpensRun h place x op) (OpensOver h x op) next new
   for-open h place x op (nexts.Send call) new t = t
   for-open h place x op nexts.Wait new t = t
   for-open h place x op (nexts.Done answer) new t = t
 
-  from-open : (h : List Entry) (others place x : ℕ) (op : Op) (next : Next) (new : Machine)
-      → ((slot : ℕ) (mode : Mode) (path : List (List ℕ)) → op ≡ ops.OpenFile slot mode path → Step most m.root h x path next new)
+  from-open : (h : List Entry) (others place x : ℕ) (op : Op) (next : Step) (new : Machine)
+      → ((slot : ℕ) (mode : Mode) (path : List (List ℕ)) → op ≡ ops.OpenFile slot mode path → StepIs most m.root h x path next new)
       → ThenOf (λ k. FromPlace h others place (λ n. OpensRun h n x op k)) (OpensOver h x op) next new
   from-open h others place x op (nexts.Send call) new t = record { place = 0; within = omega arith; fits = inl (omega arith); holds = t }
   from-open h others place x op nexts.Wait new t = record { place = 0; within = omega arith; fits = inl (omega arith); holds = t }
   from-open h others place x op (nexts.Done answer) new t = t
 
-  step-as : (h : List Entry) (x : ℕ) (path : List (List ℕ)) (next : Next) (to new : Machine) → new ≡ to → Step most m.root h x path next to → Step most m.root h x path next new
-  step-as h x path next to new is t = subst (λ (k : Machine). Step most m.root h x path next k) (sym is) t
+  step-as : (h : List Entry) (x : ℕ) (path : List (List ℕ)) (next : Step) (to new : Machine) → new ≡ to → StepIs most m.root h x path next to → StepIs most m.root h x path next new
+  step-as h x path next to new is t = subst (λ (k : Machine). StepIs most m.root h x path next k) (sym is) t
 
-  starts-if : (b : Bool) (h : List Entry) (x lane slot : ℕ) (mode : Mode) (path : List (List ℕ)) (wsize : ℕ) (turn : Turn) (old : Shelf) (next : Next) (new : PathMachine) (after : Shelf)
+  starts-if : (b : Bool) (h : List Entry) (x lane slot : ℕ) (mode : Mode) (path : List (List ℕ)) (wsize : ℕ) (turn : Turn) (old : Shelf) (next : Step) (new : PathMachine) (after : Shelf)
       → x < length h → Kept most h old → IsLate h x turn.now
       → paths.StartsIf b wsize (record {
         walk = walk_of m.root (front_of path);
@@ -216,7 +216,7 @@ module _ (m : Mounted) (most : ℕ) where
           opening = record { dir = m.root; name = last_of path; mode = mode; nocto = m.nocto; moment = 0; step = opening.first_step mode; asked = false; put_off = 0 };
         });
         arrived = false;
-      }) turn old next new after → Step most m.root h x path next (machines.Path new)
+      }) turn old next new after → StepIs most m.root h x path next (machines.Path new)
   starts-if true h x lane slot mode path wsize turn old next new after within k late s =
       then-as (OpenRuns most m.root h x path) (OpenAnswer most m.root h x path) (nexts.Done (answers.Refused faults.Slot)) next (machines.Path new) s.0 tt
   starts-if false h x lane slot mode path wsize turn old next new after within k late s =

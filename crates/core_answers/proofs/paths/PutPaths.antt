@@ -1,12 +1,12 @@
 -- A put's walk leads to its directory by recent names, and there it finds its file.
-use Rattle.core_answers.proofs.Prelude.{◌≡◌, ◌<◌, ◌≤◌, ◌+◌, ◌-◌, inl, ℕ, Bool, true, false, List, [], ◌∷◌, ◌++◌, length, Result, Ok, refl, sym, ap, subst, ◌∙◌, arith, Answer, Fault, Entry, Began, Call, Reply, Op, IsDelivered, length_last, Next, Shelf, Turn, OpenFile, Opening, PutFile, Putting, Walk, WalkNext, walk_of, Mounted, Machine, Opener, PathMachine, front_of, last_of, machine_of, file_of, Starts, Resumes, Takes, in_flight, PathOr, Awaits, of_path, WalkStep, go-step, took-step, then-as, ThenOf, time_next}
+use Rattle.core_answers.proofs.Prelude.{◌≡◌, ◌<◌, ◌≤◌, ◌+◌, ◌-◌, inl, ℕ, Bool, true, false, List, [], ◌∷◌, ◌++◌, length, Result, Ok, refl, sym, ap, subst, ◌∙◌, arith, Answer, Fault, Entry, Began, Call, Reply, Op, IsDelivered, length_last, Step, Shelf, Turn, OpenFile, Opening, PutFile, Putting, Walk, WalkStep, walk_of, Mounted, Machine, Opener, PathMachine, front_of, last_of, machine_of, file_of, Starts, Resumes, Takes, in_flight, PathOr, Awaits, of_path, WalkMoves, go-step, took-step, then-as, ThenOf, time_next}
 use Rattle.op_machines.specs.Openers.{opening_in}
 use Rattle.world_model.specs.declared.answer.Answer.TheVariants as answers
 use Rattle.world_model.specs.declared.op.Op.TheVariants as ops
-use Rattle.client_shelf.specs.declared.next.Next.TheVariants as nexts
+use Rattle.client_shelf.specs.declared.step.Step.TheVariants as nexts
 use Rattle.file_ops.specs.declared.put_file.Putting.TheVariants as putting
 use Rattle.file_ops.specs.PutFile.{not_begun}
-use Rattle.name_ops.specs.declared.walk.WalkNext.TheVariants as walks
+use Rattle.name_ops.specs.declared.walk.WalkStep.TheVariants as walks
 use Rattle.name_ops.specs.Walking as walking
 use Rattle.op_machines.specs.declared.file_machine.FileMachine.TheVariants as files
 use Rattle.op_machines.specs.declared.machine.Machine.TheVariants as machines
@@ -39,7 +39,7 @@ put-of (openers.Open a) m is = absurd (other a m is)
     other a b e = cc
 
 -- as its walk ends, the shelf stays
-heard-put : (step : WalkNext) (wsize : ℕ) (walk : Walk) (p : PutFile) (turn : Turn) (heard : Shelf) (next : Next) (new : PathMachine) (after : Shelf)
+heard-put : (step : WalkStep) (wsize : ℕ) (walk : Walk) (p : PutFile) (turn : Turn) (heard : Shelf) (next : Step) (new : PathMachine) (after : Shelf)
     → paths.Follows step wsize (record { walk = walk; opener = openers.Put p; arrived = false }) turn heard next new after → after ≡ heard
 heard-put (walks.Send call) wsize walk p turn heard next new after f = f.2
 heard-put walks.Wait wsize walk p turn heard next new after f = f.2
@@ -61,61 +61,61 @@ module _ (most : ℕ) (top : List ℕ) (h : List Entry) (x : ℕ) (path : List (
     pub on_way : arrived ≡ false → WalkAt most top h x (front_of path) walk × (put.opening.name ≡ last_of path)
     pub there : arrived ≡ true → PutAt most top h x path put.state put.opening
 
-  abbrev pub Step : Next → Machine → Type 0
-  Step next new = ThenOf PutRuns (PutAnswer most top h x path) next new
+  abbrev pub StepIs : Step → Machine → Type 0
+  StepIs next new = ThenOf PutRuns (PutAnswer most top h x path) next new
 
   -- what the put comes to
-  path-then : (next : Next) (q : PutFile) (walk : Walk) (new : Machine) → x < length h → new ≡ machines.Path (record { walk = walk; opener = openers.Put q; arrived = true })
-      → PutThen most top h x path next q → Step next new
+  path-then : (next : Step) (q : PutFile) (walk : Walk) (new : Machine) → x < length h → new ≡ machines.Path (record { walk = walk; opener = openers.Put q; arrived = true })
+      → PutThen most top h x path next q → StepIs next new
   path-then next q walk new within is t = by next t
     where
       runs : PutAt most top h x path q.state q.opening → PutRuns new
       runs s = record { within = within; walk = walk; put = q; arrived = true; is = is; on_way = λ no_way. absurd (cc); there = λ yes_is. s }
 
-      by : (k : Next) → PutThen most top h x path k q → Step k new
+      by : (k : Step) → PutThen most top h x path k q → StepIs k new
       by (nexts.Send call) s = runs s
       by nexts.Wait s = runs s
       by (nexts.Done answer) s = s
 
-  then-put : (wsize : ℕ) (walk : Walk) (p : PutFile) (turn : Turn) (old : Shelf) (next : Next) (new : PathMachine) (after : Shelf) → x < length h
+  then-put : (wsize : ℕ) (walk : Walk) (p : PutFile) (turn : Turn) (old : Shelf) (next : Step) (new : PathMachine) (after : Shelf) → x < length h
       → PutAt most top h x path p.state p.opening → paths.ThenResumes wsize (record { walk = walk; opener = openers.Put p; arrived = true }) turn old next new after
-      → Step next (machines.Path new)
+      → StepIs next (machines.Path new)
   then-put wsize walk p turn old next new after within s t =
       let opener : t.opener ≡ openers.Put t.step.machine = put-of t.opener t.step.machine t.step.machine_is in
       path-then next t.step.machine walk (machines.Path new) within
       (ap machines.Path (t.machine_is ∙ ap (λ (k : Opener). record { walk = walk; opener = k; arrived = true }) opener))
       (put-resumes most top h x path p.state wsize p turn old next t.step.machine after refl s t.step.step)
 
-  follows-put : (step : WalkNext) (wsize : ℕ) (walk : Walk) (p : PutFile) (turn : Turn) (old : Shelf) (next : Next) (new : PathMachine) (after : Shelf) → x < length h
-      → p.opening.name ≡ last_of path → WalkAt most top h x (front_of path) walk → WalkStep step walk
-      → paths.Follows step wsize (record { walk = walk; opener = openers.Put p; arrived = false }) turn old next new after → Step next (machines.Path new)
+  follows-put : (step : WalkStep) (wsize : ℕ) (walk : Walk) (p : PutFile) (turn : Turn) (old : Shelf) (next : Step) (new : PathMachine) (after : Shelf) → x < length h
+      → p.opening.name ≡ last_of path → WalkAt most top h x (front_of path) walk → WalkMoves step walk
+      → paths.Follows step wsize (record { walk = walk; opener = openers.Put p; arrived = false }) turn old next new after → StepIs next (machines.Path new)
   follows-put step wsize walk p turn old next new after within name_is l s f = by step s f
     where
       runs : new ≡ record { walk = walk; opener = openers.Put p; arrived = false } → PutRuns (machines.Path new)
       runs is = record { within = within; walk = walk; put = p; arrived = false; is = ap machines.Path is; on_way = λ yes_is. (l, name_is); there = λ no_way. absurd (cc) }
 
-      by : (w : WalkNext) → WalkStep w walk → paths.Follows w wsize (record { walk = walk; opener = openers.Put p; arrived = false }) turn old next new after → Step next (machines.Path new)
+      by : (w : WalkStep) → WalkMoves w walk → paths.Follows w wsize (record { walk = walk; opener = openers.Put p; arrived = false }) turn old next new after → StepIs next (machines.Path new)
       by (walks.Send call) k g = then-as PutRuns (PutAnswer most top h x path) (nexts.Send call) next (machines.Path new) g.0 (runs g.1)
       by walks.Wait k g = then-as PutRuns (PutAnswer most top h x path) nexts.Wait next (machines.Path new) g.0 (runs g.1)
       by (walks.At dir) k g = then-put wsize walk (in_dir dir p) turn old next new after within
           (first-at most top h x path dir p.opening name_is (subst (λ (d : List ℕ). LedBy h most x top (front_of path) d) (sym k.0) (end-led most top h x within (front_of path) walk l k.1))) g
       by (walks.Refused fault) k g = then-as PutRuns (PutAnswer most top h x path) (nexts.Done (answers.Refused fault)) next (machines.Path new) g.0 tt
 
-  pub path-resumes : (b : Bool) (wsize : ℕ) (walk : Walk) (p : PutFile) (turn : Turn) (old : Shelf) (next : Next) (new : PathMachine) (after : Shelf) → x < length h
+  pub path-resumes : (b : Bool) (wsize : ℕ) (walk : Walk) (p : PutFile) (turn : Turn) (old : Shelf) (next : Step) (new : PathMachine) (after : Shelf) → x < length h
       → (b ≡ false → WalkAt most top h x (front_of path) walk × (p.opening.name ≡ last_of path)) → (b ≡ true → PutAt most top h x path p.state p.opening) → Kept most h old → IsLate h x turn.now
-      → paths.PathResumes b wsize (record { walk = walk; opener = openers.Put p; arrived = b }) turn old next new after → Step next (machines.Path new)
+      → paths.PathResumes b wsize (record { walk = walk; opener = openers.Put p; arrived = b }) turn old next new after → StepIs next (machines.Path new)
   path-resumes true wsize walk p turn old next new after within l s k late r = then-put wsize walk p turn old next new after within (s refl) r
   path-resumes false wsize walk p turn old next new after within l s k late r =
       follows-put (walking.go_next walk turn old) wsize (walking.go_after walk turn old) p turn (walking.go_shelf walk turn old) next new after within (l refl).1
       (go-led most top h x within (front_of path) walk turn old k.0 late k.1 (l refl).0) (go-step walk turn old) r
 
-  pub path-takes : (b : Bool) (wsize : ℕ) (walk : Walk) (p : PutFile) (sent turn : Turn) (came : Result Reply Fault) (old : Shelf) (next : Next) (new : PathMachine) (after : Shelf) (call : Call)
+  pub path-takes : (b : Bool) (wsize : ℕ) (walk : Walk) (p : PutFile) (sent turn : Turn) (came : Result Reply Fault) (old : Shelf) (next : Step) (new : PathMachine) (after : Shelf) (call : Call)
       (others : ℕ) → x < length h → of_path (record { walk = walk; opener = openers.Put p; arrived = b }) ≡ others + 1
       → (b ≡ false → WalkAt most top h x (front_of path) walk × (p.opening.name ≡ last_of path)) → (b ≡ true → PutAt most top h x path p.state p.opening)
       → Kept most h old → Kept most h after → IsLate h x turn.now → PathOn b (record { walk = walk; opener = openers.Put p; arrived = b }) call
       → PathOr b (record { walk = walk; opener = openers.Put p; arrived = b }) call → ((reply : Reply) → came ≡ Ok reply → ToldSince h x call sent.now reply)
       → IsHeard most top h x path came call → paths.PathTakes b wsize (record { walk = walk; opener = openers.Put p; arrived = b }) sent turn came old next new after
-      → Step next (machines.Path new)
+      → StepIs next (machines.Path new)
   path-takes true wsize walk p sent turn came old next new after call others within one l s before kept late on e since told k =
       let opener : k.opener ≡ openers.Put k.step.machine = put-of k.opener k.step.machine k.step.machine_is in
       path-then next k.step.machine walk (machines.Path new) within
@@ -167,22 +167,22 @@ module _ (m : Mounted) (most : ℕ) where
   abbrev pub PutsOver : List Entry → ℕ → Op → Answer → Type 0
   PutsOver h x op answer = (path : List (List ℕ)) (offset : ℕ) (bytes : List ℕ) → op ≡ ops.Put path offset bytes → PutAnswer most m.root h x path answer
 
-  for-put : (h : List Entry) (place x : ℕ) (op : Op) (next : Next) (new : Machine)
-      → ((path : List (List ℕ)) (offset : ℕ) (bytes : List ℕ) → op ≡ ops.Put path offset bytes → Step most m.root h x path next new)
+  for-put : (h : List Entry) (place x : ℕ) (op : Op) (next : Step) (new : Machine)
+      → ((path : List (List ℕ)) (offset : ℕ) (bytes : List ℕ) → op ≡ ops.Put path offset bytes → StepIs most m.root h x path next new)
       → ThenOf (PutsRun h place x op) (PutsOver h x op) next new
   for-put h place x op (nexts.Send call) new t = t
   for-put h place x op nexts.Wait new t = t
   for-put h place x op (nexts.Done answer) new t = t
 
-  from-put : (h : List Entry) (others place x : ℕ) (op : Op) (next : Next) (new : Machine)
-      → ((path : List (List ℕ)) (offset : ℕ) (bytes : List ℕ) → op ≡ ops.Put path offset bytes → Step most m.root h x path next new)
+  from-put : (h : List Entry) (others place x : ℕ) (op : Op) (next : Step) (new : Machine)
+      → ((path : List (List ℕ)) (offset : ℕ) (bytes : List ℕ) → op ≡ ops.Put path offset bytes → StepIs most m.root h x path next new)
       → ThenOf (λ k. FromPlace h others place (λ n. PutsRun h n x op k)) (PutsOver h x op) next new
   from-put h others place x op (nexts.Send call) new t = record { place = 0; within = omega arith; fits = inl (omega arith); holds = t }
   from-put h others place x op nexts.Wait new t = record { place = 0; within = omega arith; fits = inl (omega arith); holds = t }
   from-put h others place x op (nexts.Done answer) new t = t
 
-  step-as : (h : List Entry) (x : ℕ) (path : List (List ℕ)) (next : Next) (to new : Machine) → new ≡ to → Step most m.root h x path next to → Step most m.root h x path next new
-  step-as h x path next to new is t = subst (λ (k : Machine). Step most m.root h x path next k) (sym is) t
+  step-as : (h : List Entry) (x : ℕ) (path : List (List ℕ)) (next : Step) (to new : Machine) → new ≡ to → StepIs most m.root h x path next to → StepIs most m.root h x path next new
+  step-as h x path next to new is t = subst (λ (k : Machine). StepIs most m.root h x path next k) (sym is) t
 
   pub put-laws : FollowLaws (machine_of m) Both (Kept most) PutsRun PutsOver
   put-laws = record {

@@ -1,12 +1,12 @@
 -- Attributes and names together, and where a walk's path leads on an honest server.
-use Rattle.core_answers.proofs.Prelude.{◌≡◌, ◌<◌, ◌≤◌, ℕ, suc, List, ◌++◌, length, Some, sym, ap, subst, arith, Attr, stamp_of, Lookup, Answer, Entry, Executed, Call, Reply, Op, Fresh, History, Lawful, Modes, Rooted, Ended, At-below, Next, Machine, KnowsRoot, Awaits, AskedOf, Numbered, IsRecent, own, ShownRecently, IsAnswered}
+use Rattle.core_answers.proofs.Prelude.{◌≡◌, ◌<◌, ◌≤◌, ℕ, suc, List, ◌++◌, length, Some, sym, ap, subst, arith, Attr, stamp_of, Lookup, Answer, Entry, Executed, Call, Reply, Op, Fresh, History, Lawful, Modes, Rooted, Ended, At-below, Step, Machine, KnowsRoot, Awaits, AskedOf, Numbered, IsRecent, own, ShownRecently, IsAnswered}
 use Rattle.world_model.specs.Mounts.{Origin}
 use Rattle.world_model.specs.declared.entry.Entry.TheVariants.{Answered as AnsweredNow}
 use Rattle.world_model.specs.declared.message.Reply.TheVariants as replies
 use Rattle.claims.specs.Recent as walks
 use Rattle.claims.specs.Recent.{Recent, Walked}
 use Rattle.world_model.proofs.Doing.{lookup_done}
-use Rattle.client_shelf.specs.declared.next.Next.TheVariants as nexts
+use Rattle.client_shelf.specs.declared.step.Step.TheVariants as nexts
 use Rattle.name_ops.specs.Looking.{look_up}
 use Rattle.law_names.specs.Kept.{IsLookedUp}
 use Rattle.model_walks.proofs.NamesStand.{stands_at}
@@ -27,12 +27,12 @@ use Rattle.core_answers.proofs.bonds.Walked.{StepBy, looked, believed_so, LedBy,
 
 -- ---- attributes and names together
 
-both-asked : (next : Next) (new : Machine) → AskedOf Asks next new → AskedOf Awaits next new → AskedOf Both next new
+both-asked : (next : Step) (new : Machine) → AskedOf Asks next new → AskedOf Awaits next new → AskedOf Both next new
 both-asked (nexts.Send call) new a b = (a, b)
 both-asked nexts.Wait new a b = tt
 both-asked (nexts.Done answer) new a b = tt
 
-both-asking : (others : ℕ) (m : Machine) (next : Next) (new : Machine) → Asking Asks (Asks m) others next new → Asking Awaits (Awaits m) others next new → Asking Both (Both m) others next new
+both-asking : (others : ℕ) (m : Machine) (next : Step) (new : Machine) → Asking Asks (Asks m) others next new → Asking Awaits (Awaits m) others next new → Asking Both (Both m) others next new
 both-asking others m (nexts.Send call) new a b = record { asked = (a.asked, b.asked); kept = λ some c on. (a.kept some c on.0, b.kept some c on.1) }
 both-asking others m nexts.Wait new a b = record { asked = tt; kept = λ some c on. (a.kept some c on.0, b.kept some c on.1) }
 both-asking others m (nexts.Done answer) new a b = record { asked = tt; kept = tt }

@@ -1,8 +1,8 @@
 -- A walk that leads by recent names, and a call at its end.
-use Rattle.core_answers.proofs.Prelude.{◌≡◌, ◌<◌, ℕ, Bool, true, false, List, [], ◌∷◌, ◌++◌, length, None, Result, Ok, refl, sym, ap, subst, ◌∙◌, if◌then◌else◌, Answer, Fault, Entry, Call, Reply, Next, Shelf, Turn, Visit, VisitNext, WalkNext, WalkAwaits, WalkStep, go-step, took-step, then-as, ThenOf}
+use Rattle.core_answers.proofs.Prelude.{◌≡◌, ◌<◌, ℕ, Bool, true, false, List, [], ◌∷◌, ◌++◌, length, None, Result, Ok, refl, sym, ap, subst, ◌∙◌, if◌then◌else◌, Answer, Fault, Entry, Call, Reply, Step, Shelf, Turn, Visit, VisitStep, WalkStep, WalkAwaits, WalkMoves, go-step, took-step, then-as, ThenOf}
 use Rattle.world_model.specs.declared.answer.Answer.TheVariants as answers
-use Rattle.name_ops.specs.declared.visit.VisitNext.TheVariants as visits
-use Rattle.name_ops.specs.declared.walk.WalkNext.TheVariants as walks
+use Rattle.name_ops.specs.declared.visit.VisitStep.TheVariants as visits
+use Rattle.name_ops.specs.declared.walk.WalkStep.TheVariants as walks
 use Rattle.name_ops.specs.Visiting as visiting
 use Rattle.name_ops.specs.Walking as walking
 use Rattle.core_answers.proofs.engine.Told.{ToldSince, IsLate}
@@ -24,7 +24,7 @@ module _ (most : ℕ) (top : List ℕ) (h : List Entry) (x : ℕ) (within : x < 
   on-way : (path : List (List ℕ)) (v : Visit) → WalkAt most top h x path v.walk → v.asked ≡ false → VisitAt path v
   on-way path v l idle = record { walk = l; done = λ is. absurd (let no_way : true ≡ false = sym is ∙ idle in cc) }
 
-  follow-at : (path : List (List ℕ)) (step : WalkNext) (room : Bool) (v : Visit) → v.asked ≡ false → WalkAt most top h x path v.walk → WalkStep step v.walk
+  follow-at : (path : List (List ℕ)) (step : WalkStep) (room : Bool) (v : Visit) → v.asked ≡ false → WalkAt most top h x path v.walk → WalkMoves step v.walk
       → VisitAt path (visiting.follow_after step room v)
   follow-at path (walks.Send call) room v idle l s = on-way path v l idle
   follow-at path walks.Wait room v idle l s = on-way path v l idle
@@ -41,7 +41,7 @@ module _ (most : ℕ) (top : List ℕ) (h : List Entry) (x : ℕ) (within : x < 
       by false is = follow-at path (walking.go_next v.walk turn shelf) turn.room (record v { walk = walking.go_after v.walk turn shelf }) is
           (go-led most top h x within path v.walk turn shelf k.0 late k.1 s.walk) (go-step v.walk turn shelf)
 
-  visit-takes : (path : List (List ℕ)) (v : Visit) (sent turn : Turn) (came : Result Reply Fault) (old : Shelf) (next : VisitNext) (new : Visit) (after : Shelf) (call : Call) → v.asked ≡ false
+  visit-takes : (path : List (List ℕ)) (v : Visit) (sent turn : Turn) (came : Result Reply Fault) (old : Shelf) (next : VisitStep) (new : Visit) (after : Shelf) (call : Call) → v.asked ≡ false
       → Kept most h old → Kept most h after → IsLate h x turn.now → VisitAt path v → WalkAwaits v.walk call → ((reply : Reply) → came ≡ Ok reply → ToldSince h x call sent.now reply)
       → visiting.VisitTakes v sent turn came old next new after → VisitAt path new
   visit-takes path v sent turn came old next new after call idle before kept late s e heard k =
@@ -50,21 +50,21 @@ module _ (most : ℕ) (top : List ℕ) (h : List Entry) (x : ℕ) (within : x < 
       (took-led most top h x within path v.walk sent turn came old k.step k.walked.walk after call kept.0 late before.1 s.walk e heard k.takes)
       (took-step v.walk sent turn came old k.step k.walked.walk after k.takes))
 
-  visit-by : (path : List (List ℕ)) (A : Answer → Type 0) (own : List ℕ → Call) (step : VisitNext) (new : Visit) → ((fault : Fault) → A (answers.Refused fault)) → VisitAt path new
+  visit-by : (path : List (List ℕ)) (A : Answer → Type 0) (own : List ℕ → Call) (step : VisitStep) (new : Visit) → ((fault : Fault) → A (answers.Refused fault)) → VisitAt path new
       → ThenOf (VisitAt path) A (visiting.next_by own step) new
   visit-by path A own (visits.Look look) new refused s = s
   visit-by path A own visits.Wait new refused s = s
   visit-by path A own (visits.Ask object) new refused s = s
   visit-by path A own (visits.Refused fault) new refused s = refused fault
 
-  pub visit-then : (path : List (List ℕ)) (A : Answer → Type 0) (own : List ℕ → Call) (v : Visit) (turn : Turn) (shelf : Shelf) (next : Next) → ((fault : Fault) → A (answers.Refused fault))
+  pub visit-then : (path : List (List ℕ)) (A : Answer → Type 0) (own : List ℕ → Call) (v : Visit) (turn : Turn) (shelf : Shelf) (next : Step) → ((fault : Fault) → A (answers.Refused fault))
       → Kept most h shelf → IsLate h x turn.now → VisitAt path v → next ≡ visiting.next_by own (visiting.visit_next v turn shelf)
       → ThenOf (VisitAt path) A next (visiting.visit_after v turn shelf)
   visit-then path A own v turn shelf next refused k late s is =
       then-as (VisitAt path) A _ next (visiting.visit_after v turn shelf) is
       (visit-by path A own (visiting.visit_next v turn shelf) (visiting.visit_after v turn shelf) refused (visit-goes path v turn shelf k late s))
 
-  pub walks-then : (path : List (List ℕ)) (A : Answer → Type 0) (own : List ℕ → Call) (v : Visit) (sent turn : Turn) (came : Result Reply Fault) (old : Shelf) (next : Next) (new : Visit)
+  pub walks-then : (path : List (List ℕ)) (A : Answer → Type 0) (own : List ℕ → Call) (v : Visit) (sent turn : Turn) (came : Result Reply Fault) (old : Shelf) (next : Step) (new : Visit)
       (after : Shelf) (call : Call) → ((fault : Fault) → A (answers.Refused fault)) → v.asked ≡ false → Kept most h old → Kept most h after → IsLate h x turn.now → VisitAt path v
       → WalkAwaits v.walk call → ((reply : Reply) → came ≡ Ok reply → ToldSince h x call sent.now reply) → visiting.Walks own v sent turn came old next new after → ThenOf (VisitAt path) A next new
   walks-then path A own v sent turn came old next new after call refused idle before kept late s e heard w =

@@ -1,10 +1,10 @@
 -- Which faults a step of an operation gives: want of memory, those of its slot, those that it keeps, and what it makes of what came of its call.
-use Rattle.core_answers.proofs.Prelude.{◌≡◌, ◌-◌, ℕ, Bool, true, false, List, Option, Some, None, Result, refl, sym, subst, Mode, Opened, Fault, Reply, Op, Pending, Next, Shelf, Turn, WalkNext, Closing, Putting, Syncing, Writing, file_to_write, file_at, Mounted, FileMachine, Machine, Opener, PathMachine, machine_of, file_of, slot_taken, begun_at, placed, Starts, Resumes, Takes, FineOption, FineNext, fine-as}
+use Rattle.core_answers.proofs.Prelude.{◌≡◌, ◌-◌, ℕ, Bool, true, false, List, Option, Some, None, Result, refl, sym, subst, Mode, Opened, Fault, Reply, Op, Pending, Step, Shelf, Turn, WalkStep, Closing, Putting, Syncing, Writing, file_to_write, file_at, Mounted, FileMachine, Machine, Opener, PathMachine, machine_of, file_of, slot_taken, begun_at, placed, Starts, Resumes, Takes, FineOption, FineNext, fine-as}
 use Rattle.std.specs.FinMap as finite
 use Rattle.nfs_types.specs.declared.mode.Mode.TheVariants as modes
 use Rattle.world_model.specs.declared.answer.Fault.TheVariants as faults
 use Rattle.world_model.specs.declared.op.Op.TheVariants as ops
-use Rattle.name_ops.specs.declared.walk.WalkNext.TheVariants as walks
+use Rattle.name_ops.specs.declared.walk.WalkStep.TheVariants as walks
 use Rattle.name_ops.specs.Walking as walking
 use Rattle.file_ops.specs.declared.close_file.Closing.TheVariants as closing
 use Rattle.file_ops.specs.declared.put_file.Putting.TheVariants as putting
@@ -37,10 +37,10 @@ module _ (P : Fault → Type 0) (own : CallFaults P) where
   FineFile (files.Truncate m) = Unit {0}
   FineFile (files.Put m) = FinePut P own m
 
-  abbrev FileStep : Next → FileMachine → Type 0
+  abbrev FileStep : Step → FileMachine → Type 0
   FileStep next new = FineNext P next × FineFile new
 
-  file-as : (to : FileMachine) (next : Next) (new : FileMachine) → new ≡ to → FileStep next to → FileStep next new
+  file-as : (to : FileMachine) (next : Step) (new : FileMachine) → new ≡ to → FileStep next to → FileStep next new
   file-as to next new is f = (f.0, subst FineFile (sym is) f.1)
 
   -- where the slot of an operation refuses it as it begins
@@ -69,7 +69,7 @@ module _ (P : Fault → Type 0) (own : CallFaults P) where
   FileEnds (files.Truncate m) old = Unit {0}
   FileEnds (files.Put m) old = Unit {0}
 
-  file-starts : (m : FileMachine) (wsize : ℕ) (turn : Turn) (old : Shelf) (next : Next) (new : FileMachine) (after : Shelf) → FileBegins m old → FineFile m
+  file-starts : (m : FileMachine) (wsize : ℕ) (turn : Turn) (old : Shelf) (next : Step) (new : FileMachine) (after : Shelf) → FileBegins m old → FineFile m
       → steps.Starts wsize m turn old next new after → FileStep next new
   file-starts (files.Open m) wsize turn old next new after place f s = file-as (files.Open _) next new s.machine_is (open-starts P own (is_taken m old.opens) m turn next place s.next_is, tt)
   file-starts (files.Read m) wsize turn old next new after place f s =
@@ -85,7 +85,7 @@ module _ (P : Fault → Type 0) (own : CallFaults P) where
       file-as (files.Truncate _) next new s.machine_is (truncate-starts P own (found_file m old) m turn old next (of-open P own (finite.get old.opens (m.lane, m.slot)) place.0 place.1) s.next_is, tt)
   file-starts (files.Put m) wsize turn old next new after place f s = file-as (files.Put _) next new s.machine_is (put-starts P own m turn next s.next_is, (f.0, tt))
 
-  file-resumes : (m : FileMachine) (wsize : ℕ) (turn : Turn) (old : Shelf) (next : Next) (new : FileMachine) (after : Shelf) → FineFile m
+  file-resumes : (m : FileMachine) (wsize : ℕ) (turn : Turn) (old : Shelf) (next : Step) (new : FileMachine) (after : Shelf) → FineFile m
       → steps.Resumes wsize m turn old next new after → FileStep next new
   file-resumes (files.Open m) wsize turn old next new after f s =
       file-as (files.Open _) next new s.machine_is (fine-as P _ next s.next_is (opening-next P own (go_next m.opening turn) (go-opening P own m.opening turn)), tt)
@@ -111,7 +111,7 @@ module _ (P : Fault → Type 0) (own : CallFaults P) where
   FitsFile sent came (files.Truncate m) back = FitsCut P own m.state came
   FitsFile sent came (files.Put m) back = FitsPut P own sent came m.state m back
 
-  file-takes : (m : FileMachine) (wsize : ℕ) (sent turn : Turn) (came : Result Reply Fault) (old : Shelf) (next : Next) (new : FileMachine) (after : Shelf) → FileEnds m old → FitsFile sent came m old.back → FineFile m
+  file-takes : (m : FileMachine) (wsize : ℕ) (sent turn : Turn) (came : Result Reply Fault) (old : Shelf) (next : Step) (new : FileMachine) (after : Shelf) → FileEnds m old → FitsFile sent came m old.back → FineFile m
       → steps.Takes wsize m sent turn came old next new after → FileStep next new
   file-takes (files.Open m) wsize sent turn came old next new after place n f s =
       let again = opening_again m.opening sent turn came old.repeats in
@@ -138,10 +138,10 @@ module _ (P : Fault → Type 0) (own : CallFaults P) where
   abbrev FinePath : PathMachine → Type 0
   FinePath m = FineFile (file_of m.opener)
 
-  abbrev PathStep : Next → PathMachine → Type 0
+  abbrev PathStep : Step → PathMachine → Type 0
   PathStep next new = FineNext P next × FinePath new
 
-  path-as : (to : PathMachine) (next : Next) (new : PathMachine) → new ≡ to → PathStep next to → PathStep next new
+  path-as : (to : PathMachine) (next : Step) (new : PathMachine) → new ≡ to → PathStep next to → PathStep next new
   path-as to next new is f = (f.0, subst FinePath (sym is) f.1)
 
   placed-fine : (dir : List ℕ) (o : Opener) → FineFile (file_of o) → FineFile (file_of (placed dir o))
@@ -152,12 +152,12 @@ module _ (P : Fault → Type 0) (own : CallFaults P) where
   begun-fine moment (openers.Open m) f = tt
   begun-fine moment (openers.Put m) f = f
 
-  then-resumes : (wsize : ℕ) (m : PathMachine) (turn : Turn) (old : Shelf) (next : Next) (new : PathMachine) (after : Shelf) → FinePath m
+  then-resumes : (wsize : ℕ) (m : PathMachine) (turn : Turn) (old : Shelf) (next : Step) (new : PathMachine) (after : Shelf) → FinePath m
       → paths.ThenResumes wsize m turn old next new after → PathStep next new
   then-resumes wsize m turn old next new after f t =
       path-as (record m { opener = t.opener }) next new t.machine_is (file-resumes (file_of m.opener) wsize turn old next (file_of t.opener) after f t.step)
 
-  follows-path : (step : WalkNext) (wsize : ℕ) (m : PathMachine) (turn : Turn) (old : Shelf) (next : Next) (new : PathMachine) (after : Shelf) → FineWalk P own step → FinePath m
+  follows-path : (step : WalkStep) (wsize : ℕ) (m : PathMachine) (turn : Turn) (old : Shelf) (next : Step) (new : PathMachine) (after : Shelf) → FineWalk P own step → FinePath m
       → paths.Follows step wsize m turn old next new after → PathStep next new
   follows-path (walks.Send call) wsize m turn old next new after w f l = path-as m next new l.1 (fine-as P _ next l.0 tt, f)
   follows-path walks.Wait wsize m turn old next new after w f l = path-as m next new l.1 (fine-as P _ next l.0 tt, f)
@@ -165,13 +165,13 @@ module _ (P : Fault → Type 0) (own : CallFaults P) where
       then-resumes wsize (record m { opener = placed dir m.opener; arrived = true }) turn old next new after (placed-fine dir m.opener f) l
   follows-path (walks.Refused fault) wsize m turn old next new after w f l = path-as m next new l.1 (fine-as P _ next l.0 w, f)
 
-  path-resumes : (b : Bool) (wsize : ℕ) (m : PathMachine) (turn : Turn) (old : Shelf) (next : Next) (new : PathMachine) (after : Shelf) → FinePath m
+  path-resumes : (b : Bool) (wsize : ℕ) (m : PathMachine) (turn : Turn) (old : Shelf) (next : Step) (new : PathMachine) (after : Shelf) → FinePath m
       → paths.PathResumes b wsize m turn old next new after → PathStep next new
   path-resumes true wsize m turn old next new after f r = then-resumes wsize m turn old next new after f r
   path-resumes false wsize m turn old next new after f r =
       follows-path (walking.go_next m.walk turn old) wsize (record m { walk = walking.go_after m.walk turn old }) turn (walking.go_shelf m.walk turn old) next new after (go-fine P own m.walk turn old) f r
 
-  path-starts : (taken : Bool) (wsize : ℕ) (m : PathMachine) (turn : Turn) (old : Shelf) (next : Next) (new : PathMachine) (after : Shelf) → (taken ≡ true → P faults.Slot) → FinePath m
+  path-starts : (taken : Bool) (wsize : ℕ) (m : PathMachine) (turn : Turn) (old : Shelf) (next : Step) (new : PathMachine) (after : Shelf) → (taken ≡ true → P faults.Slot) → FinePath m
       → paths.StartsIf taken wsize m turn old next new after → PathStep next new
   path-starts true wsize m turn old next new after place f s = path-as m next new s.1 (fine-as P _ next s.0 (place refl), f)
   path-starts false wsize m turn old next new after place f s =
@@ -181,7 +181,7 @@ module _ (P : Fault → Type 0) (own : CallFaults P) where
   FitsPath true sent came m back = FitsFile sent came (file_of m.opener) back
   FitsPath false sent came m back = FitsWalk P own (walking.waiting_name m.walk) came
 
-  path-takes : (b : Bool) (wsize : ℕ) (m : PathMachine) (sent turn : Turn) (came : Result Reply Fault) (old : Shelf) (next : Next) (new : PathMachine) (after : Shelf) → FileEnds (file_of m.opener) old → FitsPath b sent came m old.back → FinePath m
+  path-takes : (b : Bool) (wsize : ℕ) (m : PathMachine) (sent turn : Turn) (came : Result Reply Fault) (old : Shelf) (next : Step) (new : PathMachine) (after : Shelf) → FileEnds (file_of m.opener) old → FitsPath b sent came m old.back → FinePath m
       → paths.PathTakes b wsize m sent turn came old next new after → PathStep next new
   path-takes true wsize m sent turn came old next new after place n f t =
       path-as (record m { opener = t.opener }) next new t.machine_is (file-takes (file_of m.opener) wsize sent turn came old next (file_of t.opener) after place n f t.step)
@@ -196,10 +196,10 @@ module _ (P : Fault → Type 0) (own : CallFaults P) where
   FineMachine (machines.Path m) = FinePath m
   FineMachine (machines.Name m) = Unit {0}
 
-  abbrev pub MachineStep : Next → Machine → Type 0
+  abbrev pub MachineStep : Step → Machine → Type 0
   MachineStep next new = FineNext P next × FineMachine new
 
-  all-as : (to : Machine) (next : Next) (new : Machine) → new ≡ to → MachineStep next to → MachineStep next new
+  all-as : (to : Machine) (next : Step) (new : Machine) → new ≡ to → MachineStep next to → MachineStep next new
   all-as to next new is f = (f.0, subst FineMachine (sym is) f.1)
 
   abbrev pub Begins : Machine → Shelf → Type 0
@@ -241,13 +241,13 @@ module _ (P : Fault → Type 0) (own : CallFaults P) where
   any-ends slot (machines.Path m) old = file-ends slot (file_of m.opener) old
   any-ends slot (machines.Name m) old = tt
 
-  pub all-starts : (m : Machine) (wsize : ℕ) (turn : Turn) (old : Shelf) (next : Next) (new : Machine) (after : Shelf) → Begins m old → FineMachine m → Starts wsize m turn old next new after → MachineStep next new
+  pub all-starts : (m : Machine) (wsize : ℕ) (turn : Turn) (old : Shelf) (next : Step) (new : Machine) (after : Shelf) → Begins m old → FineMachine m → Starts wsize m turn old next new after → MachineStep next new
   all-starts (machines.File m) wsize turn old next new after place f s = all-as (machines.File s.machine) next new s.machine_is (file-starts m wsize turn old next s.machine after place f s.step)
   all-starts (machines.Path m) wsize turn old next new after place f s =
       all-as (machines.Path s.machine) next new s.machine_is (path-starts (slot_taken m.opener old.opens) wsize m turn old next s.machine after place f s.step)
   all-starts (machines.Name m) wsize turn old next new after place f s = all-as (machines.Name s.machine) next new s.machine_is (name-goes P own m turn old next s.machine after s.step, tt)
 
-  pub all-resumes : (m : Machine) (wsize : ℕ) (turn : Turn) (old : Shelf) (next : Next) (new : Machine) (after : Shelf) → FineMachine m → Resumes wsize m turn old next new after
+  pub all-resumes : (m : Machine) (wsize : ℕ) (turn : Turn) (old : Shelf) (next : Step) (new : Machine) (after : Shelf) → FineMachine m → Resumes wsize m turn old next new after
       → MachineStep next new
   all-resumes (machines.File m) wsize turn old next new after f s = all-as (machines.File s.machine) next new s.machine_is (file-resumes m wsize turn old next s.machine after f s.step)
   all-resumes (machines.Path m) wsize turn old next new after f s = all-as (machines.Path s.machine) next new s.machine_is (path-resumes m.arrived wsize m turn old next s.machine after f s.step)
@@ -258,7 +258,7 @@ module _ (P : Fault → Type 0) (own : CallFaults P) where
   FitsMachine sent came (machines.Path m) back = FitsPath m.arrived sent came m back
   FitsMachine sent came (machines.Name m) back = FitsName P own m came
 
-  pub all-takes : (m : Machine) (wsize : ℕ) (sent turn : Turn) (came : Result Reply Fault) (old : Shelf) (next : Next) (new : Machine) (after : Shelf) → Ends m old → FitsMachine sent came m old.back → FineMachine m
+  pub all-takes : (m : Machine) (wsize : ℕ) (sent turn : Turn) (came : Result Reply Fault) (old : Shelf) (next : Step) (new : Machine) (after : Shelf) → Ends m old → FitsMachine sent came m old.back → FineMachine m
       → Takes wsize m sent turn came old next new after → MachineStep next new
   all-takes (machines.File m) wsize sent turn came old next new after place n f s =
       all-as (machines.File s.machine) next new s.machine_is (file-takes m wsize sent turn came old next s.machine after place n f s.step)

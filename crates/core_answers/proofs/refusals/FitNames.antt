@@ -1,5 +1,5 @@
 -- Which faults a step of an operation on names gives: want of memory, and what it makes of what came of its call.
-use Rattle.core_answers.proofs.Prelude.{◌≡◌, ℕ, Bool, true, false, List, Option, Some, None, Result, Ok, Err, inl, inr, refl, sym, subst, ◌||◌, if◌then◌else◌, Attr, Step, More, End, ListFault, page_step, Fault, Value, Call, Reply, Next, Shelf, Turn, ListDir, Stat, SymLink, Visit, VisitNext, Walk, WalkNext, found_by, look_again, text_call, TakesText, shown_answer, TakesShow, sym_link_call, sym_linked_told, ChangesByCopy, TakesSymLink, lacking, Opens, Link, Pair, PairNext, Deed, Look, Seek, Move, Remove, RemoveFile, Rename, access_call, access_attr, access_told, deed_call, deed_told, link_call, TakesLink, linked_told, moved_told, rename_call, TakesRename, NameMachine, FineResult, FineOption, FineAnswer, FineNext, fine-as}
+use Rattle.core_answers.proofs.Prelude.{◌≡◌, ℕ, Bool, true, false, List, Option, Some, None, Result, Ok, Err, inl, inr, refl, sym, subst, ◌||◌, if◌then◌else◌, Attr, ListStep, More, End, ListFault, page_step, Fault, Value, Call, Reply, Step, Shelf, Turn, ListDir, Stat, SymLink, Visit, VisitStep, Walk, WalkStep, found_by, look_again, text_call, TakesText, shown_answer, TakesShow, sym_link_call, sym_linked_told, ChangesByCopy, TakesSymLink, lacking, Opens, Link, Pair, PairStep, Deed, Look, Seek, Move, Remove, RemoveFile, Rename, access_call, access_attr, access_told, deed_call, deed_told, link_call, TakesLink, linked_told, moved_told, rename_call, TakesRename, NameMachine, FineResult, FineOption, FineAnswer, FineNext, fine-as}
 use Rattle.name_ops.specs.ReadLink.{TellsText}
 use Rattle.name_ops.specs.Showing.{Shows}
 use Rattle.name_ops.specs.SymLink.{CopiesBy}
@@ -8,17 +8,17 @@ use Rattle.attr_cache.specs.Attrs as attrs
 use Rattle.world_model.specs.declared.answer.Answer.TheVariants as answers
 use Rattle.world_model.specs.declared.answer.Fault.TheVariants as faults
 use Rattle.world_model.specs.declared.answer.Value.TheVariants as values
-use Rattle.client_shelf.specs.declared.next.Next.TheVariants as nexts
+use Rattle.client_shelf.specs.declared.step.Step.TheVariants as nexts
 use Rattle.name_ops.specs.declared.told.Told.{Told}
-use Rattle.name_ops.specs.declared.visit.VisitNext.TheVariants as visits
-use Rattle.name_ops.specs.declared.walk.WalkNext.TheVariants as walks
+use Rattle.name_ops.specs.declared.visit.VisitStep.TheVariants as visits
+use Rattle.name_ops.specs.declared.walk.WalkStep.TheVariants as walks
 use Rattle.name_ops.specs.Changing as changing
 use Rattle.name_ops.specs.ListDir as listing
 use Rattle.name_ops.specs.Stat as stats
 use Rattle.name_ops.specs.Visiting as visiting
 use Rattle.name_ops.specs.Walking as walking
 use Rattle.silly_rename.specs.Plans.{plan_of}
-use Rattle.name_ops.specs.declared.pair.PairNext.TheVariants as two
+use Rattle.name_ops.specs.declared.pair.PairStep.TheVariants as two
 use Rattle.name_ops.specs.Pairs as pairs
 use Rattle.name_ops.specs.RemoveFile as removals
 use Rattle.op_machines.specs.declared.name_machine.NameMachine.TheVariants as machines
@@ -28,7 +28,7 @@ use Rattle.core_answers.proofs.answers.SaveFaults.{CallFaults}
 module _ (P : Fault → Type 0) (own : CallFaults P) where
   -- ---- walks
 
-  abbrev pub FineWalk : WalkNext → Type 0
+  abbrev pub FineWalk : WalkStep → Type 0
   FineWalk (walks.Send call) = Unit {0}
   FineWalk walks.Wait = Unit {0}
   FineWalk (walks.At object) = Unit {0}
@@ -45,7 +45,7 @@ module _ (P : Fault → Type 0) (own : CallFaults P) where
   on-fine : (w : Walk) (turn : Turn) (known : attrs.Attrs) (kept_names : _) → FineWalk (walking.on_next w turn known kept_names)
   on-fine w turn known kept_names = asks-fine (walking.next_name (walking.walked w turn.now known kept_names)) turn.room (walking.walked w turn.now known kept_names)
 
-  waits-or : (b : Bool) (step : WalkNext) → FineWalk step → FineWalk (if b then walks.Wait else step)
+  waits-or : (b : Bool) (step : WalkStep) → FineWalk step → FineWalk (if b then walks.Wait else step)
   waits-or true step f = tt
   waits-or false step f = f
 
@@ -65,10 +65,10 @@ module _ (P : Fault → Type 0) (own : CallFaults P) where
   followed-fine true w name told turn shelf n = tt
   followed-fine false w name told turn shelf n = told-walk told w turn shelf n
 
-  fine-walk : (to step : WalkNext) → step ≡ to → FineWalk to → FineWalk step
+  fine-walk : (to step : WalkStep) → step ≡ to → FineWalk to → FineWalk step
   fine-walk to step is f = subst FineWalk (sym is) f
 
-  pub walk-took : (name : Option (List ℕ)) (w : Walk) (sent turn : Turn) (came : Result Reply Fault) (old : Shelf) (step : WalkNext) (new : Walk) (after : Shelf) → FitsWalk name came
+  pub walk-took : (name : Option (List ℕ)) (w : Walk) (sent turn : Turn) (came : Result Reply Fault) (old : Shelf) (step : WalkStep) (new : Walk) (after : Shelf) → FitsWalk name came
       → walking.Takes name w sent turn came old step new after → FineWalk step
   walk-took None w sent turn came old step new after n t = fine-walk walks.Wait step t.next_is tt
   walk-took (Some name) w sent turn came old step new after n t =
@@ -76,7 +76,7 @@ module _ (P : Fault → Type 0) (own : CallFaults P) where
 
   -- ---- visits
 
-  abbrev FineVisit : VisitNext → Type 0
+  abbrev FineVisit : VisitStep → Type 0
   FineVisit (visits.Look call) = Unit {0}
   FineVisit visits.Wait = Unit {0}
   FineVisit (visits.Ask object) = Unit {0}
@@ -86,34 +86,34 @@ module _ (P : Fault → Type 0) (own : CallFaults P) where
   follow-room true object = tt
   follow-room false object = tt
 
-  follow-visit : (step : WalkNext) (room : Bool) → FineWalk step → FineVisit (visiting.follow_next step room)
+  follow-visit : (step : WalkStep) (room : Bool) → FineWalk step → FineVisit (visiting.follow_next step room)
   follow-visit (walks.Send call) room f = tt
   follow-visit walks.Wait room f = tt
   follow-visit (walks.At object) room f = follow-room room object
   follow-visit (walks.Refused fault) room f = f
 
-  visit-waits : (b : Bool) (step : VisitNext) → FineVisit step → FineVisit (if b then visits.Wait else step)
+  visit-waits : (b : Bool) (step : VisitStep) → FineVisit step → FineVisit (if b then visits.Wait else step)
   visit-waits true step f = tt
   visit-waits false step f = f
 
   visit-fine : (v : Visit) (turn : Turn) (shelf : Shelf) → FineVisit (visiting.visit_next v turn shelf)
   visit-fine v turn shelf = visit-waits v.asked _ (follow-visit (walking.go_next v.walk turn shelf) turn.room (go-fine v.walk turn shelf))
 
-  visit-took : (v : Visit) (sent turn : Turn) (came : Result Reply Fault) (old : Shelf) (next : VisitNext) (new : Visit) (after : Shelf) → FitsWalk (walking.waiting_name v.walk) came
+  visit-took : (v : Visit) (sent turn : Turn) (came : Result Reply Fault) (old : Shelf) (next : VisitStep) (new : Visit) (after : Shelf) → FitsWalk (walking.waiting_name v.walk) came
       → visiting.VisitTakes v sent turn came old next new after → FineVisit next
   visit-took v sent turn came old next new after n t =
       subst FineVisit (sym t.next_is) (follow-visit t.step turn.room (walk-took (walking.waiting_name v.walk) v.walk sent turn came old t.step t.walked.walk after n t.takes))
 
-  visit-next : (call : List ℕ → Call) (step : VisitNext) → FineVisit step → FineNext P (visiting.next_by call step)
+  visit-next : (call : List ℕ → Call) (step : VisitStep) → FineVisit step → FineNext P (visiting.next_by call step)
   visit-next call (visits.Look look) f = tt
   visit-next call visits.Wait f = tt
   visit-next call (visits.Ask object) f = tt
   visit-next call (visits.Refused fault) f = f
 
-  visit-goes : (call : List ℕ → Call) (v : Visit) (turn : Turn) (shelf : Shelf) (next : Next) → next ≡ visiting.next_by call (visiting.visit_next v turn shelf) → FineNext P next
+  visit-goes : (call : List ℕ → Call) (v : Visit) (turn : Turn) (shelf : Shelf) (next : Step) → next ≡ visiting.next_by call (visiting.visit_next v turn shelf) → FineNext P next
   visit-goes call v turn shelf next is = fine-as P _ next is (visit-next call (visiting.visit_next v turn shelf) (visit-fine v turn shelf))
 
-  walks-fine : (call : List ℕ → Call) (v : Visit) (sent turn : Turn) (came : Result Reply Fault) (old : Shelf) (next : Next) (new : Visit) (after : Shelf) → FitsWalk (walking.waiting_name v.walk) came
+  walks-fine : (call : List ℕ → Call) (v : Visit) (sent turn : Turn) (came : Result Reply Fault) (old : Shelf) (next : Step) (new : Visit) (after : Shelf) → FitsWalk (walking.waiting_name v.walk) came
       → visiting.Walks call v sent turn came old next new after → FineNext P next
   walks-fine call v sent turn came old next new after n w = fine-as P _ next w.next_is (visit-next call w.step (visit-took v sent turn came old w.step new after n w.takes))
 
@@ -128,11 +128,11 @@ module _ (P : Fault → Type 0) (own : CallFaults P) where
   answer-fine None n = tt
   answer-fine (Some fault) n = n
 
-  changes-fine : (dir : List ℕ) (call : Call) (told : Told) (sent turn : Turn) (old : Shelf) (next : Next) (after : Shelf) → FineOption P told.refusal
+  changes-fine : (dir : List ℕ) (call : Call) (told : Told) (sent turn : Turn) (old : Shelf) (next : Step) (after : Shelf) → FineOption P told.refusal
       → changing.Changes dir call told sent turn old next after → FineNext P next
   changes-fine dir call told sent turn old next after n c = again-fine P _ call (changing.answer_of told.refusal) next c.next_is (answer-fine told.refusal n)
 
-  change-took : (asked : Bool) (call : List ℕ → Call) (told : Told) (v : Visit) (sent turn : Turn) (came : Result Reply Fault) (old : Shelf) (next : Next) (new : Visit) (after : Shelf)
+  change-took : (asked : Bool) (call : List ℕ → Call) (told : Told) (v : Visit) (sent turn : Turn) (came : Result Reply Fault) (old : Shelf) (next : Step) (new : Visit) (after : Shelf)
       → FitsOwn asked (FineOption P told.refusal) v came → changing.TakesChange asked call told v sent turn came old next new after → FineNext P next
   change-took true call told v sent turn came old next new after r t = changes-fine v.walk.spot.dir (call v.walk.spot.dir) told sent turn old next after r t.1
   change-took false call told v sent turn came old next new after n t = walks-fine call v sent turn came old next new after n t
@@ -143,11 +143,11 @@ module _ (P : Fault → Type 0) (own : CallFaults P) where
   shown-fine (Ok value) n = tt
   shown-fine (Err fault) n = n
 
-  shows-fine : (object : List ℕ) (attr : Option Attr) (told : Result Value Fault) (call : Call) (sent turn : Turn) (old : Shelf) (next : Next) (after : Shelf) → FineResult P told
+  shows-fine : (object : List ℕ) (attr : Option Attr) (told : Result Value Fault) (call : Call) (sent turn : Turn) (old : Shelf) (next : Step) (after : Shelf) → FineResult P told
       → Shows object attr told call sent turn old next after → FineNext P next
   shows-fine object attr told call sent turn old next after n s = again-fine P _ call (shown_answer told) next s.next_is (shown-fine told n)
 
-  show-took : (asked : Bool) (call : List ℕ → Call) (attr : Option Attr) (told : Result Value Fault) (v : Visit) (sent turn : Turn) (came : Result Reply Fault) (old : Shelf) (next : Next)
+  show-took : (asked : Bool) (call : List ℕ → Call) (attr : Option Attr) (told : Result Value Fault) (v : Visit) (sent turn : Turn) (came : Result Reply Fault) (old : Shelf) (next : Step)
       (new : Visit) (after : Shelf) → FitsOwn asked (FineResult P told) v came → TakesShow asked call attr told v sent turn came old next new after → FineNext P next
   show-took true call attr told v sent turn came old next new after r t = shows-fine v.walk.spot.dir attr told (call v.walk.spot.dir) sent turn old next after r t.1
   show-took false call attr told v sent turn came old next new after n t = walks-fine call v sent turn came old next new after n t
@@ -155,21 +155,21 @@ module _ (P : Fault → Type 0) (own : CallFaults P) where
   abbrev pub TextFits : Result Reply Fault → Type 0
   TextFits came = (told : Result Value Fault) → TellsText came told → FineResult P told
 
-  text-took : (asked : Bool) (v : Visit) (sent turn : Turn) (came : Result Reply Fault) (old : Shelf) (next : Next) (new : Visit) (after : Shelf) → FitsOwn asked (TextFits came) v came
+  text-took : (asked : Bool) (v : Visit) (sent turn : Turn) (came : Result Reply Fault) (old : Shelf) (next : Step) (new : Visit) (after : Shelf) → FitsOwn asked (TextFits came) v came
       → TakesText asked v sent turn came old next new after → FineNext P next
   text-took true v sent turn came old next new after n t = shows-fine v.walk.spot.dir _ t.1.told (text_call v.walk.spot.dir) sent turn old next after (n t.1.told t.1.tells) t.1.shows
   text-took false v sent turn came old next new after n t = walks-fine text_call v sent turn came old next new after n t
 
   -- ---- a call with a copy
 
-  copies-fine : (call : List ℕ → Call) (step : VisitNext) (next : Next) → FineVisit step → CopiesBy call step next → FineNext P next
+  copies-fine : (call : List ℕ → Call) (step : VisitStep) (next : Step) → FineVisit step → CopiesBy call step next → FineNext P next
   copies-fine call (visits.Look look) next f c = fine-as P (nexts.Send look) next c tt
   copies-fine call visits.Wait next f c = fine-as P nexts.Wait next c tt
   copies-fine call (visits.Ask dir) next f (inl c) = fine-as P (nexts.Send (call dir)) next c tt
   copies-fine call (visits.Ask dir) next f (inr c) = fine-as P (nexts.Done (answers.Refused faults.Memory)) next c own.memory
   copies-fine call (visits.Refused fault) next f c = fine-as P (nexts.Done (answers.Refused fault)) next c f
 
-  sym-took : (asked : Bool) (m : SymLink) (sent turn : Turn) (came : Result Reply Fault) (old : Shelf) (next : Next) (new : Visit) (after : Shelf) → FitsOwn asked (FineOption P (sym_linked_told came).refusal) m.visit came
+  sym-took : (asked : Bool) (m : SymLink) (sent turn : Turn) (came : Result Reply Fault) (old : Shelf) (next : Step) (new : Visit) (after : Shelf) → FitsOwn asked (FineOption P (sym_linked_told came).refusal) m.visit came
       → TakesSymLink asked m sent turn came old next new after → FineNext P next
   sym-took true m sent turn came old next new after n t = by t.1
     where
@@ -185,13 +185,13 @@ module _ (P : Fault → Type 0) (own : CallFaults P) where
   ask-stat (Some attr) object room = tt
   ask-stat None object room = call-or-wait P room (stats.get_attr object)
 
-  follow-stat : (step : WalkNext) (turn : Turn) (known : attrs.Attrs) → FineWalk step → FineNext P (stats.follow_next step turn known)
+  follow-stat : (step : WalkStep) (turn : Turn) (known : attrs.Attrs) → FineWalk step → FineNext P (stats.follow_next step turn known)
   follow-stat (walks.Send call) turn known f = tt
   follow-stat walks.Wait turn known f = tt
   follow-stat (walks.At object) turn known f = ask-stat (attrs.looked object turn.now known) object turn.room
   follow-stat (walks.Refused fault) turn known f = f
 
-  wait-or : (b : Bool) (next : Next) → FineNext P next → FineNext P (if b then nexts.Wait else next)
+  wait-or : (b : Bool) (next : Step) → FineNext P next → FineNext P (if b then nexts.Wait else next)
   wait-or true next f = tt
   wait-or false next f = f
 
@@ -202,7 +202,7 @@ module _ (P : Fault → Type 0) (own : CallFaults P) where
   FitsStat true m came = FineResult P (stats.got_told came)
   FitsStat false m came = FitsWalk (walking.waiting_name m.walk) came
 
-  stat-took : (asked : Bool) (m : Stat) (sent turn : Turn) (came : Result Reply Fault) (old : Shelf) (next : Next) (new : Stat) (after : Shelf) → FitsStat asked m came
+  stat-took : (asked : Bool) (m : Stat) (sent turn : Turn) (came : Result Reply Fault) (old : Shelf) (next : Step) (new : Stat) (after : Shelf) → FitsStat asked m came
       → stats.StatTakes asked m sent turn came old next new after → FineNext P next
   stat-took true m sent turn came old next new after n t =
       shows-fine m.walk.spot.dir _ (stats.got_told came) (stats.get_attr m.walk.spot.dir) sent turn old next after n t.1
@@ -216,30 +216,30 @@ module _ (P : Fault → Type 0) (own : CallFaults P) where
   PageFits m came = FineResult P (listing.page_heard came)
       × ((heard : _) (fault : ListFault) → listing.page_heard came ≡ Ok heard → page_step m.listing heard.page heard.verf heard.eof ≡ Err fault → P (listing.refusal_of fault))
 
-  list-step : (step : Result Step ListFault) (heard : _) (room : Bool) (m : ListDir) (next : Next) (new : ListDir) → ((fault : ListFault) → step ≡ Err fault → P (listing.refusal_of fault))
+  list-step : (step : Result ListStep ListFault) (heard : _) (room : Bool) (m : ListDir) (next : Step) (new : ListDir) → ((fault : ListFault) → step ≡ Err fault → P (listing.refusal_of fault))
       → listing.TakesStep step heard room m next new → FineNext P next
   list-step (Ok (More cookie verf)) heard room m next new n t = fine-as P _ next t.0 (call-or-wait P room _)
   list-step (Ok End) heard room m next new n t = fine-as P (nexts.Done (answers.Done (values.Names t.names))) next t.next_is tt
   list-step (Err fault) heard room m next new n t = fine-as P _ next t.0 (n fault refl)
 
-  list-page : (heard : _) (room : Bool) (m : ListDir) (next : Next) (new : ListDir) → listing.TakesPage heard room m next new
+  list-page : (heard : _) (room : Bool) (m : ListDir) (next : Step) (new : ListDir) → listing.TakesPage heard room m next new
       → ((fault : ListFault) → page_step m.listing heard.page heard.verf heard.eof ≡ Err fault → P (listing.refusal_of fault)) → FineNext P next
   list-page heard room m next new (inl t) n = fine-as P (nexts.Done (answers.Refused faults.Memory)) next t.0 own.memory
   list-page heard room m next new (inr t) n = list-step _ heard room m next new n t
 
-  list-follows : (told : Result _ Fault) (again room : Bool) (m : ListDir) (next : Next) (new : ListDir) → listing.Follows told again room m next new → FineResult P told
+  list-follows : (told : Result _ Fault) (again room : Bool) (m : ListDir) (next : Step) (new : ListDir) → listing.Follows told again room m next new → FineResult P told
       → ((heard : _) (fault : ListFault) → told ≡ Ok heard → page_step m.listing heard.page heard.verf heard.eof ≡ Err fault → P (listing.refusal_of fault)) → FineNext P next
   list-follows (Ok heard) again room m next new f n k = list-page heard room m next new f (λ fault is. k heard fault refl is)
   list-follows (Err fault) again room m next new f n k = again-fine P again _ (answers.Refused fault) next f.0 n
 
-  list-took : (asked : Bool) (m : ListDir) (sent turn : Turn) (came : Result Reply Fault) (old : Shelf) (next : Next) (new : ListDir) (after : Shelf) → FitsOwn asked (PageFits m came) m.visit came
+  list-took : (asked : Bool) (m : ListDir) (sent turn : Turn) (came : Result Reply Fault) (old : Shelf) (next : Step) (new : ListDir) (after : Shelf) → FitsOwn asked (PageFits m came) m.visit came
       → listing.TakesList asked m sent turn came old next new after → FineNext P next
   list-took true m sent turn came old next new after n t = list-follows (listing.page_heard came) _ turn.room m next new t.follows n.0 n.1
   list-took false m sent turn came old next new after n t = walks-fine (listing.page_call m.place) m.visit sent turn came old next t.visit after n t.walks
 
   -- ---- two walks
 
-  abbrev FinePair : PairNext → Type 0
+  abbrev FinePair : PairStep → Type 0
   FinePair (two.Look call) = Unit {0}
   FinePair two.Wait = Unit {0}
   FinePair (two.Ask first second) = Unit {0}
@@ -249,19 +249,19 @@ module _ (P : Fault → Type 0) (own : CallFaults P) where
   asks-pair true first second = tt
   asks-pair false first second = tt
 
-  second-fine : (first : List ℕ) (step : WalkNext) (room : Bool) → FineWalk step → FinePair (pairs.led_second first step room)
+  second-fine : (first : List ℕ) (step : WalkStep) (room : Bool) → FineWalk step → FinePair (pairs.led_second first step room)
   second-fine first (walks.Send call) room f = tt
   second-fine first walks.Wait room f = tt
   second-fine first (walks.At second) room f = asks-pair room first second
   second-fine first (walks.Refused fault) room f = f
 
-  first-fine : (step : WalkNext) (p : Pair) (turn : Turn) (shelf : Shelf) → FineWalk step → FinePair (pairs.led_first step p turn shelf)
+  first-fine : (step : WalkStep) (p : Pair) (turn : Turn) (shelf : Shelf) → FineWalk step → FinePair (pairs.led_first step p turn shelf)
   first-fine (walks.Send call) p turn shelf f = tt
   first-fine walks.Wait p turn shelf f = tt
   first-fine (walks.At first) p turn shelf f = second-fine first (walking.go_next p.second turn shelf) turn.room (go-fine p.second turn shelf)
   first-fine (walks.Refused fault) p turn shelf f = f
 
-  pair-waits : (b : Bool) (step : PairNext) → FinePair step → FinePair (if b then two.Wait else step)
+  pair-waits : (b : Bool) (step : PairStep) → FinePair step → FinePair (if b then two.Wait else step)
   pair-waits true step f = tt
   pair-waits false step f = f
 
@@ -278,74 +278,74 @@ module _ (P : Fault → Type 0) (own : CallFaults P) where
   FitsTwo true R p came = R
   FitsTwo false R p came = FitsPair p.first.asked p came
 
-  pair-took : (b : Bool) (p : Pair) (sent turn : Turn) (came : Result Reply Fault) (old : Shelf) (next : PairNext) (new : Pair) (after : Shelf) → FitsPair b p came
+  pair-took : (b : Bool) (p : Pair) (sent turn : Turn) (came : Result Reply Fault) (old : Shelf) (next : PairStep) (new : Pair) (after : Shelf) → FitsPair b p came
       → pairs.PairTakes b p sent turn came old next new after → FinePair next
   pair-took true p sent turn came old next new after n t =
       subst FinePair (sym t.next_is) (first-fine t.step t.walked turn t.heard (walk-took (walking.waiting_name p.first) p.first sent turn came old t.step t.walked.first t.heard n t.takes))
   pair-took false p sent turn came old next new after n t =
       subst FinePair (sym t.next_is) (second-fine p.first.spot.dir t.step turn.room (walk-took (walking.waiting_name p.second) p.second sent turn came old t.step t.walked.second after n t.takes))
 
-  pair-next : (call : List ℕ → List ℕ → Call) (step : PairNext) → FinePair step → FineNext P (pairs.next_by call step)
+  pair-next : (call : List ℕ → List ℕ → Call) (step : PairStep) → FinePair step → FineNext P (pairs.next_by call step)
   pair-next call (two.Look look) f = tt
   pair-next call two.Wait f = tt
   pair-next call (two.Ask first second) f = tt
   pair-next call (two.Refused fault) f = f
 
-  pair-walks : (call : List ℕ → List ℕ → Call) (p : Pair) (sent turn : Turn) (came : Result Reply Fault) (old : Shelf) (next : Next) (new : Pair) (after : Shelf) → FitsPair p.first.asked p came
+  pair-walks : (call : List ℕ → List ℕ → Call) (p : Pair) (sent turn : Turn) (came : Result Reply Fault) (old : Shelf) (next : Step) (new : Pair) (after : Shelf) → FitsPair p.first.asked p came
       → pairs.Walks call p sent turn came old next new after → FineNext P next
   pair-walks call p sent turn came old next new after n w = fine-as P _ next w.next_is (pair-next call w.step (pair-took p.first.asked p sent turn came old w.step new after n w.takes))
 
-  rename-took : (asked : Bool) (m : Rename) (sent turn : Turn) (came : Result Reply Fault) (old : Shelf) (next : Next) (new : Pair) (after : Shelf) → FitsTwo asked (FineOption P (moved_told came).refusal) m.pair came
+  rename-took : (asked : Bool) (m : Rename) (sent turn : Turn) (came : Result Reply Fault) (old : Shelf) (next : Step) (new : Pair) (after : Shelf) → FitsTwo asked (FineOption P (moved_told came).refusal) m.pair came
       → TakesRename asked m sent turn came old next new after → FineNext P next
   rename-took true m sent turn came old next new after n t = again-fine P _ _ (changing.answer_of (moved_told came).refusal) next t.1.next_is (answer-fine (moved_told came).refusal n)
   rename-took false m sent turn came old next new after n t = pair-walks (rename_call m.from m.to) m.pair sent turn came old next new after n t
 
-  link-took : (asked : Bool) (m : Link) (sent turn : Turn) (came : Result Reply Fault) (old : Shelf) (next : Next) (new : Pair) (after : Shelf) → FitsTwo asked (FineOption P (linked_told m.pair.first.spot.dir came).refusal) m.pair came
+  link-took : (asked : Bool) (m : Link) (sent turn : Turn) (came : Result Reply Fault) (old : Shelf) (next : Step) (new : Pair) (after : Shelf) → FitsTwo asked (FineOption P (linked_told m.pair.first.spot.dir came).refusal) m.pair came
       → TakesLink asked m sent turn came old next new after → FineNext P next
   link-took true m sent turn came old next new after n t = changes-fine _ _ (linked_told m.pair.first.spot.dir came) sent turn old next after n t.1
   link-took false m sent turn came old next new after n t = pair-walks (link_call m.name) m.pair sent turn came old next new after n t
 
   -- ---- removals
 
-  asked-removal : (room : Bool) (deed : Deed) (m : RemoveFile) (next : Next) → next ≡ removals.asked_next m deed room → FineNext P next
+  asked-removal : (room : Bool) (deed : Deed) (m : RemoveFile) (next : Step) → next ≡ removals.asked_next m deed room → FineNext P next
   asked-removal room deed m next is = fine-as P _ next is (call-or-wait P room (removals.call_of m deed))
 
-  follows-removal : (step : WalkNext) (room : Bool) (m : RemoveFile) (opens : Opens) (next : Next) (new : RemoveFile) → FineWalk step → removals.Follows step room m opens next new → FineNext P next
+  follows-removal : (step : WalkStep) (room : Bool) (m : RemoveFile) (opens : Opens) (next : Step) (new : RemoveFile) → FineWalk step → removals.Follows step room m opens next new → FineNext P next
   follows-removal (walks.Send call) room m opens next new f l = fine-as P (nexts.Send call) next l.0 tt
   follows-removal walks.Wait room m opens next new f l = fine-as P nexts.Wait next l.0 tt
   follows-removal (walks.At dir) room m opens next new f l = asked-removal room (removals.first_deed l.any) m next l.next_is
   follows-removal (walks.Refused fault) room m opens next new f l = fine-as P (nexts.Done (answers.Refused fault)) next l.0 f
 
-  goes-removal : (deed : Option Deed) (m : RemoveFile) (turn : Turn) (old : Shelf) (next : Next) (new : RemoveFile) (after : Shelf) → removals.Goes deed m turn old next new after → FineNext P next
+  goes-removal : (deed : Option Deed) (m : RemoveFile) (turn : Turn) (old : Shelf) (next : Step) (new : RemoveFile) (after : Shelf) → removals.Goes deed m turn old next new after → FineNext P next
   goes-removal (Some deed) m turn old next new after g = asked-removal turn.room deed m next g.next_is
   goes-removal None m turn old next new after g =
       follows-removal (walking.go_next m.walk turn old) turn.room (record m { walk = walking.go_after m.walk turn old }) old.opens next new (go-fine m.walk turn old) g.follows
 
-  resumes-removal : (asked : Bool) (m : RemoveFile) (turn : Turn) (old : Shelf) (next : Next) (new : RemoveFile) (after : Shelf) → removals.Resumes asked m turn old next new after → FineNext P next
+  resumes-removal : (asked : Bool) (m : RemoveFile) (turn : Turn) (old : Shelf) (next : Step) (new : RemoveFile) (after : Shelf) → removals.Resumes asked m turn old next new after → FineNext P next
   resumes-removal true m turn old next new after r = fine-as P nexts.Wait next r.next_is tt
   resumes-removal false m turn old next new after r = goes-removal m.deed m turn old next new after r
 
-  plans-removal : (is_open : Bool) (file : List ℕ) (m : RemoveFile) (room : Bool) (old : Shelf) (next : Next) (new : RemoveFile) (after : Shelf)
+  plans-removal : (is_open : Bool) (file : List ℕ) (m : RemoveFile) (room : Bool) (old : Shelf) (next : Step) (new : RemoveFile) (after : Shelf)
       → removals.Plans is_open file m room old next new after → FineNext P next
   plans-removal is_open file m room old next new after p = asked-removal room (removals.deed_of file (plan_of is_open old.counter)) m next p.next_is
 
-  look-removal : (again : Bool) (told : Result (List ℕ) Fault) (m : RemoveFile) (room : Bool) (old : Shelf) (next : Next) (new : RemoveFile) (after : Shelf) → FineResult P told
+  look-removal : (again : Bool) (told : Result (List ℕ) Fault) (m : RemoveFile) (room : Bool) (old : Shelf) (next : Step) (new : RemoveFile) (after : Shelf) → FineResult P told
       → removals.FollowsLook again told m room old next new after → FineNext P next
   look-removal true told m room old next new after n f = fine-as P (nexts.Send (removals.call_of m Look)) next f.next_is tt
   look-removal false (Ok file) m room old next new after n f = plans-removal f.is_open file m room old next new after f.plans
   look-removal false (Err fault) m room old next new after n f = fine-as P (nexts.Done (answers.Refused fault)) next f.next_is n
 
-  missed-removal : (missing : Bool) (fault : Fault) (file to : List ℕ) (m : RemoveFile) (room : Bool) (next : Next) → (missing ≡ false → P fault) → next ≡ removals.missed_next missing fault file to m room → FineNext P next
+  missed-removal : (missing : Bool) (fault : Fault) (file to : List ℕ) (m : RemoveFile) (room : Bool) (next : Step) → (missing ≡ false → P fault) → next ≡ removals.missed_next missing fault file to m room → FineNext P next
   missed-removal true fault file to m room next n is = asked-removal room (Move file to) m next is
   missed-removal false fault file to m room next n is = fine-as P (nexts.Done (answers.Refused fault)) next is (n refl)
 
-  seek-removal : (again : Bool) (told : Result (List ℕ) Fault) (file to : List ℕ) (m : RemoveFile) (room : Bool) (old : Shelf) (next : Next) (new : RemoveFile) (after : Shelf) → ((fault : Fault) → told ≡ Err fault → removals.is_missing fault ≡ false → P fault)
+  seek-removal : (again : Bool) (told : Result (List ℕ) Fault) (file to : List ℕ) (m : RemoveFile) (room : Bool) (old : Shelf) (next : Step) (new : RemoveFile) (after : Shelf) → ((fault : Fault) → told ≡ Err fault → removals.is_missing fault ≡ false → P fault)
       → removals.FollowsSeek again told file to m room old next new after → FineNext P next
   seek-removal true told file to m room old next new after n f = fine-as P (nexts.Send (removals.call_of m (Seek file to))) next f.next_is tt
   seek-removal false (Ok found) file to m room old next new after n f = plans-removal true file m room old next new after f
   seek-removal false (Err fault) file to m room old next new after n f = missed-removal (removals.is_missing fault) fault file to m room next (n fault refl) f.next_is
 
-  moves-removal : (again : Bool) (refusal : Option Fault) (file to : List ℕ) (m : RemoveFile) (old : removals.Places) (next : Next) (new : removals.Places) → FineOption P refusal
+  moves-removal : (again : Bool) (refusal : Option Fault) (file to : List ℕ) (m : RemoveFile) (old : removals.Places) (next : Step) (new : removals.Places) → FineOption P refusal
       → removals.EndsMove again refusal file to m old next new → FineNext P next
   moves-removal true refusal file to m old next new n e = fine-as P (nexts.Send (removals.call_of m (Move file to))) next e.0 tt
   moves-removal false None file to m old next new n (inl e) = fine-as P (nexts.Done (answers.Done values.Nothing)) next e.0 tt
@@ -359,7 +359,7 @@ module _ (P : Fault → Type 0) (own : CallFaults P) where
   FitsDeed (Move file to) came = FineOption P (moved_told came).refusal
   FitsDeed Remove came = FineOption P (removals.removed_told came).refusal
 
-  deed-removal : (deed : Deed) (m : RemoveFile) (sent turn : Turn) (came : Result Reply Fault) (old : Shelf) (next : Next) (new : RemoveFile) (after : Shelf) → FitsDeed deed came
+  deed-removal : (deed : Deed) (m : RemoveFile) (sent turn : Turn) (came : Result Reply Fault) (old : Shelf) (next : Step) (new : RemoveFile) (after : Shelf) → FitsDeed deed came
       → removals.TakesDeed deed m sent turn came old next new after → FineNext P next
   deed-removal Look m sent turn came old next new after n t = look-removal (look_again sent turn came old) (found_by came) m turn.room t.heard next new after n t.follows
   deed-removal (Seek file to) m sent turn came old next new after n t =
@@ -368,7 +368,7 @@ module _ (P : Fault → Type 0) (own : CallFaults P) where
       moves-removal (removals.move_again sent turn came old) (moved_told came).refusal file to m old.silly next after.silly n t.1.ends
   deed-removal Remove m sent turn came old next new after n t = changes-fine m.walk.spot.dir (removals.call_of m Remove) (removals.removed_told came) sent turn old next after n t.1
 
-  if-removal : (asked : Bool) (deed : Deed) (m : RemoveFile) (sent turn : Turn) (came : Result Reply Fault) (old : Shelf) (next : Next) (new : RemoveFile) (after : Shelf) → (asked ≡ true → FitsDeed deed came)
+  if-removal : (asked : Bool) (deed : Deed) (m : RemoveFile) (sent turn : Turn) (came : Result Reply Fault) (old : Shelf) (next : Step) (new : RemoveFile) (after : Shelf) → (asked ≡ true → FitsDeed deed came)
       → removals.TakesIf asked deed m sent turn came old next new after → FineNext P next
   if-removal true deed m sent turn came old next new after n t = deed-removal deed m sent turn came old next new after (n refl) t
   if-removal false deed m sent turn came old next new after n t = fine-as P nexts.Wait next t.next_is tt
@@ -377,7 +377,7 @@ module _ (P : Fault → Type 0) (own : CallFaults P) where
   FitsRemoval (Some deed) m came = m.asked ≡ true → FitsDeed deed came
   FitsRemoval None m came = FitsWalk (walking.waiting_name m.walk) came
 
-  removal-took : (deed : Option Deed) (m : RemoveFile) (sent turn : Turn) (came : Result Reply Fault) (old : Shelf) (next : Next) (new : RemoveFile) (after : Shelf) → FitsRemoval deed m came
+  removal-took : (deed : Option Deed) (m : RemoveFile) (sent turn : Turn) (came : Result Reply Fault) (old : Shelf) (next : Step) (new : RemoveFile) (after : Shelf) → FitsRemoval deed m came
       → removals.Takes deed m sent turn came old next new after → FineNext P next
   removal-took (Some deed) m sent turn came old next new after n t = if-removal m.asked deed m sent turn came old next new after n t
   removal-took None m sent turn came old next new after n t =
@@ -385,7 +385,7 @@ module _ (P : Fault → Type 0) (own : CallFaults P) where
 
   -- ---- any operation on names
 
-  pub name-goes : (m : NameMachine) (turn : Turn) (old : Shelf) (next : Next) (new : NameMachine) (after : Shelf) → steps.NameGoes m turn old next new after → FineNext P next
+  pub name-goes : (m : NameMachine) (turn : Turn) (old : Shelf) (next : Step) (new : NameMachine) (after : Shelf) → steps.NameGoes m turn old next new after → FineNext P next
   name-goes (machines.Change m) turn old next new after g = visit-goes (deed_call m.deed m.name) m.visit turn old next g.next_is
   name-goes (machines.Stat m) turn old next new after g = fine-as P _ next g.next_is (stat-fine m turn old)
   name-goes (machines.Access m) turn old next new after g = visit-goes (access_call m.bits) m.visit turn old next g.next_is
@@ -407,7 +407,7 @@ module _ (P : Fault → Type 0) (own : CallFaults P) where
   FitsName (machines.SymLink m) came = FitsOwn m.visit.asked (FineOption P (sym_linked_told came).refusal) m.visit came
   FitsName (machines.List m) came = FitsOwn m.visit.asked (PageFits m came) m.visit came
 
-  pub name-takes : (m : NameMachine) (sent turn : Turn) (came : Result Reply Fault) (old : Shelf) (next : Next) (new : NameMachine) (after : Shelf) → FitsName m came
+  pub name-takes : (m : NameMachine) (sent turn : Turn) (came : Result Reply Fault) (old : Shelf) (next : Step) (new : NameMachine) (after : Shelf) → FitsName m came
       → steps.NameTakes m sent turn came old next new after → FineNext P next
   name-takes (machines.Change m) sent turn came old next new after n t =
       change-took m.visit.asked (deed_call m.deed m.name) (deed_told m.deed came) m.visit sent turn came old next t.visit after n t.step

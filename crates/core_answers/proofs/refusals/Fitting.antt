@@ -1,5 +1,5 @@
 -- What came of the call for which an operation waits is a reply to that call, so P holds of whatever the operation makes of it.
-use Rattle.core_answers.proofs.Prelude.{◌≡◌, ◌==◌, inl, inr, ℕ, Bool, true, false, List, Option, Some, None, Result, Ok, Err, refl, sym, ap, subst, ◌∙◌, if◌then◌else◌, Attr, Verf, DirKept, PlusRow, Fault, Call, Reply, look_up, page_reply, Pending, Sent, Turn, Closing, Opening, OpeningStep, PutFile, Putting, Phase, Reading, Saving, Syncing, Truncating, Writing, place_after, Said, part, refusal, said_to, DirDeed, ListDir, Pair, Deed, Look, Seek, Move, Remove, RemoveFile, Stat, Visit, Walk, access_call, deed_call, deed_told, link_call, text_call, rename_call, sym_link_call, FileMachine, Machine, NameMachine, PathMachine, file_of, PutAwaits, PathOr, WalkAwaits, OwnOr, FineResult, FineOption, flies_if, flies_save, flies_write, flies_sync, flies_close, flies_put, flies_file, flies_path, RemoveAwaits}
+use Rattle.core_answers.proofs.Prelude.{◌≡◌, ◌==◌, inl, inr, ℕ, Bool, true, false, List, Option, Some, None, Result, Ok, Err, refl, sym, ap, subst, ◌∙◌, if◌then◌else◌, Attr, Verf, DirKept, PlusRow, Fault, Call, Reply, look_up, page_reply, Pending, Sent, Turn, Closing, Opening, OpeningPhase, PutFile, Putting, Phase, Reading, Saving, Syncing, Truncating, Writing, place_after, Said, part, refusal, said_to, DirDeed, ListDir, Pair, Deed, Look, Seek, Move, Remove, RemoveFile, Stat, Visit, Walk, access_call, deed_call, deed_told, link_call, text_call, rename_call, sym_link_call, FileMachine, Machine, NameMachine, PathMachine, file_of, PutAwaits, PathOr, WalkAwaits, OwnOr, FineResult, FineOption, flies_if, flies_save, flies_write, flies_sync, flies_close, flies_put, flies_file, flies_path, RemoveAwaits}
 use Rattle.core_facts.proofs.AllAwaited.{FileAwaits}
 use Rattle.core_facts.proofs.Awaited.{PairOr}
 use Rattle.core_facts.proofs.NamesAwaited.{NameAwaits}
@@ -8,7 +8,7 @@ use Rattle.world_model.specs.declared.answer.Fault.TheVariants as faults
 use Rattle.world_model.specs.declared.message.Reply.TheVariants as replies
 use Rattle.file_ops.specs.declared.close_file.Closing.TheVariants as closing
 use Rattle.file_ops.specs.declared.opening.Led.TheVariants as leads
-use Rattle.file_ops.specs.declared.opening.OpeningStep.TheVariants as opening_steps
+use Rattle.file_ops.specs.declared.opening.OpeningPhase.TheVariants as opening_steps
 use Rattle.file_ops.specs.declared.put_file.Putting.TheVariants as putting
 use Rattle.file_ops.specs.declared.reading.Phase.TheVariants as phases
 use Rattle.file_ops.specs.declared.sync_file.Syncing.TheVariants as syncing
@@ -172,7 +172,7 @@ module _ (P : Fault → Type 0) (own : CallFaults P) (xid : ℕ) (rec : List ℕ
   opening-fits : (kind : P faults.Kind) (o : Opening) → call ≡ opening.call_of o o.step → FitsOpening P own o came
   opening-fits kind o e = by o.step e
     where
-      by : (s : OpeningStep) → call ≡ opening.call_of o s → FineLed P own (opening.led_to o.mode s came)
+      by : (s : OpeningPhase) → call ≡ opening.call_of o s → FineLed P own (opening.led_to o.mode s came)
       by opening_steps.Look is = look-led (opening.makes o.mode came) (told.found_by came) (replied.found-file P own xid rec o.dir o.name came (at _ is))
       by opening_steps.Make is = made-led (told.made_by came) (replied.made-file P own xid rec o.dir o.name (opening.making_of o.mode) came (at _ is))
       by opening_steps.Find is = found-led (told.found_by came) (replied.found-file P own xid rec o.dir o.name came (at _ is))

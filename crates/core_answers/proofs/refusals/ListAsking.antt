@@ -1,5 +1,5 @@
 -- How a list runs, and for which calls it asks: as `proofs/rows/ListStory` has it, for a record of which it is known that it was sent for the list.
-use Rattle.core_answers.proofs.Prelude.{◌≡◌, ◌≤◌, ◌+◌, ◌-◌, ◌⊎◌, inl, inr, ℕ, zero, suc, Bool, true, false, List, [], ◌∷◌, ◌++◌, length, take, drop, slice_get, filter, map, Contains, Option, Some, None, Result, Ok, Err, refl, sym, ap, subst, ◌∙◌, arith, if◌then◌else◌, All-nil, filter-append, map-append, length-append, nat_tests, Attr, Verf, DirKept, PlusRow, Step, More, End, ListFault, listing_limit, last_cookie, page_step, Answer, Fault, Value, Entry, Began, Call, Reply, Op, Asks, look_up, LastCookie, names_of, list_call, page_reply, Asked, Rooted, EndsWith, Terms, Asked-grow, Asked-wide, length_last, goes_again, fails_busy, Next, Shelf, Turn, ListDir, Visit, Walk, Mounted, Machine, machine_of, Starts, Resumes, Takes, State, Busy, Over, Setup, of_name, of_walk, visit_by, in_flight, IsCounted, Counts, Awaits, awaits-laws, begins-unbegun, counts-calls, OwnOr, WalkAwaits, all-starts, all-resumes, all-takes, IsNameTold, NamesTold, names-later, LeadsTo, leads-from, leads-later, WalkLeads, IsHeard, heard-tells, then-as, VisitStory, ends-later, ThenOf, AskedOf, IsTold, TaleLaws, IsQuiet, AsksFor}
+use Rattle.core_answers.proofs.Prelude.{◌≡◌, ◌≤◌, ◌+◌, ◌-◌, ◌⊎◌, inl, inr, ℕ, zero, suc, Bool, true, false, List, [], ◌∷◌, ◌++◌, length, take, drop, slice_get, filter, map, Contains, Option, Some, None, Result, Ok, Err, refl, sym, ap, subst, ◌∙◌, arith, if◌then◌else◌, All-nil, filter-append, map-append, length-append, nat_tests, Attr, Verf, DirKept, PlusRow, ListStep, More, End, ListFault, listing_limit, last_cookie, page_step, Answer, Fault, Value, Entry, Began, Call, Reply, Op, Asks, look_up, LastCookie, names_of, list_call, page_reply, Asked, Rooted, EndsWith, Terms, Asked-grow, Asked-wide, length_last, goes_again, fails_busy, Step, Shelf, Turn, ListDir, Visit, Walk, Mounted, Machine, machine_of, Starts, Resumes, Takes, State, Busy, Over, Setup, of_name, of_walk, visit_by, in_flight, IsCounted, Counts, Awaits, awaits-laws, begins-unbegun, counts-calls, OwnOr, WalkAwaits, all-starts, all-resumes, all-takes, IsNameTold, NamesTold, names-later, LeadsTo, leads-from, leads-later, WalkLeads, IsHeard, heard-tells, then-as, VisitStory, ends-later, ThenOf, AskedOf, IsTold, TaleLaws, IsQuiet, AsksFor}
 use Rattle.std.proofs.Common.{nat_lt}
 use Rattle.std.specs.Prelude.{◌↔◌}
 use Rattle.dir_list.specs.Listings.{counts, counted}
@@ -19,8 +19,8 @@ use Rattle.claims.specs.Asks as asks
 use Rattle.world_model.specs.Leads as leading
 use Rattle.world_model.specs.Leads.{Leads}
 use Rattle.claims.specs.OkRows.{ListOk, most_names}
-use Rattle.client_shelf.specs.declared.next.Next.TheVariants as nexts
-use Rattle.name_ops.specs.declared.walk.WalkNext.TheVariants as walks
+use Rattle.client_shelf.specs.declared.step.Step.TheVariants as nexts
+use Rattle.name_ops.specs.declared.walk.WalkStep.TheVariants as walks
 use Rattle.name_ops.specs.ListDir as listing
 use Rattle.name_ops.specs.Visiting as visiting
 use Rattle.name_ops.specs.Walking as walking
@@ -73,7 +73,7 @@ is-more before [] verf false cookie with_ is = absurd (cc)
 is-more before (row ∷ rows) verf eof cookie with_ is = by (nat_lt listing_limit (length before + length (counted (row ∷ rows)))) eof refl is
   where
     by : (b e : Bool) → nat_lt listing_limit (length before + length (counted (row ∷ rows))) ≡ b
-        → ◌≡◌ {A = Result Step ListFault} (if b then Err list_faults.Many else if e then Ok End else Ok (More (last_cookie row rows) verf)) (Ok (More cookie with_))
+        → ◌≡◌ {A = Result ListStep ListFault} (if b then Err list_faults.Many else if e then Ok End else Ok (More (last_cookie row rows) verf)) (Ok (More cookie with_))
         → IsMore before (row ∷ rows) verf cookie with_
     by true e lt same = absurd (cc)
     by false true lt same = absurd (cc)
@@ -89,7 +89,7 @@ is-end before [] verf false is = absurd (cc)
 is-end before (row ∷ rows) verf eof is = by (nat_lt listing_limit (length before + length (counted (row ∷ rows)))) eof refl is
   where
     by : (b e : Bool) → nat_lt listing_limit (length before + length (counted (row ∷ rows))) ≡ b
-        → ◌≡◌ {A = Result Step ListFault} (if b then Err list_faults.Many else if e then Ok End else Ok (More (last_cookie row rows) verf)) (Ok End) → IsEnd before (row ∷ rows) e
+        → ◌≡◌ {A = Result ListStep ListFault} (if b then Err list_faults.Many else if e then Ok End else Ok (More (last_cookie row rows) verf)) (Ok End) → IsEnd before (row ∷ rows) e
     by true e lt same = absurd (cc)
     by false true lt same = record { at_end = refl; few = λ few. grind (arith, nat_tests) }
     by false false lt same = absurd (cc)
@@ -190,11 +190,11 @@ module _ (top : List ℕ) where
     ListAnswer (answers.Done value) = ListOk (given terms) h x (length h) path value
     ListAnswer (answers.Refused fault) = Unit {0}
 
-    abbrev pub Steps : Next → Machine → Type 0
+    abbrev pub Steps : Step → Machine → Type 0
     Steps next_is new = ThenOf ListRuns ListAnswer next_is new
 
     -- a visit of the list goes on
-    on-visit : (next_is : Next) (m : ListDir) (visit : Visit) (new : Machine) → new ≡ machines.Name (names.List (record m { visit = visit })) → Stage (record m { visit = visit })
+    on-visit : (next_is : Step) (m : ListDir) (visit : Visit) (new : Machine) → new ≡ machines.Name (names.List (record m { visit = visit })) → Stage (record m { visit = visit })
         → ThenOf (VisitStory top h path) ListAnswer next_is visit → Steps next_is new
     on-visit (nexts.Send call) m visit new is s t = record { m = record m { visit = visit }; is = is; visit = t; stage = s }
     on-visit nexts.Wait m visit new is s t = record { m = record m { visit = visit }; is = is; visit = t; stage = s }
@@ -213,7 +213,7 @@ module _ (top : List ℕ) where
           few = l.few;
         })
 
-    goes : (machine : Machine) (wsize : ℕ) (turn : Turn) (old : Shelf) (next_is : Next) (new : Machine) (after : Shelf) → NamesTold h old.names → ListRuns machine
+    goes : (machine : Machine) (wsize : ℕ) (turn : Turn) (old : Shelf) (next_is : Step) (new : Machine) (after : Shelf) → NamesTold h old.names → ListRuns machine
         → Resumes wsize machine turn old next_is new after → Steps next_is new
     goes machine wsize turn old next_is new after t k r =
         let g = subst (λ (n : Machine). Resumes wsize n turn old next_is new after) k.is r in
@@ -237,7 +237,7 @@ module _ (top : List ℕ) where
     pub record PageTold (came : Result Reply Fault) (m : ListDir) : Type 0 where
       pub heard : (reply : Reply) → came ≡ Ok reply → IsLastReply h x (list_call m.visit.walk.spot.dir m.place.cookie m.place.verf) reply
 
-    more-then : (next_is : Next) (room : Bool) (m : ListDir) (place : _) (visit : VisitStory top h path m.visit) → (done : walking.next_name m.visit.walk ≡ None)
+    more-then : (next_is : Step) (room : Bool) (m : ListDir) (place : _) (visit : VisitStory top h path m.visit) → (done : walking.next_name m.visit.walk ≡ None)
         → IsListing (record m { place = place }) → (to : ListDir) → to ≡ listing.more_after place room m → next_is ≡ listing.more_next place room m → Steps next_is (machines.Name (names.List to))
     more-then next_is room m place visit done l to is at = then-as ListRuns ListAnswer (listing.more_next place room m) next_is (machines.Name (names.List to)) at (by room)
       where
@@ -253,7 +253,7 @@ module _ (top : List ℕ) where
         by true = runs
         by false = runs
 
-    page-then : (step : Result Step ListFault) (heard : _) (came : Result Reply Fault) (room : Bool) (m : ListDir) (next_is : Next) (to : ListDir) → VisitStory top h path m.visit
+    page-then : (step : Result ListStep ListFault) (heard : _) (came : Result Reply Fault) (room : Bool) (m : ListDir) (next_is : Step) (to : ListDir) → VisitStory top h path m.visit
         → IsListing m → LeadsTo top h path m.visit.walk.spot.dir → PageTold came m → listing.TakesStep step heard room m next_is to → IsPage came heard.verf heard.page heard.eof
         → page_step m.listing heard.page heard.verf heard.eof ≡ step → Steps next_is (machines.Name (names.List to))
     page-then (Ok (More cookie verf)) heard came room m next_is to visit l leads told t page is =
@@ -297,7 +297,7 @@ module _ (top : List ℕ) where
         })
     page-then (Err fault) heard came room m next_is to visit l leads told t page is = then-as ListRuns ListAnswer _ next_is (machines.Name (names.List to)) t.0 tt
 
-    list-then : (told : Result _ Fault) (again : Bool) (came : Result Reply Fault) (room : Bool) (m : ListDir) (next_is : Next) (to : ListDir) → VisitStory top h path m.visit
+    list-then : (told : Result _ Fault) (again : Bool) (came : Result Reply Fault) (room : Bool) (m : ListDir) (next_is : Step) (to : ListDir) → VisitStory top h path m.visit
         → IsListing m → LeadsTo top h path m.visit.walk.spot.dir → PageTold came m → listing.page_heard came ≡ told → Stage m → listing.Follows told again room m next_is to
         → Steps next_is (machines.Name (names.List to))
     list-then (Ok heard) again came room m next_is to visit l leads told is s (inl f) =
@@ -311,7 +311,7 @@ module _ (top : List ℕ) where
         by true = record { m = m; is = ap (λ (k : ListDir). machines.Name (names.List k)) f.1; visit = visit; stage = s }
         by false = tt
 
-    takes-list : (asked : Bool) (m : ListDir) (sent turn : Turn) (came : Result Reply Fault) (old : Shelf) (next_is : Next) (to : ListDir) (after : Shelf) (call : Call) → m.visit.asked ≡ asked
+    takes-list : (asked : Bool) (m : ListDir) (sent turn : Turn) (came : Result Reply Fault) (old : Shelf) (next_is : Step) (to : ListDir) (after : Shelf) (call : Call) → m.visit.asked ≡ asked
         → NamesTold h old.names → VisitStory top h path m.visit → Stage m → OwnOr asked (listing.page_call m.place) m.visit.walk call → IsHeard top h came call
         → ((reply : Reply) → came ≡ Ok reply → IsLastReply h x call reply) → listing.TakesList asked m sent turn came old next_is to after → Steps next_is (machines.Name (names.List to))
     takes-list true m sent turn came old next_is to after call is t visit stage e heard last k =
@@ -474,7 +474,7 @@ module _ (m : Mounted) (terms : Terms) where
   abbrev pub Shelved : List Entry → Shelf → Type 0
   Shelved h shelf = NamesTold h shelf.names
 
-  asks-all : (h : List Entry) (x : ℕ) (op : Op) (next_is : Next) (before : ℕ) (new : Machine) → ((path : List (List ℕ)) → op ≡ ops.List path → Steps m.root terms h x path next_is new)
+  asks-all : (h : List Entry) (x : ℕ) (op : Op) (next_is : Step) (before : ℕ) (new : Machine) → ((path : List (List ℕ)) → op ≡ ops.List path → Steps m.root terms h x path next_is new)
       → AskedOf Awaits next_is new → ((path : List (List ℕ)) → op ≡ ops.List path → Counts next_is before new) → AsksFor (Caused h x op) next_is
   asks-all h x op (nexts.Send call) before new t e c = λ path is. wanted m.root terms h x path new call (t path is) e (let more = (c path is).0 in omega (arith, more))
   asks-all h x op nexts.Wait before new t e c = tt
@@ -483,13 +483,13 @@ module _ (m : Mounted) (terms : Terms) where
   runs-counted : (h : List Entry) (x : ℕ) (path : List (List ℕ)) (machine : Machine) → ListRuns m.root terms h x path machine → IsCounted machine
   runs-counted h x path machine k = subst IsCounted (sym k.is) tt
 
-  for-list : (h : List Entry) (x : ℕ) (op : Op) (next_is : Next) (new : Machine) → ((path : List (List ℕ)) → op ≡ ops.List path → Steps m.root terms h x path next_is new)
+  for-list : (h : List Entry) (x : ℕ) (op : Op) (next_is : Step) (new : Machine) → ((path : List (List ℕ)) → op ≡ ops.List path → Steps m.root terms h x path next_is new)
       → ThenOf (λ k. Story h x op (Busy k)) (λ a. Story h x op (Over a)) next_is new
   for-list h x op (nexts.Send call) new t = t
   for-list h x op nexts.Wait new t = t
   for-list h x op (nexts.Done answer) new t = t
 
-  step-as : (h : List Entry) (x : ℕ) (path : List (List ℕ)) (next_is : Next) (to new : Machine) → new ≡ to → Steps m.root terms h x path next_is to → Steps m.root terms h x path next_is new
+  step-as : (h : List Entry) (x : ℕ) (path : List (List ℕ)) (next_is : Step) (to new : Machine) → new ≡ to → Steps m.root terms h x path next_is to → Steps m.root terms h x path next_is new
   step-as h x path next_is to new is t = subst (λ (k : Machine). Steps m.root terms h x path next_is k) (sym is) t
 
   heard-all : (h : List Entry) (x : ℕ) (op : Op) (machine : Machine) (came : Result Reply Fault) (told : IsTold Awaits Caused h x op machine came) → IsHeard m.root h came told.call

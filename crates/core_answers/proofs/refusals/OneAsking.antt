@@ -1,11 +1,11 @@
 -- How operations of one call run, and for which calls they ask: as `core_facts` has it (`proofs/OneCalled`), for a record of which it is known that it was sent for
 -- the operation.
-use Rattle.core_answers.proofs.Prelude.{◌≡◌, ◌-◌, ℕ, List, [], ◌∷◌, ◌++◌, length, take, Result, refl, sym, ap, subst, arith, All-nil, Fault, Entry, Began, Call, Reply, Op, Terms, length_last, Next, Shelf, Turn, walk_of, Mounted, Machine, front_of, machine_of, Starts, Setup, Awaits, awaits-laws, begins-unbegun, counts-calls, all-starts, all-resumes, all-takes, IsNameTold, NamesTold, names-later, WalkLeads, heard-tells, VisitStory, ThenOf, AskedOf, IsTold, TaleLaws, AsksFor, in_flight, IsCounted, Counts}
+use Rattle.core_answers.proofs.Prelude.{◌≡◌, ◌-◌, ℕ, List, [], ◌∷◌, ◌++◌, length, take, Result, refl, sym, ap, subst, arith, All-nil, Fault, Entry, Began, Call, Reply, Op, Terms, length_last, Step, Shelf, Turn, walk_of, Mounted, Machine, front_of, machine_of, Starts, Setup, Awaits, awaits-laws, begins-unbegun, counts-calls, all-starts, all-resumes, all-takes, IsNameTold, NamesTold, names-later, WalkLeads, heard-tells, VisitStory, ThenOf, AskedOf, IsTold, TaleLaws, AsksFor, in_flight, IsCounted, Counts}
 use Rattle.op_machines.specs.Begun.{IsAsked}
 use Rattle.core_facts.proofs.OneCalls.{PairStory}
 use Rattle.world_model.specs.declared.op.Op.TheVariants as ops
 use Rattle.world_model.specs.Leads as leads
-use Rattle.client_shelf.specs.declared.next.Next.TheVariants as nexts
+use Rattle.client_shelf.specs.declared.step.Step.TheVariants as nexts
 use Rattle.name_ops.specs.Pairs as pairs
 use Rattle.name_ops.specs.Visiting as visiting
 use Rattle.core_facts.specs.Naming.{IsOneCall}
@@ -31,7 +31,7 @@ module _ (m : Mounted) (terms : Terms) where
   pair-begins h first second =
       record { one = walk-begins h first; two = walk-begins h second; then_ = λ is. absurd (cc); alone = λ is. refl; done = λ is. absurd (cc) }
 
-  starts : (h : List Entry) (x lane : ℕ) (op : Op) (wsize : ℕ) (turn : Turn) (old : Shelf) (next : Next) (new : Machine) (after : Shelf) → IsOneCall op → NamesTold h old.names
+  starts : (h : List Entry) (x lane : ℕ) (op : Op) (wsize : ℕ) (turn : Turn) (old : Shelf) (next : Step) (new : Machine) (after : Shelf) → IsOneCall op → NamesTold h old.names
       → Starts wsize (machine_of m lane op) turn old next new after → Steps m.root terms h x op next new
   starts h x lane (ops.Access path bits) wsize turn old next new after one t s = goes m.root terms h x (ops.Access path bits) (machine_of m lane (ops.Access path bits)) wsize turn old next new after
       one t (record { visit = visiting.visit_of m.root path; is = refl; story = visit-begins h path }) s
@@ -57,12 +57,12 @@ module _ (m : Mounted) (terms : Terms) where
   told-plain : (h : List Entry) (x : ℕ) (op : Op) (machine : Machine) (came : Result Reply Fault) → IsTold Awaits Caused h x op machine came → IsTold Awaits (NoWait m.root terms) h x op machine came
   told-plain h x op machine came told = record { call = told.call; expects = told.expects; asks = tt; heard = told.heard; refused = told.refused }
 
-  only-runs : (h : List Entry) (x : ℕ) (op : Op) (next : Next) (new : Machine) → Steps m.root terms h x op next new → ThenOf (Runs m.root terms h op) (λ a. Unit {0}) next new
+  only-runs : (h : List Entry) (x : ℕ) (op : Op) (next : Step) (new : Machine) → Steps m.root terms h x op next new → ThenOf (Runs m.root terms h op) (λ a. Unit {0}) next new
   only-runs h x op (nexts.Send call) new t = t
   only-runs h x op nexts.Wait new t = t
   only-runs h x op (nexts.Done answer) new t = tt
 
-  asks-all : (h : List Entry) (x : ℕ) (op : Op) (next : Next) (before : ℕ) (new : Machine) → (IsOneCall op → IsAsked op → Steps m.root terms h x op next new) → AskedOf Awaits next new
+  asks-all : (h : List Entry) (x : ℕ) (op : Op) (next : Step) (before : ℕ) (new : Machine) → (IsOneCall op → IsAsked op → Steps m.root terms h x op next new) → AskedOf Awaits next new
       → (IsOneCall op → IsAsked op → Counts next before new) → AsksFor (Caused h x op) next
   asks-all h x op (nexts.Send call) before new t e c = λ one named.
       asks-new m.root terms h x op (nexts.Send call) before new one named (only-runs h x op (nexts.Send call) new (t one named)) e (c one named)

@@ -1,6 +1,6 @@
 -- An operation is answered with a status of a server, a refusal by RPC or for a rule only where a record refused so a call that was sent for this very operation,
 -- and isn't the REMOVE of a last close.
-use Rattle.core_answers.proofs.Prelude.{◌≡◌, ◌≤◌, ◌+◌, ℕ, List, [], ◌∷◌, ◌++◌, length, option_map, Result, Ok, Err, inl, inr, refl, sym, ap, subst, ◌∙◌, arith, Waiting, Answer, Fault, Entry, Began, Delivered, Call, Reply, Op, Modes, Ended, UnderWay, length_last, Next, Shelf, Turn, CloseFile, Closing, Removal, Mounted, FileMachine, Machine, machine_of, Takes, Purpose, State, Busy, Over, Setup, View, of_closing, in_flight, Reaches, begins-unbegun, FineAnswer, is-given, good-over, ThenOf, AsksFor, Did, forget, Anything, passes-any}
+use Rattle.core_answers.proofs.Prelude.{◌≡◌, ◌≤◌, ◌+◌, ℕ, List, [], ◌∷◌, ◌++◌, length, option_map, Result, Ok, Err, inl, inr, refl, sym, ap, subst, ◌∙◌, arith, Waiting, Answer, Fault, Entry, Began, Delivered, Call, Reply, Op, Modes, Ended, UnderWay, length_last, Step, Shelf, Turn, CloseFile, Closing, Removal, Mounted, FileMachine, Machine, machine_of, Takes, Purpose, State, Busy, Over, Setup, View, of_closing, in_flight, Reaches, begins-unbegun, FineAnswer, is-given, good-over, ThenOf, AsksFor, Did, forget, Anything, passes-any}
 use Rattle.core_facts.proofs.Telling.{IsHeardNow, IsUnmadeFault}
 use Rattle.core_facts.proofs.Passing.{Passes}
 use Rattle.world_model.proofs.Growth.{FirstSent-grow, Answers-grow}
@@ -9,7 +9,7 @@ use Rattle.world_model.specs.declared.answer.Answer.TheVariants as answers
 use Rattle.world_model.specs.declared.answer.Fault.TheVariants as faults
 use Rattle.world_model.specs.declared.op.Op.TheVariants as ops
 use Rattle.claims.specs.PageRules.{RefusedSo, RefusesSo, refuses}
-use Rattle.client_shelf.specs.declared.next.Next.TheVariants as nexts
+use Rattle.client_shelf.specs.declared.step.Step.TheVariants as nexts
 use Rattle.file_ops.specs.declared.close_file.Closing.TheVariants as closing
 use Rattle.op_machines.specs.declared.file_machine.FileMachine.TheVariants as files
 use Rattle.op_machines.specs.declared.machine.Machine.TheVariants as machines
@@ -117,7 +117,7 @@ module _ (m : Mounted) (setup : Setup) (G : List Entry → View → Type 0) wher
   abbrev Story : List Entry → ℕ → Op → State → Type 0
   Story h x op state = StateStory h x op state
 
-  asks-none : (h : List Entry) (x : ℕ) (op : Op) (next : Next) → AsksFor (NoWait h x op) next
+  asks-none : (h : List Entry) (x : ℕ) (op : Op) (next : Step) → AsksFor (NoWait h x op) next
   asks-none h x op (nexts.Send call) = tt
   asks-none h x op nexts.Wait = tt
   asks-none h x op (nexts.Done answer) = tt
@@ -126,13 +126,13 @@ module _ (m : Mounted) (setup : Setup) (G : List Entry → View → Type 0) wher
   answer-story h x op (answers.Done value) f = tt
   answer-story h x op (answers.Refused fault) f = f
 
-  abbrev StepsSo : List Entry → ℕ → Op → Next → Machine → Type 0
+  abbrev StepsSo : List Entry → ℕ → Op → Step → Machine → Type 0
   StepsSo h x op next new = steps.MachineStep (ShownBy h x op) (own h x op) next new
 
-  did : (h : List Entry) (x : ℕ) (op : Op) (next : Next) (new : Machine) (after : Shelf) → StepsSo h x op next new → Did NoWait NoShelf Story h x op next new after
+  did : (h : List Entry) (x : ℕ) (op : Op) (next : Step) (new : Machine) (after : Shelf) → StepsSo h x op next new → Did NoWait NoShelf Story h x op next new after
   did h x op next new after s = record { shelf = tt; asks = asks-none h x op next; then_ = by next s }
     where
-      by : (n : Next) → StepsSo h x op n new → ThenOf (λ k. Story h x op (Busy k)) (λ a. Story h x op (Over a)) n new
+      by : (n : Step) → StepsSo h x op n new → ThenOf (λ k. Story h x op (Busy k)) (λ a. Story h x op (Over a)) n new
       by (nexts.Send call) k = k.1
       by nexts.Wait k = k.1
       by (nexts.Done answer) k = answer-story h x op answer k.0
@@ -175,7 +175,7 @@ module _ (m : Mounted) (setup : Setup) (G : List Entry → View → Type 0) wher
   close-op (ops.ReadLink path) R a b = b (λ n is. absurd (cc))
   close-op (ops.List path) R a b = b (λ n is. absurd (cc))
 
-  module _ (h : List Entry) (x : ℕ) (op : Op) (machine : Machine) (wsize : ℕ) (sent turn : Turn) (came : Result Reply Fault) (old : Shelf) (next : Next) (new : Machine) (after : Shelf)
+  module _ (h : List Entry) (x : ℕ) (op : Op) (machine : Machine) (wsize : ℕ) (sent turn : Turn) (came : Result Reply Fault) (old : Shelf) (next : Step) (new : Machine) (after : Shelf)
       (others : ℕ) (story : steps.FineMachine (ShownBy h x op) (own h x op) machine) (one : in_flight machine ≡ others + 1) (t : Takes wsize machine sent turn came old next new after) where
     any-step : steps.FitsMachine (ShownBy h x op) (own h x op) sent came machine old.back → StepsSo h x op next new
     any-step n = steps.all-takes (ShownBy h x op) (own h x op) machine wsize sent turn came old next new after (steps.any-ends (ShownBy h x op) (own h x op) tt machine old) n story t

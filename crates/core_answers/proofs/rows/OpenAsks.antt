@@ -1,5 +1,5 @@
 -- An open asks for each call that is sent for it: the LOOKUP of a name of its path, CREATE of the last one, GETATTR of its file.
-use Rattle.core_answers.proofs.Prelude.{◌≡◌, ◌≤◌, ◌-◌, ◌⊎◌, inl, inr, ℕ, zero, suc, Bool, true, false, List, [], ◌∷◌, ◌++◌, length, take, drop, slice_get, Option, Some, None, Result, refl, sym, ap, subst, ◌∙◌, arith, append_assoc, if◌then◌else◌, All-nil, Attr, Mode, Answer, Fault, Entry, Began, Call, Reply, Op, Asks, look_up, Asked, Rooted, PlaceOf, UnderWay, Terms, IsDelivered, Asked-grow, Asked-wide, Rooted-wide, length_last, Next, Shelf, Turn, Opening, OpeningStep, Walk, walk_of, Mounted, Machine, PathMachine, IsNamed, front_of, last_of, machine_of, file_of, Starts, Resumes, Takes, State, Busy, Setup, of_name, of_walk, in_flight, IsCounted, Counts, Awaits, PathOr, awaits-laws, begins-unbegun, counts-calls, WalkAwaits, all-starts, all-resumes, all-takes, IsNameTold, NamesTold, names-later, LeadsTo, leads-from, leads-later, WalkLeads, walk-later, IsHeard, heard-tells, then-as, front-last, ends-later, OpeningStory, StepStory, has_to, IsFileOf, ThenOf, AskedOf, IsTold, TaleLaws, IsQuiet, AsksFor}
+use Rattle.core_answers.proofs.Prelude.{◌≡◌, ◌≤◌, ◌-◌, ◌⊎◌, inl, inr, ℕ, zero, suc, Bool, true, false, List, [], ◌∷◌, ◌++◌, length, take, drop, slice_get, Option, Some, None, Result, refl, sym, ap, subst, ◌∙◌, arith, append_assoc, if◌then◌else◌, All-nil, Attr, Mode, Answer, Fault, Entry, Began, Call, Reply, Op, Asks, look_up, Asked, Rooted, PlaceOf, UnderWay, Terms, IsDelivered, Asked-grow, Asked-wide, Rooted-wide, length_last, Step, Shelf, Turn, Opening, OpeningPhase, Walk, walk_of, Mounted, Machine, PathMachine, IsNamed, front_of, last_of, machine_of, file_of, Starts, Resumes, Takes, State, Busy, Setup, of_name, of_walk, in_flight, IsCounted, Counts, Awaits, PathOr, awaits-laws, begins-unbegun, counts-calls, WalkAwaits, all-starts, all-resumes, all-takes, IsNameTold, NamesTold, names-later, LeadsTo, leads-from, leads-later, WalkLeads, walk-later, IsHeard, heard-tells, then-as, front-last, ends-later, OpeningStory, StepStory, has_to, IsFileOf, ThenOf, AskedOf, IsTold, TaleLaws, IsQuiet, AsksFor}
 use Rattle.claims.specs.Asks.{create_guarded, create_unchecked}
 use Rattle.core_facts.specs.InFlight.{of_file, path_by}
 use Rattle.core_facts.proofs.OpenStory.{MayMake, missing, found, made, GotLast, OpenAnswer}
@@ -13,8 +13,8 @@ use Rattle.world_model.specs.declared.op.Op.TheVariants as ops
 use Rattle.claims.specs.Asks as asks
 use Rattle.claims.specs.CallsAsked.{NoneBegan}
 use Rattle.world_model.specs.Leads as leads
-use Rattle.client_shelf.specs.declared.next.Next.TheVariants as nexts
-use Rattle.file_ops.specs.declared.opening.OpeningStep.TheVariants as opening_steps
+use Rattle.client_shelf.specs.declared.step.Step.TheVariants as nexts
+use Rattle.file_ops.specs.declared.opening.OpeningPhase.TheVariants as opening_steps
 use Rattle.file_ops.specs.Opening as opening
 use Rattle.name_ops.specs.Walking as walking
 use Rattle.op_machines.specs.declared.machine.Machine.TheVariants as machines
@@ -22,7 +22,7 @@ use Rattle.op_machines.specs.declared.opener.Opener.TheVariants as openers
 use Rattle.op_machines.specs.PathSteps as paths
 use Rattle.client_core.specs.declared.lane.State.TheVariants.{Over as Ends}
 use Rattle.core_answers.specs.rows.OpenCalls.{IsMadeForOpen, OpensAsk}
-use Rattle.core_facts.proofs.OpenPath.{OpenRuns, Over, Step, open-resumes, open-takes}
+use Rattle.core_facts.proofs.OpenPath.{OpenRuns, Over, StepIs, open-resumes, open-takes}
 use Rattle.core_answers.proofs.rows.ListStory.{under-until}
 
 -- ---- lists of names
@@ -109,7 +109,7 @@ module _ (m : Mounted) where
     may-later d (has_to is) = has_to is
     may-later d (missing reply is a none) = missing reply is (asked-on h e x _ reply a) none
 
-    step-later : (d : List ℕ) (step : OpeningStep) → StepStory m.root h x path mode d step → StepStory m.root (h ++ e ∷ []) x path mode d step
+    step-later : (d : List ℕ) (step : OpeningPhase) → StepStory m.root h x path mode d step → StepStory m.root (h ++ e ∷ []) x path mode d step
     step-later d opening_steps.Look s = tt
     step-later d opening_steps.Make s = may-later d s
     step-later d opening_steps.Find s = tt
@@ -159,10 +159,10 @@ module _ (m : Mounted) where
   Shelved h shelf = NamesTold h shelf.names
 
   -- what a step of an open comes to
-  abbrev Comes : List Entry → ℕ → Op → Next → Machine → Type 0
-  Comes h x op next new = (slot : ℕ) (mode : Mode) (path : List (List ℕ)) → op ≡ ops.OpenFile slot mode path → IsNamed path → Step m.root h x path mode m.nocto next new
+  abbrev Comes : List Entry → ℕ → Op → Step → Machine → Type 0
+  Comes h x op next new = (slot : ℕ) (mode : Mode) (path : List (List ℕ)) → op ≡ ops.OpenFile slot mode path → IsNamed path → StepIs m.root h x path mode m.nocto next new
 
-  asks-all : (h : List Entry) (x : ℕ) (op : Op) (next : Next) (before : ℕ) (new : Machine) → Comes h x op next new → AskedOf Awaits next new
+  asks-all : (h : List Entry) (x : ℕ) (op : Op) (next : Step) (before : ℕ) (new : Machine) → Comes h x op next new → AskedOf Awaits next new
       → ((slot : ℕ) (mode : Mode) (path : List (List ℕ)) → op ≡ ops.OpenFile slot mode path → IsNamed path → Counts next before new) → AsksFor (Caused h x op) next
   asks-all h x op (nexts.Send call) before new t e c = λ slot mode path is named.
       wanted m.root h x path mode m.nocto new call (t slot mode path is named) e (let more = (c slot mode path is named).0 in omega (arith, more))
@@ -177,21 +177,21 @@ module _ (m : Mounted) where
       inl (record { at = k.at; name = k.name; d = k.d; there = k.there; leads = leads-later m.root h e (take k.at (front_of path)) k.d k.leads; is = k.is })
   wants-later h e x path mode call (inr k) = inr (record { o = k.o; story = story-later h e x path mode k.o k.story; is = k.is })
 
-  for-open : (h : List Entry) (x : ℕ) (op : Op) (next : Next) (new : Machine)
-      → ((slot : ℕ) (mode : Mode) (path : List (List ℕ)) → op ≡ ops.OpenFile slot mode path → IsNamed path → Step m.root h x path mode m.nocto next new)
+  for-open : (h : List Entry) (x : ℕ) (op : Op) (next : Step) (new : Machine)
+      → ((slot : ℕ) (mode : Mode) (path : List (List ℕ)) → op ≡ ops.OpenFile slot mode path → IsNamed path → StepIs m.root h x path mode m.nocto next new)
       → ThenOf (λ k. Story h x op (Busy k)) (λ a. Story h x op (Ends a)) next new
   for-open h x op (nexts.Send call) new t = t
   for-open h x op nexts.Wait new t = t
   for-open h x op (nexts.Done answer) new t = t
 
-  step-as : (h : List Entry) (x : ℕ) (path : List (List ℕ)) (mode : Mode) (next : Next) (to new : Machine) → new ≡ to → Step m.root h x path mode m.nocto next to
-      → Step m.root h x path mode m.nocto next new
-  step-as h x path mode next to new is t = subst (λ (k : Machine). Step m.root h x path mode m.nocto next k) (sym is) t
+  step-as : (h : List Entry) (x : ℕ) (path : List (List ℕ)) (mode : Mode) (next : Step) (to new : Machine) → new ≡ to → StepIs m.root h x path mode m.nocto next to
+      → StepIs m.root h x path mode m.nocto next new
+  step-as h x path mode next to new is t = subst (λ (k : Machine). StepIs m.root h x path mode m.nocto next k) (sym is) t
 
   heard-all : (h : List Entry) (x : ℕ) (op : Op) (machine : Machine) (came : Result Reply Fault) (told : IsTold Awaits Caused h x op machine came) → IsHeard m.root h came told.call
   heard-all h x op machine came told reply is = Asked-wide h x (length h) 0 (length h) told.call reply (omega arith) (omega arith) (told.heard reply is).asked
 
-  starts-if : (b : Bool) (h : List Entry) (x lane slot : ℕ) (mode : Mode) (path : List (List ℕ)) (wsize : ℕ) (turn : Turn) (old : Shelf) (next : Next) (new : PathMachine) (after : Shelf)
+  starts-if : (b : Bool) (h : List Entry) (x lane slot : ℕ) (mode : Mode) (path : List (List ℕ)) (wsize : ℕ) (turn : Turn) (old : Shelf) (next : Step) (new : PathMachine) (after : Shelf)
       → NamesTold h old.names
       → paths.StartsIf b wsize (record {
         walk = walk_of m.root (front_of path);
@@ -201,7 +201,7 @@ module _ (m : Mounted) where
           opening = record { dir = m.root; name = last_of path; mode = mode; nocto = m.nocto; moment = 0; step = opening.first_step mode; asked = false; put_off = 0 };
         });
         arrived = false;
-      }) turn old next new after → Step m.root h x path mode m.nocto next (machines.Path new)
+      }) turn old next new after → StepIs m.root h x path mode m.nocto next (machines.Path new)
   starts-if true h x lane slot mode path wsize turn old next new after t s =
       then-as (OpenRuns m.root h x path mode m.nocto) (Over m.root h x path mode m.nocto) (nexts.Done (answers.Refused faults.Slot)) next (machines.Path new) s.0
       (inr (faults.Slot, refl, λ is. absurd (let no_way : faults.Slot ≡ faults.Kind = is in cc)))
@@ -306,7 +306,7 @@ module _ (m : Mounted) where
         leads = leads-from m.root terms.origin before after (length before) y (front_of path) k.o.dir (omega (arith, there)) rooted k.story.leads;
       }
 
-      at : (s : OpeningStep) → k.o.step ≡ s → call ≡ opening.call_of k.o s
+      at : (s : OpeningPhase) → k.o.step ≡ s → call ≡ opening.call_of k.o s
       at s is = k.is ∙ ap (opening.call_of k.o) is
 
       looks : call ≡ look_up k.o.dir k.o.name → Asks terms (before ++ after) x y (ops.OpenFile slot mode path) call
@@ -324,7 +324,7 @@ module _ (m : Mounted) where
       gets file is (made making attr wcc mk a) =
           asks.opens_made slot mode path k.o.dir (last_of path) file making attr wcc refl placed mk (asked-until before after x y making _ there a) is
 
-      by : (s : OpeningStep) → k.o.step ≡ s → StepStory m.root before x path mode k.o.dir s → Asks terms (before ++ after) x y (ops.OpenFile slot mode path) call
+      by : (s : OpeningPhase) → k.o.step ≡ s → StepStory m.root before x path mode k.o.dir s → Asks terms (before ++ after) x y (ops.OpenFile slot mode path) call
       by opening_steps.Look is s = looks (at opening_steps.Look is)
       by opening_steps.Find is s = looks (at opening_steps.Find is)
       by opening_steps.Make is s = makes (at opening_steps.Make is) s

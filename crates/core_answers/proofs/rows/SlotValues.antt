@@ -1,9 +1,9 @@
 -- Whole rows of the answers of syncs, closes, writes, fills and reads: with their values.
-use Rattle.core_answers.proofs.Prelude.{◌≡◌, ℕ, List, Result, refl, ap, subst, ◌∙◌, Fault, Value, Entry, Reply, Op, Ended, Next, Shelf, Turn, file_to_write, file_at, CloseFile, ReadFile, SyncFile, WriteFile, Mounted, Machine, machine_of, Starts, Resumes, Takes, State, Busy, Over, Setup, View, Reaches, begins-unbegun, ThenOf}
+use Rattle.core_answers.proofs.Prelude.{◌≡◌, ℕ, List, Result, refl, ap, subst, ◌∙◌, Fault, Value, Entry, Reply, Op, Ended, Step, Shelf, Turn, file_to_write, file_at, CloseFile, ReadFile, SyncFile, WriteFile, Mounted, Machine, machine_of, Starts, Resumes, Takes, State, Busy, Over, Setup, View, Reaches, begins-unbegun, ThenOf}
 use Rattle.std.specs.FinMap as finite
 use Rattle.world_model.specs.declared.answer.Answer.TheVariants as answers
 use Rattle.world_model.specs.declared.op.Op.TheVariants as ops
-use Rattle.client_shelf.specs.declared.next.Next.TheVariants as nexts
+use Rattle.client_shelf.specs.declared.step.Step.TheVariants as nexts
 use Rattle.op_machines.specs.declared.file_machine.FileMachine.TheVariants as files
 use Rattle.op_machines.specs.declared.machine.Machine.TheVariants as machines
 use Rattle.core_facts.proofs.Stories.{StoryLaws, reached-answered}
@@ -83,25 +83,25 @@ begins-so mounted lane (ops.List path) = tt
 
 -- ---- a step
 
-abbrev Then : Kind → Next → Machine → Type 0
+abbrev Then : Kind → Step → Machine → Type 0
 Then kind next new = ThenOf (λ m. ValueState kind (Busy m)) (λ a. ValueState kind (Over a)) next new
 
-then-so : (kind : Kind) (next : Next) (new : Machine) → Gives (Valued kind) next → Runs kind new → Then kind next new
+then-so : (kind : Kind) (next : Step) (new : Machine) → Gives (Valued kind) next → Runs kind new → Then kind next new
 then-so kind (nexts.Send call) new g r = r
 then-so kind nexts.Wait new g r = r
 then-so kind (nexts.Done answer) new g r = g
 
-others-give : (next : Next) → Gives (Valued others) next
+others-give : (next : Step) → Gives (Valued others) next
 others-give (nexts.Send call) = tt
 others-give nexts.Wait = tt
 others-give (nexts.Done (answers.Done value)) = tt
 others-give (nexts.Done (answers.Refused fault)) = tt
 
-read-runs : (count : ℕ) (m : ReadFile) (next : Next) (machine : ReadFile) (new : Machine) → m.count ≡ count → new ≡ machines.File (files.Read machine) → ReadStep count m next machine
+read-runs : (count : ℕ) (m : ReadFile) (next : Step) (machine : ReadFile) (new : Machine) → m.count ≡ count → new ≡ machines.File (files.Read machine) → ReadStep count m next machine
     → Then (reads count) next new
 read-runs count m next machine new asked is s = then-so (reads count) next new s.gives (record { m = machine; is = is; asked = s.same ∙ asked; space = s.space })
 
-all-starts : (kind : Kind) (machine : Machine) (wsize : ℕ) (turn : Turn) (old : Shelf) (next : Next) (new : Machine) (after : Shelf) → Runs kind machine → Starts wsize machine turn old next new after
+all-starts : (kind : Kind) (machine : Machine) (wsize : ℕ) (turn : Turn) (old : Shelf) (next : Step) (new : Machine) (after : Shelf) → Runs kind machine → Starts wsize machine turn old next new after
     → Then kind next new
 all-starts writes machine wsize turn old next new after k s = by (subst (λ (n : Machine). Starts wsize n turn old next new after) k.is s)
   where
@@ -125,7 +125,7 @@ all-starts (reads count) machine wsize turn old next new after k s = by (subst (
         (read-starts count (finite.get old.opens (k.m.lane, k.m.slot)) turn k.m old.pages old.back next t.step.machine after.pages k.asked k.space t.step.step)
 all-starts others machine wsize turn old next new after k s = then-so others next new (others-give next) tt
 
-all-resumes : (kind : Kind) (machine : Machine) (wsize : ℕ) (turn : Turn) (old : Shelf) (next : Next) (new : Machine) (after : Shelf) → Runs kind machine
+all-resumes : (kind : Kind) (machine : Machine) (wsize : ℕ) (turn : Turn) (old : Shelf) (next : Step) (new : Machine) (after : Shelf) → Runs kind machine
     → Resumes wsize machine turn old next new after → Then kind next new
 all-resumes writes machine wsize turn old next new after k s = by (subst (λ (n : Machine). Resumes wsize n turn old next new after) k.is s)
   where
@@ -149,7 +149,7 @@ all-resumes (reads count) machine wsize turn old next new after k s = by (subst 
         (read-resumes count k.m.reading turn.room k.m old.pages old.back next t.step.machine after.pages refl k.space t.step.step)
 all-resumes others machine wsize turn old next new after k s = then-so others next new (others-give next) tt
 
-all-takes : (kind : Kind) (machine : Machine) (wsize : ℕ) (sent turn : Turn) (came : Result Reply Fault) (old : Shelf) (next : Next) (new : Machine) (after : Shelf) → Runs kind machine
+all-takes : (kind : Kind) (machine : Machine) (wsize : ℕ) (sent turn : Turn) (came : Result Reply Fault) (old : Shelf) (next : Step) (new : Machine) (after : Shelf) → Runs kind machine
     → Takes wsize machine sent turn came old next new after → Then kind next new
 all-takes writes machine wsize sent turn came old next new after k s = by (subst (λ (n : Machine). Takes wsize n sent turn came old next new after) k.is s)
   where

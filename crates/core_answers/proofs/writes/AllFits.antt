@@ -1,9 +1,9 @@
 -- Along a history each WRITE that waits is one of an operation that sends bytes of its file, and each COMMIT of one that waits for it.
-use Rattle.core_answers.proofs.Prelude.{◌≡◌, ◌≤◌, ◌+◌, ◌-◌, ◌&&◌, ◌==◌, ℕ, Bool, true, false, List, Option, Some, None, Result, Ok, Err, refl, sym, ap, subst, ◌∙◌, arith, nat_lt, if◌then◌else◌, eqb-true, Fault, Call, Reply, chosen, Pending, of_file, Next, Shelf, Turn, is_first, CloseFile, Closing, PutFile, Putting, Saving, SyncFile, Syncing, Writing, by-step, Pair, Deed, Look, Seek, Move, Remove, RemoveFile, Walk, WalkNext, access_call, deed_call, link_call, found_by, look_again, text_call, rename_call, sym_link_call, FileMachine, Machine, NameMachine, Opener, PathMachine, file_of, slot_taken, begun_at, placed, Starts, Resumes, Takes, of_name, of_walk, visit_by, own_or, removal_by, of_saving, of_writing, of_syncing, of_closing, of_putting, in_flight, Counts, counts-calls, of_path, path-file, WalkAwaits, OwnOr, ExpectLaws, flies_path, flies_of, RemoveAwaits, AskedOf, KeptOf}
+use Rattle.core_answers.proofs.Prelude.{◌≡◌, ◌≤◌, ◌+◌, ◌-◌, ◌&&◌, ◌==◌, ℕ, Bool, true, false, List, Option, Some, None, Result, Ok, Err, refl, sym, ap, subst, ◌∙◌, arith, nat_lt, if◌then◌else◌, eqb-true, Fault, Call, Reply, chosen, Pending, of_file, Step, Shelf, Turn, is_first, CloseFile, Closing, PutFile, Putting, Saving, SyncFile, Syncing, Writing, by-step, Pair, Deed, Look, Seek, Move, Remove, RemoveFile, Walk, WalkStep, access_call, deed_call, link_call, found_by, look_again, text_call, rename_call, sym_link_call, FileMachine, Machine, NameMachine, Opener, PathMachine, file_of, slot_taken, begun_at, placed, Starts, Resumes, Takes, of_name, of_walk, visit_by, own_or, removal_by, of_saving, of_writing, of_syncing, of_closing, of_putting, in_flight, Counts, counts-calls, of_path, path-file, WalkAwaits, OwnOr, ExpectLaws, flies_path, flies_of, RemoveAwaits, AskedOf, KeptOf}
 use Rattle.core_facts.proofs.Awaited.{PairOr}
 use Rattle.core_facts.proofs.Flights.{resumes-stay, takes-stay}
 use Rattle.core_facts.proofs.NamesAwaited.{NameAwaits, Sends, name-goes, name-takes}
-use Rattle.client_shelf.specs.declared.next.Next.TheVariants as nexts
+use Rattle.client_shelf.specs.declared.step.Step.TheVariants as nexts
 use Rattle.file_ops.specs.declared.close_file.Closing.TheVariants as closing
 use Rattle.file_ops.specs.declared.put_file.Putting.TheVariants as putting
 use Rattle.file_ops.specs.declared.sync_file.Syncing.TheVariants as syncing
@@ -14,7 +14,7 @@ use Rattle.file_ops.specs.Saves as saves
 use Rattle.file_ops.specs.Syncs as syncs
 use Rattle.file_ops.specs.WriteFile as writes
 use Rattle.name_ops.specs.declared.dir_change.DirDeed.TheVariants as deeds
-use Rattle.name_ops.specs.declared.walk.WalkNext.TheVariants as walks
+use Rattle.name_ops.specs.declared.walk.WalkStep.TheVariants as walks
 use Rattle.name_ops.specs.ListDir as listing
 use Rattle.name_ops.specs.RemoveFile as removals
 use Rattle.name_ops.specs.Stat as stats
@@ -31,7 +31,7 @@ use Rattle.core_answers.proofs.writes.Plain.{IsOther}
 
 -- ---- walks ask for LOOKUPs
 
-abbrev WalkOther : WalkNext → Type 0
+abbrev WalkOther : WalkStep → Type 0
 WalkOther (walks.Send call) = IsOther call
 WalkOther walks.Wait = Unit {0}
 WalkOther (walks.At dir) = Unit {0}
@@ -57,7 +57,7 @@ followed-other : (busy : Bool) (w : Walk) (name : List ℕ) (told : Result (List
 followed-other true w name told turn heard = tt
 followed-other false w name told turn heard = told-other told w turn heard
 
-took-other : (name : Option (List ℕ)) (w : Walk) (sent turn : Turn) (came : Result Reply Fault) (old : Shelf) (next : WalkNext) (new : Walk) (after : Shelf)
+took-other : (name : Option (List ℕ)) (w : Walk) (sent turn : Turn) (came : Result Reply Fault) (old : Shelf) (next : WalkStep) (new : Walk) (after : Shelf)
     → walking.Takes name w sent turn came old next new after → WalkOther next
 took-other None w sent turn came old next new after t = subst WalkOther (sym t.next_is) tt
 took-other (Some name) w sent turn came old next new after t =
@@ -126,43 +126,43 @@ commits_of (machines.Name m) = None
 abbrev pub CallFits : Machine → Call → Type 0
 CallFits m call = Fits (flies_of m) (commits_of m) call
 
-abbrev pub Asks : Next → Machine → Type 0
+abbrev pub Asks : Step → Machine → Type 0
 Asks next m = AskFits next (flies_of m) (commits_of m)
 
-asked-of : (next : Next) (new : Machine) → Asks next new → AskedOf CallFits next new
+asked-of : (next : Step) (new : Machine) → Asks next new → AskedOf CallFits next new
 asked-of (nexts.Send call) new a = a
 asked-of nexts.Wait new a = a
 asked-of (nexts.Done answer) new a = a
 
-names-asks : (next : Next) (m : NameMachine) (before : ℕ) → Sends next (NameAwaits m) → Counts next before (machines.Name m) → Asks next (machines.Name m)
+names-asks : (next : Step) (m : NameMachine) (before : ℕ) → Sends next (NameAwaits m) → Counts next before (machines.Name m) → Asks next (machines.Name m)
 names-asks (nexts.Send call) m before s c = let one = c.0 in other-fits None None call refl (name-other m call (omega (arith, one)) s)
 names-asks nexts.Wait m before s c = tt
 names-asks (nexts.Done answer) m before s c = tt
 
 module _ (wsize : ℕ) (turn : Turn) where
-  abbrev PathAsks : Next → PathMachine → Type 0
+  abbrev PathAsks : Step → PathMachine → Type 0
   PathAsks next m = Asks next (machines.Path m)
 
-  all-as : (next : Next) (to new : Machine) → new ≡ to → Asks next to → Asks next new
+  all-as : (next : Step) (to new : Machine) → new ≡ to → Asks next to → Asks next new
   all-as next to new is a = subst (λ (m : Machine). Asks next m) (sym is) a
 
-  arrived-as : (next : Next) (m : PathMachine) (opener : Opener) (new : PathMachine) → m.arrived ≡ true → new ≡ record m { opener = opener } → Asks next (machines.File (file_of opener))
+  arrived-as : (next : Step) (m : PathMachine) (opener : Opener) (new : PathMachine) → m.arrived ≡ true → new ≡ record m { opener = opener } → Asks next (machines.File (file_of opener))
       → PathAsks next new
   arrived-as next m opener new there is a =
       subst (λ (n : PathMachine). PathAsks next n) (sym is) (subst (λ (b : Bool). PathAsks next (record m { opener = opener; arrived = b })) (sym there) a)
 
-  way-asks : (step : WalkNext) (m : PathMachine) (old : Shelf) (next : Next) (new : PathMachine) (after : Shelf) → m.arrived ≡ false → WalkOther step
+  way-asks : (step : WalkStep) (m : PathMachine) (old : Shelf) (next : Step) (new : PathMachine) (after : Shelf) → m.arrived ≡ false → WalkOther step
       → paths.Follows step wsize m turn old next new after → PathAsks next new
   way-asks (walks.Send call) m old next new after way o f =
-      subst (λ (n : Next). PathAsks n new) (sym f.0)
+      subst (λ (n : Step). PathAsks n new) (sym f.0)
       (other-fits _ _ call (ap (λ (n : PathMachine). flies_path n.arrived n.opener) f.1 ∙ ap (λ (b : Bool). flies_path b m.opener) way) o)
-  way-asks walks.Wait m old next new after way o f = subst (λ (n : Next). PathAsks n new) (sym f.0) tt
+  way-asks walks.Wait m old next new after way o f = subst (λ (n : Step). PathAsks n new) (sym f.0) tt
   way-asks (walks.At dir) m old next new after way o f =
       arrived-as next (record m { opener = placed dir m.opener; arrived = true }) f.opener new refl f.machine_is
       (file-resumes wsize turn (file_of (placed dir m.opener)) old next (file_of f.opener) after f.step)
-  way-asks (walks.Refused fault) m old next new after way o f = subst (λ (n : Next). PathAsks n new) (sym f.0) tt
+  way-asks (walks.Refused fault) m old next new after way o f = subst (λ (n : Step). PathAsks n new) (sym f.0) tt
 
-  path-resumes : (b : Bool) (m : PathMachine) (old : Shelf) (next : Next) (new : PathMachine) (after : Shelf) → m.arrived ≡ b
+  path-resumes : (b : Bool) (m : PathMachine) (old : Shelf) (next : Step) (new : PathMachine) (after : Shelf) → m.arrived ≡ b
       → paths.PathResumes b wsize m turn old next new after → PathAsks next new
   path-resumes true m old next new after is r =
       arrived-as next m r.opener new is r.machine_is (file-resumes wsize turn (file_of m.opener) old next (file_of r.opener) after r.step)
@@ -170,11 +170,11 @@ module _ (wsize : ℕ) (turn : Turn) where
       way-asks (walking.go_next m.walk turn old) (record m { walk = walking.go_after m.walk turn old }) (walking.go_shelf m.walk turn old) next new after is
       (go-other m.walk turn old) r
 
-  path-starts : (taken : Bool) (m : PathMachine) (old : Shelf) (next : Next) (new : PathMachine) (after : Shelf) → paths.StartsIf taken wsize m turn old next new after → PathAsks next new
-  path-starts true m old next new after s = subst (λ (n : Next). PathAsks n new) (sym s.0) tt
+  path-starts : (taken : Bool) (m : PathMachine) (old : Shelf) (next : Step) (new : PathMachine) (after : Shelf) → paths.StartsIf taken wsize m turn old next new after → PathAsks next new
+  path-starts true m old next new after s = subst (λ (n : Step). PathAsks n new) (sym s.0) tt
   path-starts false m old next new after s = path-resumes m.arrived (record m { opener = begun_at (turn.moment - 1) m.opener }) old next new after refl s
 
-  path-takes : (sent : Turn) (came : Result Reply Fault) (b : Bool) (m : PathMachine) (old : Shelf) (next : Next) (new : PathMachine) (after : Shelf) → m.arrived ≡ b
+  path-takes : (sent : Turn) (came : Result Reply Fault) (b : Bool) (m : PathMachine) (old : Shelf) (next : Step) (new : PathMachine) (after : Shelf) → m.arrived ≡ b
       → paths.PathTakes b wsize m sent turn came old next new after → PathAsks next new
   path-takes sent came true m old next new after is s =
       arrived-as next m s.opener new is s.machine_is (file-takes wsize turn sent came (file_of m.opener) old next (file_of s.opener) after s.step)
@@ -182,7 +182,7 @@ module _ (wsize : ℕ) (turn : Turn) where
       way-asks s.step s.walked s.heard next new after (ap (λ (n : PathMachine). n.arrived) s.walked_is ∙ is)
       (took-other (walking.waiting_name m.walk) m.walk sent turn came old s.step s.walked.walk s.heard s.takes) s.follows
 
-  pub all-starts : (m : Machine) (old : Shelf) (next : Next) (new : Machine) (after : Shelf) → Starts wsize m turn old next new after → Asks next new
+  pub all-starts : (m : Machine) (old : Shelf) (next : Step) (new : Machine) (after : Shelf) → Starts wsize m turn old next new after → Asks next new
   all-starts (machines.File m) old next new after s = all-as next (machines.File s.machine) new s.machine_is (file-starts wsize turn m old next s.machine after s.step)
   all-starts (machines.Path m) old next new after s = all-as next (machines.Path s.machine) new s.machine_is (path-starts (slot_taken m.opener old.opens) m old next s.machine after s.step)
   all-starts (machines.Name m) old next new after s =
@@ -190,7 +190,7 @@ module _ (wsize : ℕ) (turn : Turn) where
       (names-asks next s.machine (in_flight (machines.Name m)) (name-goes m turn old next s.machine after s.step)
       (subst (Counts next (in_flight (machines.Name m))) s.machine_is (counts-calls.resume wsize (machines.Name m) turn old next new after s tt)))
 
-  pub all-resumes : (m : Machine) (old : Shelf) (next : Next) (new : Machine) (after : Shelf) → Resumes wsize m turn old next new after → Asks next new
+  pub all-resumes : (m : Machine) (old : Shelf) (next : Step) (new : Machine) (after : Shelf) → Resumes wsize m turn old next new after → Asks next new
   all-resumes (machines.File m) old next new after s = all-as next (machines.File s.machine) new s.machine_is (file-resumes wsize turn m old next s.machine after s.step)
   all-resumes (machines.Path m) old next new after s = all-as next (machines.Path s.machine) new s.machine_is (path-resumes m.arrived m old next s.machine after refl s.step)
   all-resumes (machines.Name m) old next new after s =
@@ -198,7 +198,7 @@ module _ (wsize : ℕ) (turn : Turn) where
       (names-asks next s.machine (in_flight (machines.Name m)) (name-goes m turn old next s.machine after s.step)
       (subst (Counts next (in_flight (machines.Name m))) s.machine_is (counts-calls.resume wsize (machines.Name m) turn old next new after s tt)))
 
-  pub all-takes : (sent : Turn) (came : Result Reply Fault) (m : Machine) (old : Shelf) (next : Next) (new : Machine) (after : Shelf) (others : ℕ) → in_flight m ≡ others + 1
+  pub all-takes : (sent : Turn) (came : Result Reply Fault) (m : Machine) (old : Shelf) (next : Step) (new : Machine) (after : Shelf) (others : ℕ) → in_flight m ≡ others + 1
       → Takes wsize m sent turn came old next new after → Asks next new
   all-takes sent came (machines.File m) old next new after others one s =
       all-as next (machines.File s.machine) new s.machine_is (file-takes wsize turn sent came m old next s.machine after s.step)
@@ -269,7 +269,7 @@ one-commit (machines.Path m) f is = by m.arrived refl is
 one-commit (machines.Name m) f is = none-some f is
 
 -- a save that waits for its COMMIT waits
-pub record Rests (next : Next) (s new : Saving) : Type 0 where
+pub record Rests (next : Step) (s new : Saving) : Type 0 where
   pub waits : next ≡ nexts.Wait
   pub same : new ≡ s
 
@@ -315,7 +315,7 @@ ends-not : (answer : _) {X : Type 0} → nexts.Done answer ≡ nexts.Wait → X
 ends-not answer {X} e = absurd (let no_way : nexts.Done answer ≡ nexts.Wait = e in cc)
 
 module _ (wsize : ℕ) (turn : Turn) (f : List ℕ) where
-  sync-keeps : (at : Syncing) (m : SyncFile) (old : Shelf) (next : Next) (state : Syncing) (new : Shelf) → commits_sync at ≡ Some f → 1 ≤ of_syncing at
+  sync-keeps : (at : Syncing) (m : SyncFile) (old : Shelf) (next : Step) (state : Syncing) (new : Shelf) → commits_sync at ≡ Some f → 1 ≤ of_syncing at
       → syncs.Resumes at wsize m turn old next state new → commits_sync state ≡ Some f
   sync-keeps syncing.Idle m old next state new is some s = none-some f is
   sync-keeps (syncing.Saves saving) m old next state new is some s = by (is_first m.lane old.order) s
@@ -330,7 +330,7 @@ module _ (wsize : ℕ) (turn : Turn) (f : List ℕ) where
           (λ result w k. ends-not (syncs.answer_of result) w)
           q.gives r.waits q.follows.state_is
 
-  close-keeps : (at : Closing) (m : CloseFile) (old : Shelf) (next : Next) (state : Closing) (new : Shelf) → commits_close at ≡ Some f → 1 ≤ of_closing at
+  close-keeps : (at : Closing) (m : CloseFile) (old : Shelf) (next : Step) (state : Closing) (new : Shelf) → commits_close at ≡ Some f → 1 ≤ of_closing at
       → closes.Resumes at wsize m turn old next state new → commits_close state ≡ Some f
   close-keeps closing.Idle m old next state new is some s = none-some f is
   close-keeps (closing.Queued saving) m old next state new is some s = none-some f is
@@ -348,11 +348,11 @@ module _ (wsize : ℕ) (turn : Turn) (f : List ℕ) where
           (λ result w k. ends-not (syncs.answer_of result) w)
           g.gives r.waits g.follows
 
-  record WriteRests (next : Next) (state : Writing) : Type 0 where
+  record WriteRests (next : Step) (state : Writing) : Type 0 where
     waits : next ≡ nexts.Wait
     same : commits_write state ≡ Some f
 
-  write-keeps : (at : Writing) (lane : ℕ) (old : Shelf) (next : Next) (state : Writing) (after : Shelf) → commits_write at ≡ Some f → 1 ≤ of_writing at
+  write-keeps : (at : Writing) (lane : ℕ) (old : Shelf) (next : Step) (state : Writing) (after : Shelf) → commits_write at ≡ Some f → 1 ≤ of_writing at
       → writes.ResumesIn at wsize lane turn old next state after → WriteRests next state
   write-keeps writing.Idle lane old next state after is some s = none-some f is
   write-keeps (writing.Room file saving) lane old next state after is some s = by (is_first lane old.order) s
@@ -368,7 +368,7 @@ module _ (wsize : ℕ) (turn : Turn) (f : List ℕ) where
           (λ result w k. ends-not (syncs.answer_of result) w)
           q.told r.waits q.leads
 
-  put-keeps : (at : Putting) (m : PutFile) (old : Shelf) (next : Next) (new : PutFile) (after : Shelf) → commits_put at m.write.state ≡ Some f
+  put-keeps : (at : Putting) (m : PutFile) (old : Shelf) (next : Step) (new : PutFile) (after : Shelf) → commits_put at m.write.state ≡ Some f
       → 1 ≤ of_putting at m.opening m.write.state → puts.Resumes at wsize m turn old next new after → commits_put new.state new.write.state ≡ Some f
   put-keeps putting.Idle m old next new after is some s = none-some f is
   put-keeps putting.Opens m old next new after is some s = none-some f is
@@ -376,7 +376,7 @@ module _ (wsize : ℕ) (turn : Turn) (f : List ℕ) where
       let r = write-keeps m.write.state m.write.lane old s.told s.written s.mid is some s.resumes in
       ap (λ (p : PutFile). commits_put p.state p.write.state) s.goes.machine_is ∙ follows s.told r.waits s.goes.follows r.same
     where
-      follows : (told : Next) → told ≡ nexts.Wait → puts.AfterWrite told wsize m.write.lane file turn s.mid next new.state after → commits_write s.written ≡ Some f
+      follows : (told : Step) → told ≡ nexts.Wait → puts.AfterWrite told wsize m.write.lane file turn s.mid next new.state after → commits_write s.written ≡ Some f
           → commits_put new.state s.written ≡ Some f
       follows (nexts.Send call) w a k = sends-not call w
       follows nexts.Wait w a k = ap (λ (t : Putting). commits_put t s.written) a.1 ∙ k
@@ -394,7 +394,7 @@ module _ (wsize : ℕ) (turn : Turn) (f : List ℕ) where
           (λ result w k. ends-not (syncs.answer_of result) w)
           g.gives r.waits g.follows
 
-  file-keeps : (m : FileMachine) (old : Shelf) (next : Next) (new : FileMachine) (after : Shelf) → commits_file m ≡ Some f → 1 ≤ calls_of m
+  file-keeps : (m : FileMachine) (old : Shelf) (next : Step) (new : FileMachine) (after : Shelf) → commits_file m ≡ Some f → 1 ≤ calls_of m
       → steps.Resumes wsize m turn old next new after → commits_file new ≡ Some f
   file-keeps (files.Open m) old next new after is some s = none-some f is
   file-keeps (files.Read m) old next new after is some s = none-some f is
@@ -405,20 +405,20 @@ module _ (wsize : ℕ) (turn : Turn) (f : List ℕ) where
   file-keeps (files.Truncate m) old next new after is some s = none-some f is
   file-keeps (files.Put m) old next new after is some s = ap commits_file s.machine_is ∙ put-keeps m.state m old next s.machine after is some s.step
 
-  path-keeps : (b : Bool) (m : PathMachine) (old : Shelf) (next : Next) (new : PathMachine) (after : Shelf) → m.arrived ≡ b → commits_path b m.opener ≡ Some f → 1 ≤ of_path m
+  path-keeps : (b : Bool) (m : PathMachine) (old : Shelf) (next : Step) (new : PathMachine) (after : Shelf) → m.arrived ≡ b → commits_path b m.opener ≡ Some f → 1 ≤ of_path m
       → paths.PathResumes b wsize m turn old next new after → commits_path new.arrived new.opener ≡ Some f
   path-keeps false m old next new after there is some r = none-some f is
   path-keeps true m old next new after there is some r =
       ap (λ (n : PathMachine). commits_path n.arrived n.opener) r.machine_is ∙ ap (λ (b : Bool). commits_path b r.opener) there
       ∙ file-keeps (file_of m.opener) old next (file_of r.opener) after is (let same = path-file m there in omega (arith, some, same)) r.step
 
-  all-keeps : (m : Machine) (old : Shelf) (next : Next) (new : Machine) (after : Shelf) → commits_of m ≡ Some f → 1 ≤ in_flight m → Resumes wsize m turn old next new after
+  all-keeps : (m : Machine) (old : Shelf) (next : Step) (new : Machine) (after : Shelf) → commits_of m ≡ Some f → 1 ≤ in_flight m → Resumes wsize m turn old next new after
       → commits_of new ≡ Some f
   all-keeps (machines.File m) old next new after is some s = ap commits_of s.machine_is ∙ file-keeps m old next s.machine after is some s.step
   all-keeps (machines.Path m) old next new after is some s = ap commits_of s.machine_is ∙ path-keeps m.arrived m old next s.machine after refl is some s.step
   all-keeps (machines.Name m) old next new after is some s = none-some f is
 
-kept-of : (next : Next) (others : ℕ) (old new : Machine) → WhileGoing next (1 ≤ others → flies_of new ≡ flies_of old)
+kept-of : (next : Step) (others : ℕ) (old new : Machine) → WhileGoing next (1 ≤ others → flies_of new ≡ flies_of old)
     → (1 ≤ others → (f : List ℕ) → commits_of old ≡ Some f → commits_of new ≡ Some f) → KeptOf CallFits others old next new
 kept-of (nexts.Send call) others old new stays keeps =
     λ some c e. record { sends = λ f is. e.sends f (sym (stays some) ∙ is); writes = λ f is. stays some ∙ e.writes f is; commits_ = λ f is. keeps some f (e.commits_ f is) }

@@ -1,5 +1,5 @@
 -- Along a history each operation on a file whose call waits is the first in the order of its file.
-use Rattle.core_answers.proofs.Prelude.{◌≡◌, ◌≢◌, ◌+◌, ◌-◌, ◌⊎◌, inl, inr, ℕ, Bool, true, false, List, [], ◌∷◌, ◌++◌, length, Option, Some, None, position, slice_get, slice_set, Result, Err, refl, sym, ap, subst, ◌∙◌, Waiting, waiting_at, Fault, Entry, Began, Reply, Op, said_of, LaneFile, Next, Send, Wait, Done, Shelf, Turn, left, Closing, Putting, Syncing, Truncating, Writing, WalkNext, Mounted, FileMachine, Machine, Opener, PathMachine, machine_of, file_of, slot_taken, begun_at, placed, Starts, Resumes, Takes, Lane, Purpose, State, Busy, Over, Setup, is_busy, IsIdle, with_state, IsRefused, Leads, Stirs, counted, StartsLane, TakesAt, View, turn_at, unmade_turn, in_flight, Counts, counts-calls, begins-unbegun, of_path, path-file, taken_one, Known, lanes-stay, lanes-begin, lanes-under-way, at-set, at-push, get-push, by-place, set-other}
+use Rattle.core_answers.proofs.Prelude.{◌≡◌, ◌≢◌, ◌+◌, ◌-◌, ◌⊎◌, inl, inr, ℕ, Bool, true, false, List, [], ◌∷◌, ◌++◌, length, Option, Some, None, position, slice_get, slice_set, Result, Err, refl, sym, ap, subst, ◌∙◌, Waiting, waiting_at, Fault, Entry, Began, Reply, Op, said_of, LaneFile, Step, Send, Wait, Done, Shelf, Turn, left, Closing, Putting, Syncing, Truncating, Writing, WalkStep, Mounted, FileMachine, Machine, Opener, PathMachine, machine_of, file_of, slot_taken, begun_at, placed, Starts, Resumes, Takes, Lane, Purpose, State, Busy, Over, Setup, is_busy, IsIdle, with_state, IsRefused, Leads, Stirs, counted, StartsLane, TakesAt, View, turn_at, unmade_turn, in_flight, Counts, counts-calls, begins-unbegun, of_path, path-file, taken_one, Known, lanes-stay, lanes-begin, lanes-under-way, at-set, at-push, get-push, by-place, set-other}
 use Rattle.client_shelf.specs.LaneFiles.{added}
 use Rattle.core_facts.proofs.Keeping.{Keeps, taker-one}
 use Rattle.core_facts.proofs.LaneMarks.{idle-numbers, number_of}
@@ -9,7 +9,7 @@ use Rattle.file_ops.specs.declared.put_file.Putting.TheVariants as putting
 use Rattle.file_ops.specs.declared.sync_file.Syncing.TheVariants as syncing
 use Rattle.file_ops.specs.declared.truncate_file.Truncating.TheVariants as truncating
 use Rattle.file_ops.specs.declared.write_file.Writing.TheVariants as writing
-use Rattle.name_ops.specs.declared.walk.WalkNext.TheVariants as walks
+use Rattle.name_ops.specs.declared.walk.WalkStep.TheVariants as walks
 use Rattle.name_ops.specs.Walking as walking
 use Rattle.op_machines.specs.declared.file_machine.FileMachine.TheVariants as files
 use Rattle.op_machines.specs.declared.machine.Machine.TheVariants as machines
@@ -35,24 +35,24 @@ TurnOf (machines.File m) order = FileTurn m order
 TurnOf (machines.Path m) order = PathTurn m.arrived m.opener order
 TurnOf (machines.Name m) order = Unit {0}
 
-any-next : (next : Next) (X : Type 0) → X → Still next X
+any-next : (next : Step) (X : Type 0) → X → Still next X
 any-next (Send call) X x = x
 any-next Wait X x = x
 any-next (Done answer) X x = tt
 
 module _ (wsize : ℕ) (turn : Turn) where
-  abbrev OfPath : Next → PathMachine → List LaneFile → Type 0
+  abbrev OfPath : Step → PathMachine → List LaneFile → Type 0
   OfPath next m order = Still next (PathTurn m.arrived m.opener order)
 
-  all-as : (next : Next) (to new : Machine) (order : List LaneFile) → new ≡ to → Still next (TurnOf to order) → Still next (TurnOf new order)
+  all-as : (next : Step) (to new : Machine) (order : List LaneFile) → new ≡ to → Still next (TurnOf to order) → Still next (TurnOf new order)
   all-as next to new order is t = subst (λ (m : Machine). Still next (TurnOf m order)) (sym is) t
 
-  arrived-as : (next : Next) (m : PathMachine) (opener : Opener) (new : PathMachine) (order : List LaneFile) → m.arrived ≡ true → new ≡ record m { opener = opener }
+  arrived-as : (next : Step) (m : PathMachine) (opener : Opener) (new : PathMachine) (order : List LaneFile) → m.arrived ≡ true → new ≡ record m { opener = opener }
       → Still next (FileTurn (file_of opener) order) → OfPath next new order
   arrived-as next m opener new order there is t =
       subst (λ (n : PathMachine). OfPath next n order) (sym is) (subst (λ (b : Bool). Still next (PathTurn b opener order)) (sym there) t)
 
-  way-as : (next : Next) (m new : PathMachine) (order : List LaneFile) → m.arrived ≡ false → new ≡ m → OfPath next new order
+  way-as : (next : Step) (m new : PathMachine) (order : List LaneFile) → m.arrived ≡ false → new ≡ m → OfPath next new order
   way-as next m new order way is =
       subst (λ (n : PathMachine). OfPath next n order) (sym is) (any-next next _ (subst (λ (b : Bool). PathTurn b m.opener order) (sym way) tt))
 
@@ -60,7 +60,7 @@ module _ (wsize : ℕ) (turn : Turn) where
   placed-turn dir (openers.Open m) order = tt
   placed-turn dir (openers.Put m) order = tt
 
-  follows-path : (step : WalkNext) (m : PathMachine) (old : Shelf) (next : Next) (new : PathMachine) (after : Shelf) → m.arrived ≡ false
+  follows-path : (step : WalkStep) (m : PathMachine) (old : Shelf) (next : Step) (new : PathMachine) (after : Shelf) → m.arrived ≡ false
       → paths.Follows step wsize m turn old next new after → OfPath next new after.order
   follows-path (walks.Send call) m old next new after way f = way-as next m new after.order way f.1
   follows-path walks.Wait m old next new after way f = way-as next m new after.order way f.1
@@ -69,21 +69,21 @@ module _ (wsize : ℕ) (turn : Turn) where
       (file-resumes wsize turn (file_of (placed dir m.opener)) old next (file_of f.opener) after (placed-turn dir m.opener old.order) f.step)
   follows-path (walks.Refused fault) m old next new after way f = way-as next m new after.order way f.1
 
-  path-resumes : (b : Bool) (m : PathMachine) (old : Shelf) (next : Next) (new : PathMachine) (after : Shelf) → m.arrived ≡ b → PathTurn b m.opener old.order
+  path-resumes : (b : Bool) (m : PathMachine) (old : Shelf) (next : Step) (new : PathMachine) (after : Shelf) → m.arrived ≡ b → PathTurn b m.opener old.order
       → paths.PathResumes b wsize m turn old next new after → OfPath next new after.order
   path-resumes true m old next new after is t r =
       arrived-as next m r.opener new after.order is r.machine_is (file-resumes wsize turn (file_of m.opener) old next (file_of r.opener) after t r.step)
   path-resumes false m old next new after is t r =
       follows-path (walking.go_next m.walk turn old) (record m { walk = walking.go_after m.walk turn old }) (walking.go_shelf m.walk turn old) next new after is r
 
-  path-starts : (taken : Bool) (m : PathMachine) (old : Shelf) (next : Next) (new : PathMachine) (after : Shelf) → m.arrived ≡ false
+  path-starts : (taken : Bool) (m : PathMachine) (old : Shelf) (next : Step) (new : PathMachine) (after : Shelf) → m.arrived ≡ false
       → paths.StartsIf taken wsize m turn old next new after → OfPath next new after.order
   path-starts true m old next new after way s = way-as next m new after.order way s.1
   path-starts false m old next new after way s =
       path-resumes m.arrived (record m { opener = begun_at (turn.moment - 1) m.opener }) old next new after refl
       (subst (λ (b : Bool). PathTurn b (begun_at (turn.moment - 1) m.opener) old.order) (sym way) tt) s
 
-  path-takes : (sent : Turn) (came : Result Reply Fault) (b : Bool) (m : PathMachine) (old : Shelf) (next : Next) (new : PathMachine) (after : Shelf) (others : ℕ)
+  path-takes : (sent : Turn) (came : Result Reply Fault) (b : Bool) (m : PathMachine) (old : Shelf) (next : Step) (new : PathMachine) (after : Shelf) (others : ℕ)
       → m.arrived ≡ b → of_path m ≡ others + 1 → PathTurn b m.opener old.order → paths.PathTakes b wsize m sent turn came old next new after → OfPath next new after.order
   path-takes sent came true m old next new after others is one t s =
       arrived-as next m s.opener new after.order is s.machine_is
@@ -91,7 +91,7 @@ module _ (wsize : ℕ) (turn : Turn) where
   path-takes sent came false m old next new after others is one t s =
       follows-path s.step s.walked s.heard next new after (ap (λ (n : PathMachine). n.arrived) s.walked_is ∙ is) s.follows
 
-  pub all-starts : (m : Machine) (lane : ℕ) (old : Shelf) (next : Next) (new : Machine) (after : Shelf) → IsFreshFor lane m → Starts wsize m turn old next new after
+  pub all-starts : (m : Machine) (lane : ℕ) (old : Shelf) (next : Step) (new : Machine) (after : Shelf) → IsFreshFor lane m → Starts wsize m turn old next new after
       → Still next (TurnOf new after.order)
   all-starts (machines.File m) lane old next new after fresh s =
       all-as next (machines.File s.machine) new after.order s.machine_is (file-starts wsize turn m old next s.machine after s.step)
@@ -99,7 +99,7 @@ module _ (wsize : ℕ) (turn : Turn) where
       all-as next (machines.Path s.machine) new after.order s.machine_is (path-starts (slot_taken m.opener old.opens) m old next s.machine after fresh.on_way s.step)
   all-starts (machines.Name m) lane old next new after fresh s = all-as next (machines.Name s.machine) new after.order s.machine_is (any-next next _ tt)
 
-  pub all-resumes : (m : Machine) (old : Shelf) (next : Next) (new : Machine) (after : Shelf) → TurnOf m old.order → Resumes wsize m turn old next new after
+  pub all-resumes : (m : Machine) (old : Shelf) (next : Step) (new : Machine) (after : Shelf) → TurnOf m old.order → Resumes wsize m turn old next new after
       → Still next (TurnOf new after.order)
   all-resumes (machines.File m) old next new after t s =
       all-as next (machines.File s.machine) new after.order s.machine_is (file-resumes wsize turn m old next s.machine after t s.step)
@@ -107,7 +107,7 @@ module _ (wsize : ℕ) (turn : Turn) where
       all-as next (machines.Path s.machine) new after.order s.machine_is (path-resumes m.arrived m old next s.machine after refl t s.step)
   all-resumes (machines.Name m) old next new after t s = all-as next (machines.Name s.machine) new after.order s.machine_is (any-next next _ tt)
 
-  pub all-takes : (sent : Turn) (came : Result Reply Fault) (m : Machine) (old : Shelf) (next : Next) (new : Machine) (after : Shelf) (others : ℕ) → in_flight m ≡ others + 1
+  pub all-takes : (sent : Turn) (came : Result Reply Fault) (m : Machine) (old : Shelf) (next : Step) (new : Machine) (after : Shelf) (others : ℕ) → in_flight m ≡ others + 1
       → TurnOf m old.order → Takes wsize m sent turn came old next new after → Still next (TurnOf new after.order)
   all-takes sent came (machines.File m) old next new after others one t s =
       all-as next (machines.File s.machine) new after.order s.machine_is (file-takes wsize turn sent came m old next s.machine after others one t s.step)
@@ -130,25 +130,25 @@ module _ (lane : ℕ) (start : List LaneFile) where
   joins : (seat : Option (List ℕ)) (file : List ℕ) (order : List LaneFile) → Kept seat order → Kept (Some file) (added (record { lane = lane; file = file }) (left lane order))
   joins seat file order p n apart first = first-added n (record { lane = lane; file = file }) (left lane order) (first-left n lane order apart (p n apart first))
 
-  kept-of : (next : Next) (Live : Type 0) (seat : Option (List ℕ)) (order : List LaneFile) → Seats lane Kept leaves joins next Live seat order → OthersStay lane start order
+  kept-of : (next : Step) (Live : Type 0) (seat : Option (List ℕ)) (order : List LaneFile) → Seats lane Kept leaves joins next Live seat order → OthersStay lane start order
   kept-of (Send call) Live seat order s = s.1
   kept-of Wait Live seat order s = s.1
   kept-of (Done answer) Live seat order s = s
 
 module _ (wsize : ℕ) (turn : Turn) (lane : ℕ) where
-  others-start : (m : Machine) (old : Shelf) (next : Next) (new : Machine) (after : Shelf) → IsFreshFor lane m → Starts wsize m turn old next new after
+  others-start : (m : Machine) (old : Shelf) (next : Step) (new : Machine) (after : Shelf) → IsFreshFor lane m → Starts wsize m turn old next new after
       → OthersStay lane old.order after.order
   others-start m old next new after fresh s =
       kept-of lane old.order next _ _ after.order
       (seats.all-starts lane (Kept lane old.order) (leaves lane old.order) (joins lane old.order) m wsize turn old next new after fresh (λ n apart first. first) s)
 
-  others-resume : (m : Machine) (old : Shelf) (next : Next) (new : Machine) (after : Shelf) → IsLive lane m → Resumes wsize m turn old next new after
+  others-resume : (m : Machine) (old : Shelf) (next : Step) (new : Machine) (after : Shelf) → IsLive lane m → Resumes wsize m turn old next new after
       → OthersStay lane old.order after.order
   others-resume m old next new after live s =
       kept-of lane old.order next _ _ after.order
       (seats.all-resumes lane (Kept lane old.order) (leaves lane old.order) (joins lane old.order) m wsize turn old next new after live (λ n apart first. first) s)
 
-  others-take : (sent : Turn) (came : Result Reply Fault) (m : Machine) (old : Shelf) (next : Next) (new : Machine) (after : Shelf) (others : ℕ) → IsLive lane m
+  others-take : (sent : Turn) (came : Result Reply Fault) (m : Machine) (old : Shelf) (next : Step) (new : Machine) (after : Shelf) (others : ℕ) → IsLive lane m
       → in_flight m ≡ others + 1 → Takes wsize m sent turn came old next new after → OthersStay lane old.order after.order
   others-take sent came m old next new after others live one s =
       kept-of lane old.order next _ _ after.order
@@ -228,13 +228,13 @@ others-turn lanes at number was state old new apart there live stay turns own =
     state-stays lane.number old new
     (stay lane.number (λ same. other (apart k at lane (record { number = number; state = was }) was_here there same))) lane.state (live k lane was_here) (turns k lane was_here))
 
-still-busy : (next : Next) (machine : Machine) (order : List LaneFile) → Still next (TurnOf machine order) → (call : _) → next ≡ Send call → TurnOf machine order
+still-busy : (next : Step) (machine : Machine) (order : List LaneFile) → Still next (TurnOf machine order) → (call : _) → next ≡ Send call → TurnOf machine order
 still-busy (Send other) machine order s call is = s
 still-busy Wait machine order s call is = absurd (cc)
 still-busy (Done answer) machine order s call is = absurd (cc)
 
 -- A step of the lane at a place was made: the other lanes are as they were, with this order.
-pub record Owing (v : View) (at number before : ℕ) (machine : Machine) (next : Next) : Type 0 where
+pub record Owing (v : View) (at number before : ℕ) (machine : Machine) (next : Step) : Type 0 where
   pub there : slice_get v.lanes at ≡ Some (record { number = number; state = Busy machine })
   pub apart : AreApart v.lanes
   pub rest : (k : ℕ) (lane : Lane) → slice_get v.lanes k ≡ Some lane → k ≢ at → StateLive lane.number lane.state × StateHas (λ (m : Machine). TurnOf m v.shelf.order) lane.state
@@ -242,7 +242,7 @@ pub record Owing (v : View) (at number before : ℕ) (machine : Machine) (next :
   pub own : Still next (TurnOf machine v.shelf.order)
   pub count : (call : _) → next ≡ Send call → in_flight machine ≡ before + 1
 
-module _ (v new : View) (at number before : ℕ) (machine : Machine) (next : Next) (o : Owing v at number before machine next) where
+module _ (v new : View) (at number before : ℕ) (machine : Machine) (next : Step) (o : Owing v at number before machine next) where
   lanes-as : (state : State) (order : List LaneFile) → OthersStay number v.shelf.order order → StateHas (λ (m : Machine). TurnOf m order) state
       → LanesTurn (slice_set v.lanes at (record { number = number; state = state })) order
   lanes-as state order stay own =
@@ -259,7 +259,7 @@ module _ (v new : View) (at number before : ℕ) (machine : Machine) (next : Nex
       by-place (λ (l : Lane). StateHas (λ (m : Machine). TurnOf m v.shelf.order) l.state) v.lanes at (record { number = number; state = Busy machine }) o.there own
       (λ k lane here other. (o.rest k lane here other).1)
 
-leads-turn : (v new : View) (at number before : ℕ) (machine : Machine) (next : Next) → Owing v at number before machine next → Leads v at number machine next new
+leads-turn : (v new : View) (at number before : ℕ) (machine : Machine) (next : Step) → Owing v at number before machine next → Leads v at number machine next new
     → LanesTurn new.lanes new.shelf.order
 leads-turn v new at number before machine (Send call) o (inl m) = subst (λ (w : View). LanesTurn w.lanes w.shelf.order) (sym m.is) (lanes-here v new at number before machine (Send call) o o.own)
 leads-turn v new at number before machine (Send call) o (inr r) =
@@ -268,7 +268,7 @@ leads-turn v new at number before machine (Send call) o (inr r) =
     (others-take v.wsize (unmade_turn v) number (turn_at v) (Err r.fault) machine v.shelf r.next r.after r.left before (o.live call refl) (o.count call refl) r.takes)
     (by r.next r.state (all-takes v.wsize (unmade_turn v) (turn_at v) (Err r.fault) machine v.shelf r.next r.after r.left before (o.count call refl) o.own r.takes) r.leads))
   where
-    by : (next : Next) (state : State) → Still next (TurnOf r.after r.left.order) → IsRefused r.after next state → StateHas (λ (m : Machine). TurnOf m r.left.order) state
+    by : (next : Step) (state : State) → Still next (TurnOf r.after r.left.order) → IsRefused r.after next state → StateHas (λ (m : Machine). TurnOf m r.left.order) state
     by (Send again) state s is = absurd is
     by Wait state s is = subst (StateHas (λ (m : Machine). TurnOf m r.left.order)) (sym is) s
     by (Done answer) state s is = subst (StateHas (λ (m : Machine). TurnOf m r.left.order)) (sym is) tt
@@ -277,13 +277,13 @@ leads-turn v new at number before machine (Done answer) o is =
     subst (λ (w : View). LanesTurn w.lanes w.shelf.order) (sym is)
     (lanes-as v new at number before machine (Done answer) o (Over answer) v.shelf.order (λ n apart first. first) tt)
 
-live-next : (lane : ℕ) (start : List LaneFile) (next : Next) (Live : Type 0) (seat : Option (List ℕ)) (order : List LaneFile)
+live-next : (lane : ℕ) (start : List LaneFile) (next : Step) (Live : Type 0) (seat : Option (List ℕ)) (order : List LaneFile)
     → Seats lane (Kept lane start) (leaves lane start) (joins lane start) next Live seat order → (call : _) → next ≡ Send call → Live
 live-next lane start (Send other) Live seat order s call is = s.0
 live-next lane start Wait Live seat order s call is = absurd (cc)
 live-next lane start (Done answer) Live seat order s call is = absurd (cc)
 
-count-next : (next : Next) (before : ℕ) (machine : Machine) → Counts next before machine → (call : _) → next ≡ Send call → in_flight machine ≡ before + 1
+count-next : (next : Step) (before : ℕ) (machine : Machine) → Counts next before machine → (call : _) → next ≡ Send call → in_flight machine ≡ before + 1
 count-next (Send other) before machine c call is = c.0
 count-next Wait before machine c call is = absurd (cc)
 count-next (Done answer) before machine c call is = absurd (cc)

@@ -1,13 +1,13 @@
 -- What each step of an operation on a file makes of what is pending, and of the call that it asks for.
-use Rattle.core_answers.proofs.Prelude.{◌≡◌, ◌&&◌, ◌+◌, ℕ, Bool, true, false, not, List, Option, Some, None, Result, Ok, Err, refl, sym, ap, subst, ◌∙◌, inl, inr, Answer, Fault, Call, Reply, Wcc, last_end, nothing, Pending, of_file, OnFile, Opens, Repeat, Shelf, Turn, goes_again, left, is_first, Next, CloseFile, Closing, Removal, OpeningNext, PutFile, Putting, Saving, SyncFile, Syncing, TruncateFile, Truncating, WriteFile, Writing, is_full, closed_answer, refusal_of, remove_of, remove_busy, file_to_write, file_at, joined, by-step, ends_as, FileMachine}
+use Rattle.core_answers.proofs.Prelude.{◌≡◌, ◌&&◌, ◌+◌, ℕ, Bool, true, false, not, List, Option, Some, None, Result, Ok, Err, refl, sym, ap, subst, ◌∙◌, inl, inr, Answer, Fault, Call, Reply, Wcc, last_end, nothing, Pending, of_file, OnFile, Opens, Repeat, Shelf, Turn, goes_again, left, is_first, Step, CloseFile, Closing, Removal, OpeningStep, PutFile, Putting, Saving, SyncFile, Syncing, TruncateFile, Truncating, WriteFile, Writing, is_full, closed_answer, refusal_of, remove_of, remove_busy, file_to_write, file_at, joined, by-step, ends_as, FileMachine}
 use Rattle.write_back.specs.Files.{with_bytes}
 use Rattle.file_ops.specs.Closings.{GivesIf, GivesUpBy}
 use Rattle.std.specs.FinMap as finite
 use Rattle.world_model.specs.declared.answer.Answer.TheVariants as answers
 use Rattle.write_back.specs.Landing.{with_cut}
-use Rattle.client_shelf.specs.declared.next.Next.TheVariants as nexts
+use Rattle.client_shelf.specs.declared.step.Step.TheVariants as nexts
 use Rattle.file_ops.specs.declared.close_file.Closing.TheVariants as closing
-use Rattle.file_ops.specs.declared.opening.OpeningNext.TheVariants as openings
+use Rattle.file_ops.specs.declared.opening.OpeningStep.TheVariants as openings
 use Rattle.file_ops.specs.declared.put_file.Putting.TheVariants as putting
 use Rattle.file_ops.specs.declared.sync_file.Syncing.TheVariants as syncing
 use Rattle.file_ops.specs.declared.truncate_file.Truncating.TheVariants as truncating
@@ -28,7 +28,7 @@ use Rattle.core_answers.proofs.writes.Plain.{IsOther, PlainAsks, OpeningAsks, go
 -- ---- what is carried through a step
 
 -- Of what is pending P, and Q with a call that is asked for. A step of a save is seen as one of a sync.
-abbrev pub After : (Pending → Type 0) → (Call → Pending → Type 0) → Next → Pending → Type 0
+abbrev pub After : (Pending → Type 0) → (Call → Pending → Type 0) → Step → Pending → Type 0
 After P Q (nexts.Send call) back = Q call back
 After P Q nexts.Wait back = P back
 After P Q (nexts.Done answer) back = P back
@@ -114,16 +114,16 @@ FileStartsWith A (files.Put m) slots = (file : List ℕ) → A file m.write.offs
 -- ---- one step
 
 module _ (P : Pending → Type 0) (Q : Call → Pending → Type 0) where
-  pub waits-after : (next : Next) (old new : Pending) → next ≡ nexts.Wait → new ≡ old → P old → After P Q next new
+  pub waits-after : (next : Step) (old new : Pending) → next ≡ nexts.Wait → new ≡ old → P old → After P Q next new
   waits-after next old new waits same p = rw waits (subst P (sym same) p)
 
-  pub done-after : (answer : Answer) (next : Next) (old new : Pending) → next ≡ nexts.Done answer → new ≡ old → P old → After P Q next new
+  pub done-after : (answer : Answer) (next : Step) (old new : Pending) → next ≡ nexts.Done answer → new ≡ old → P old → After P Q next new
   done-after answer next old new done same p = rw done (subst P (sym same) p)
 
-  pub asks-after : (call : Call) (next : Next) (old new : Pending) → next ≡ nexts.Send call → new ≡ old → Q call old → After P Q next new
+  pub asks-after : (call : Call) (next : Step) (old new : Pending) → next ≡ nexts.Send call → new ≡ old → Q call old → After P Q next new
   asks-after call next old new asks same q = rw asks (subst (Q call) (sym same) q)
 
-  pub plain-after : (next : Next) (back : Pending) → PlainAsks next → ((call : Call) → IsOther call → Q call back) → P back → After P Q next back
+  pub plain-after : (next : Step) (back : Pending) → PlainAsks next → ((call : Call) → IsOther call → Q call back) → P back → After P Q next back
   plain-after (nexts.Send call) back asks plain p = plain call (asks call refl)
   plain-after nexts.Wait back asks plain p = p
   plain-after (nexts.Done answer) back asks plain p = p
@@ -134,7 +134,7 @@ back-of old new is = ap (λ (s : Shelf). s.back) is
 module _ (wsize : ℕ) (turn : Turn) (A : List ℕ → ℕ → List ℕ → ℕ → Type 0) (F : Call → Type 0) (fine : (call : Call) → IsOther call → F call) (P : Pending → Type 0)
     (Q : Call → Pending → Type 0) (w : Carries wsize turn A F P Q) where
   -- a machine whose step puts nothing in flight and adds nothing
-  plain-step : (next : Next) (old new : Pending) → PlainAsks next → new ≡ old → P old → After P Q next new
+  plain-step : (next : Step) (old new : Pending) → PlainAsks next → new ≡ old → P old → After P Q next new
   plain-step next old new asks same p =
       let here : P new = subst P (sym same) p in plain-after P Q next new asks (λ call other. w.plain call new (fine call other) here) here
 
@@ -152,15 +152,15 @@ module _ (wsize : ℕ) (turn : Turn) (A : List ℕ → ℕ → List ℕ → ℕ 
 
   -- ---- syncs
 
-  sync-as : (gives : _) (next : Next) (back : Pending) → next ≡ syncs.sync_next gives → After P Q (syncs.sync_next gives) back → After P Q next back
-  sync-as gives next back n l = subst (λ (k : Next). After P Q k back) (sym n) l
+  sync-as : (gives : _) (next : Step) (back : Pending) → next ≡ syncs.sync_next gives → After P Q (syncs.sync_next gives) back → After P Q next back
+  sync-as gives next back n l = subst (λ (k : Step). After P Q k back) (sym n) l
 
-  sync-queues : (b : Bool) (lane : ℕ) (saving : Saving) (old : Shelf) (next : Next) (state : Syncing) (new : Shelf)
+  sync-queues : (b : Bool) (lane : ℕ) (saving : Saving) (old : Shelf) (next : Step) (state : Syncing) (new : Shelf)
       → syncs.QueuesIf b wsize lane turn saving old next state new → P old.back → After P Q next new.back
   sync-queues true lane saving old next state new q p = sync-as q.gives next new.back q.follows.next_is (w.goes false saving old.back q.gives q.saved new.back q.goes p)
   sync-queues false lane saving old next state new q p = waits-after P Q next old.back new.back q.next_is (back-of old new q.shelf_is) p
 
-  sync-starts : (machine : SyncFile) (old : Shelf) (next : Next) (state : Syncing) (new : Shelf) → syncs.Starts wsize machine turn old next state new → P old.back
+  sync-starts : (machine : SyncFile) (old : Shelf) (next : Step) (state : Syncing) (new : Shelf) → syncs.Starts wsize machine turn old next state new → P old.back
       → After P Q next new.back
   sync-starts machine old next state new s p = at (file_at machine.lane machine.slot old.opens) s
     where
@@ -169,13 +169,13 @@ module _ (wsize : ℕ) (turn : Turn) (A : List ℕ → ℕ → List ℕ → ℕ 
       at (Some file) s = sync-queues (is_first machine.lane (joined machine.lane file old).order) machine.lane (saves.begun file old.seq)
           (joined machine.lane file old) next state new s p
 
-  sync-resumes : (at : Syncing) (machine : SyncFile) (old : Shelf) (next : Next) (state : Syncing) (new : Shelf) → syncs.Resumes at wsize machine turn old next state new
+  sync-resumes : (at : Syncing) (machine : SyncFile) (old : Shelf) (next : Step) (state : Syncing) (new : Shelf) → syncs.Resumes at wsize machine turn old next state new
       → P old.back → After P Q next new.back
   sync-resumes syncing.Idle machine old next state new s p = waits-after P Q next old.back new.back s.next_is (back-of old new s.shelf_is) p
   sync-resumes (syncing.Saves saving) machine old next state new s p = sync-queues (is_first machine.lane old.order) machine.lane saving old next state new s p
 
   sync-takes : (sent : Turn) (came : Result Reply Fault) (N : Saving → Pending → Type 0) → CarriesReply wsize sent turn came N P Q
-      → (at : Syncing) (machine : SyncFile) (old : Shelf) (next : Next) (state : Syncing) (new : Shelf)
+      → (at : Syncing) (machine : SyncFile) (old : Shelf) (next : Step) (state : Syncing) (new : Shelf)
       → syncs.Takes at wsize machine sent turn came old next state new → SyncSaves (λ s. N s old.back) at → P old.back → After P Q next new.back
   sync-takes sent came N v syncing.Idle machine old next state new t n p = waits-after P Q next old.back new.back t.next_is (back-of old new t.shelf_is) p
   sync-takes sent came N v (syncing.Saves saving) machine old next state new t n p =
@@ -183,21 +183,21 @@ module _ (wsize : ℕ) (turn : Turn) (A : List ℕ → ℕ → List ℕ → ℕ 
 
   -- ---- closes
 
-  close-waits : (next : Next) (old new : Shelf) → next ≡ nexts.Wait → new ≡ old → P old.back → After P Q next new.back
+  close-waits : (next : Step) (old new : Shelf) → next ≡ nexts.Wait → new ≡ old → P old.back → After P Q next new.back
   close-waits next old new waits same p = waits-after P Q next old.back new.back waits (back-of old new same) p
 
-  close-ends : (lane : ℕ) (file : List ℕ) (refusal : Option Fault) (old : Shelf) (next : Next) (state : Closing) (new : Shelf)
+  close-ends : (lane : ℕ) (file : List ℕ) (refusal : Option Fault) (old : Shelf) (next : Step) (state : Closing) (new : Shelf)
       → closes.Ends lane file refusal old next state new → P old.back → After P Q next new.back
   close-ends lane file refusal old next state new e p =
       done-after P Q (closed_answer refusal) next new.back new.back e.next_is refl (given-by refusal file old.opens old.back new.back e.back p)
 
-  close-asks : (b : Bool) (removal : Removal) (old : Shelf) (next : Next) (state : Closing) (new : Shelf) → closes.Asks b removal old next state new → P old.back
+  close-asks : (b : Bool) (removal : Removal) (old : Shelf) (next : Step) (state : Closing) (new : Shelf) → closes.Asks b removal old next state new → P old.back
       → After P Q next new.back
   close-asks true removal old next state new a p =
       asks-after P Q (remove_of removal) next old.back new.back a.next_is (back-of old new a.shelf_is) (w.plain (remove_of removal) old.back (fine (remove_of removal) tt) p)
   close-asks false removal old next state new a p = close-waits next old new a.next_is a.shelf_is p
 
-  close-frees : (lane slot : ℕ) (file : List ℕ) (refusal : Option Fault) (old : Shelf) (next : Next) (state : Closing) (new : Shelf)
+  close-frees : (lane slot : ℕ) (file : List ℕ) (refusal : Option Fault) (old : Shelf) (next : Step) (state : Closing) (new : Shelf)
       → closes.Frees lane slot turn.room file refusal old next state new → P old.back → After P Q next new.back
   close-frees lane slot file refusal old next state new f p = at f.place f.ends
     where
@@ -208,7 +208,7 @@ module _ (wsize : ℕ) (turn : Turn) (A : List ℕ → ℕ → List ℕ → ℕ 
       at None e = close-ends lane file refusal f.freed next state new e freed
       at (Some place) e = close-asks turn.room (record { file = file; dir = place.0; name = place.1; refusal = refusal }) f.freed next state new e freed
 
-  close-follows : (gives : _) (lane slot : ℕ) (begun : Bool) (saving : Saving) (old : Shelf) (next : Next) (state : Closing) (new : Shelf)
+  close-follows : (gives : _) (lane slot : ℕ) (begun : Bool) (saving : Saving) (old : Shelf) (next : Step) (state : Closing) (new : Shelf)
       → closes.Follows gives lane slot turn.room begun saving old next state new → After P Q (syncs.sync_next gives) old.back → After P Q next new.back
   close-follows gives lane slot begun saving old next state new f l = by-step
       (λ g. closes.Follows g lane slot turn.room begun saving old next state new → After P Q (syncs.sync_next g) old.back → After P Q next new.back)
@@ -217,12 +217,12 @@ module _ (wsize : ℕ) (turn : Turn) (A : List ℕ → ℕ → List ℕ → ℕ 
       (λ result f l. close-frees lane slot saving.file (refusal_of result) old next state new f l)
       gives f l
 
-  close-on : (lane slot : ℕ) (begun : Bool) (saving : Saving) (old : Shelf) (next : Next) (state : Closing) (new : Shelf)
+  close-on : (lane slot : ℕ) (begun : Bool) (saving : Saving) (old : Shelf) (next : Step) (state : Closing) (new : Shelf)
       → closes.GoesOn wsize lane slot turn begun saving old next state new → P old.back → After P Q next new.back
   close-on lane slot begun saving old next state new g p = close-follows g.gives lane slot begun g.saved g.gone next state new g.follows
       (w.goes false saving old.back g.gives g.saved g.gone.back g.goes p)
 
-  close-queues : (b : Bool) (lane slot : ℕ) (saving : Saving) (old : Shelf) (next : Next) (state : Closing) (new : Shelf)
+  close-queues : (b : Bool) (lane slot : ℕ) (saving : Saving) (old : Shelf) (next : Step) (state : Closing) (new : Shelf)
       → closes.QueuesIf b wsize lane slot turn saving old next state new → P old.back → After P Q next new.back
   close-queues false lane slot saving old next state new q p = close-waits next old new q.next_is q.shelf_is p
   close-queues true lane slot saving old next state new q p = at (last_end (of_file saving.file old.back).segments) q
@@ -231,7 +231,7 @@ module _ (wsize : ℕ) (turn : Turn) (A : List ℕ → ℕ → List ℕ → ℕ 
       at None b = close-frees lane slot saving.file None old next state new b p
       at (Some end) b = close-on lane slot false saving old next state new b p
 
-  close-starts : (machine : CloseFile) (old : Shelf) (next : Next) (state : Closing) (new : Shelf) → closes.Starts wsize machine turn old next state new → P old.back
+  close-starts : (machine : CloseFile) (old : Shelf) (next : Step) (state : Closing) (new : Shelf) → closes.Starts wsize machine turn old next state new → P old.back
       → After P Q next new.back
   close-starts machine old next state new s p = at (file_at machine.lane machine.slot old.opens) s
     where
@@ -240,7 +240,7 @@ module _ (wsize : ℕ) (turn : Turn) (A : List ℕ → ℕ → List ℕ → ℕ 
       at (Some file) s = close-queues (is_first machine.lane (joined machine.lane file old).order) machine.lane machine.slot (saves.begun file old.seq)
           (joined machine.lane file old) next state new s p
 
-  close-resumes : (at : Closing) (machine : CloseFile) (old : Shelf) (next : Next) (state : Closing) (new : Shelf) → closes.Resumes at wsize machine turn old next state new
+  close-resumes : (at : Closing) (machine : CloseFile) (old : Shelf) (next : Step) (state : Closing) (new : Shelf) → closes.Resumes at wsize machine turn old next state new
       → P old.back → After P Q next new.back
   close-resumes closing.Idle machine old next state new s p = close-waits next old new s.next_is s.shelf_is p
   close-resumes (closing.Queued saving) machine old next state new s p = close-queues (is_first machine.lane old.order) machine.lane machine.slot saving old next state new s p
@@ -253,7 +253,7 @@ module _ (wsize : ℕ) (turn : Turn) (A : List ℕ → ℕ → List ℕ → ℕ 
   close-resumes (closing.Removing removal) machine old next state new s p = close-waits next old new s.next_is s.shelf_is p
 
   close-takes : (sent : Turn) (came : Result Reply Fault) (N : Saving → Pending → Type 0) → CarriesReply wsize sent turn came N P Q
-      → (at : Closing) (machine : CloseFile) (old : Shelf) (next : Next) (state : Closing) (new : Shelf)
+      → (at : Closing) (machine : CloseFile) (old : Shelf) (next : Step) (state : Closing) (new : Shelf)
       → closes.Takes at wsize machine sent turn came old next state new → CloseSaves (λ s. N s old.back) at → P old.back → After P Q next new.back
   close-takes sent came N v closing.Idle machine old next state new t n p = close-waits next old new t.next_is t.shelf_is p
   close-takes sent came N v (closing.Queued saving) machine old next state new t n p = close-waits next old new t.next_is t.shelf_is p
@@ -273,7 +273,7 @@ module _ (wsize : ℕ) (turn : Turn) (A : List ℕ → ℕ → List ℕ → ℕ 
 
   -- ---- writes and fills
 
-  room-as : (told : _) (lane : ℕ) (file : List ℕ) (saved : Saving) (shelf : Shelf) (next : Next) (state : Writing) (after : Shelf)
+  room-as : (told : _) (lane : ℕ) (file : List ℕ) (saved : Saving) (shelf : Shelf) (next : Step) (state : Writing) (after : Shelf)
       → writes.Leads (writes.room_next told) (writes.room_state told file saved) (writes.room_shelf told lane shelf) next state after
       → After P Q (syncs.sync_next told) shelf.back → After P Q next after.back
   room-as told lane file saved shelf next state after r l = by-step
@@ -289,17 +289,17 @@ module _ (wsize : ℕ) (turn : Turn) (A : List ℕ → ℕ → List ℕ → ℕ 
       ended (Ok done) r l = waits-after P Q next shelf.back after.back r.gives_next (ap (λ (s : Shelf). s.back) r.shelf_is) l
       ended (Err fault) r l = done-after P Q _ next shelf.back after.back r.gives_next (ap (λ (s : Shelf). s.back) r.shelf_is) l
 
-  write-refuses : (fault : Fault) (shelf : Shelf) (next : Next) (state : Writing) (after : Shelf) → writes.Refuses fault shelf next state after → P shelf.back
+  write-refuses : (fault : Fault) (shelf : Shelf) (next : Step) (state : Writing) (after : Shelf) → writes.Refuses fault shelf next state after → P shelf.back
       → After P Q next after.back
   write-refuses fault shelf next state after r p = done-after P Q _ next shelf.back after.back r.gives_next (ap (λ (s : Shelf). s.back) r.shelf_is) p
 
-  write-saves : (b : Bool) (lane : ℕ) (file : List ℕ) (saving : Saving) (shelf : Shelf) (next : Next) (state : Writing) (after : Shelf)
+  write-saves : (b : Bool) (lane : ℕ) (file : List ℕ) (saving : Saving) (shelf : Shelf) (next : Step) (state : Writing) (after : Shelf)
       → writes.SavesIf b wsize lane file saving turn shelf next state after → P shelf.back → After P Q next after.back
   write-saves false lane file saving shelf next state after s p = waits-after P Q next shelf.back after.back s.gives_next (ap (λ (s : Shelf). s.back) s.shelf_is) p
   write-saves true lane file saving shelf next state after s p =
       room-as s.told lane file s.saved (record shelf { back = s.back }) next state after s.leads (w.goes false saving shelf.back s.told s.saved s.back s.goes p)
 
-  write-writes : (lane : ℕ) (file : List ℕ) (offset : ℕ) (bytes : List ℕ) (shelf : Shelf) (next : Next) (state : Writing) (after : Shelf)
+  write-writes : (lane : ℕ) (file : List ℕ) (offset : ℕ) (bytes : List ℕ) (shelf : Shelf) (next : Step) (state : Writing) (after : Shelf)
       → A file offset bytes (shelf.seq + 1) → writes.Writes wsize lane file offset bytes turn shelf next state after → P shelf.back → After P Q next after.back
   write-writes lane file offset bytes shelf next state after a wrote p = by (is_full bytes shelf.back) wrote
     where
@@ -310,7 +310,7 @@ module _ (wsize : ℕ) (turn : Turn) (A : List ℕ → ℕ → List ℕ → ℕ 
       by false (inl s) = done-after P Q _ next after.back after.back s.leads.gives_next refl (w.adds file offset bytes (shelf.seq + 1) shelf.back after.back a s.adds p)
       by false (inr s) = write-refuses _ shelf next state after s p
 
-  write-starts : (machine : WriteFile) (old : Shelf) (next : Next) (new : WriteFile) (after : Shelf)
+  write-starts : (machine : WriteFile) (old : Shelf) (next : Step) (new : WriteFile) (after : Shelf)
       → ((file : List ℕ) → file_to_write machine.lane machine.slot old.opens ≡ Ok file → A file machine.offset (writes.text_bytes machine.text) (old.seq + 1))
       → writes.Starts wsize machine turn old next new after → P old.back → After P Q next after.back
   write-starts machine old next new after brings s p = at (file_to_write machine.lane machine.slot old.opens) refl s
@@ -321,12 +321,12 @@ module _ (wsize : ℕ) (turn : Turn) (A : List ℕ → ℕ → List ℕ → ℕ 
       at (Ok file) is (inl s) = write-writes machine.lane file machine.offset (writes.text_bytes machine.text) old next new.state after (brings file is) s.writes p
       at (Ok file) is (inr s) = write-refuses _ old next new.state after s.refuses p
 
-  write-resumes : (at : Writing) (lane : ℕ) (old : Shelf) (next : Next) (state : Writing) (after : Shelf)
+  write-resumes : (at : Writing) (lane : ℕ) (old : Shelf) (next : Step) (state : Writing) (after : Shelf)
       → writes.ResumesIn at wsize lane turn old next state after → P old.back → After P Q next after.back
   write-resumes writing.Idle lane old next state after s p = waits-after P Q next old.back after.back s.gives_next (ap (λ (s : Shelf). s.back) s.shelf_is) p
   write-resumes (writing.Room file saving) lane old next state after s p = write-saves (is_first lane old.order) lane file saving old next state after s p
 
-  write-follows : (told : _) (machine : WriteFile) (file : List ℕ) (saved : Saving) (shelf : Shelf) (next : Next) (state : Writing) (after : Shelf)
+  write-follows : (told : _) (machine : WriteFile) (file : List ℕ) (saved : Saving) (shelf : Shelf) (next : Step) (state : Writing) (after : Shelf)
       → A file machine.offset (writes.made_bytes machine.text) (shelf.seq + 1)
       → writes.Follows told wsize machine file saved turn shelf next state after → After P Q (syncs.sync_next told) shelf.back → After P Q next after.back
   write-follows told machine file saved shelf next state after a f l = by-step
@@ -341,7 +341,7 @@ module _ (wsize : ℕ) (turn : Turn) (A : List ℕ → ℕ → List ℕ → ℕ 
       ended (Err fault) f l = done-after P Q _ next shelf.back after.back f.gives_next (ap (λ (s : Shelf). s.back) f.shelf_is) l
 
   write-takes : (sent : Turn) (came : Result Reply Fault) (N : Saving → Pending → Type 0) → CarriesReply wsize sent turn came N P Q
-      → (at : Writing) (machine : WriteFile) (old : Shelf) (next : Next) (state : Writing) (after : Shelf)
+      → (at : Writing) (machine : WriteFile) (old : Shelf) (next : Step) (state : Writing) (after : Shelf)
       → RoomIs (λ f. A f machine.offset (writes.made_bytes machine.text) (old.seq + 1)) at
       → writes.TakesIn at wsize machine sent turn came old next state after → WriteSaves (λ s. N s old.back) at → P old.back → After P Q next after.back
   write-takes sent came N v writing.Idle machine old next state after a t n p = waits-after P Q next old.back after.back t.gives_next (ap (λ (s : Shelf). s.back) t.shelf_is) p
@@ -350,7 +350,7 @@ module _ (wsize : ℕ) (turn : Turn) (A : List ℕ → ℕ → List ℕ → ℕ 
 
   -- ---- puts
 
-  put-ends : (lane : ℕ) (file : List ℕ) (refusal : Option Fault) (old : Shelf) (next : Next) (state : Putting) (after : Shelf)
+  put-ends : (lane : ℕ) (file : List ℕ) (refusal : Option Fault) (old : Shelf) (next : Step) (state : Putting) (after : Shelf)
       → puts.Ends lane file refusal old next state after → P old.back → After P Q next after.back
   put-ends lane file refusal old next state after e p = done-after P Q (closed_answer refusal) next after.back after.back e.next_is refl
       (gone (puts.keeps_refused lane file old.puts old.order) e.back)
@@ -359,7 +359,7 @@ module _ (wsize : ℕ) (turn : Turn) (A : List ℕ → ℕ → List ℕ → ℕ 
       gone true g = subst P (sym g) p
       gone false g = given-by refusal file old.opens old.back after.back g p
 
-  put-follows : (gives : _) (lane : ℕ) (saving : Saving) (old : Shelf) (next : Next) (state : Putting) (after : Shelf)
+  put-follows : (gives : _) (lane : ℕ) (saving : Saving) (old : Shelf) (next : Step) (state : Putting) (after : Shelf)
       → puts.Follows gives lane saving old next state after → After P Q (syncs.sync_next gives) old.back → After P Q next after.back
   put-follows gives lane saving old next state after f l = by-step
       (λ g. puts.Follows g lane saving old next state after → After P Q (syncs.sync_next g) old.back → After P Q next after.back)
@@ -368,13 +368,13 @@ module _ (wsize : ℕ) (turn : Turn) (A : List ℕ → ℕ → List ℕ → ℕ 
       (λ result f l. put-ends lane saving.file (refusal_of result) old next state after f l)
       gives f l
 
-  put-queues : (b : Bool) (lane : ℕ) (saving : Saving) (old : Shelf) (next : Next) (state : Putting) (after : Shelf)
+  put-queues : (b : Bool) (lane : ℕ) (saving : Saving) (old : Shelf) (next : Step) (state : Putting) (after : Shelf)
       → puts.QueuesIf b wsize lane turn saving old next state after → P old.back → After P Q next after.back
   put-queues false lane saving old next state after q p = close-waits next old after q.next_is q.shelf_is p
   put-queues true lane saving old next state after g p = put-follows g.gives lane g.saved g.gone next state after g.follows
       (w.goes false saving old.back g.gives g.saved g.gone.back g.goes p)
 
-  put-wrote : (told : Next) (lane : ℕ) (file : List ℕ) (old : Shelf) (next : Next) (state : Putting) (after : Shelf)
+  put-wrote : (told : Step) (lane : ℕ) (file : List ℕ) (old : Shelf) (next : Step) (state : Putting) (after : Shelf)
       → puts.AfterWrite told wsize lane file turn old next state after → After P Q told old.back → After P Q next after.back
   put-wrote (nexts.Send call) lane file old next state after a l = asks-after P Q call next old.back after.back a.0 (back-of old after a.2) l
   put-wrote nexts.Wait lane file old next state after a l = close-waits next old after a.0 a.2 l
@@ -382,10 +382,10 @@ module _ (wsize : ℕ) (turn : Turn) (A : List ℕ → ℕ → List ℕ → ℕ 
       (saves.begun file old.seq) (joined lane file old) next state after a l
   put-wrote (nexts.Done (answers.Refused fault)) lane file old next state after a l = put-ends lane file (Some fault) old next state after a l
 
-  opening-as : (step : OpeningNext) (next : Next) (old new : Shelf) → next ≡ opens.goes_as step → new ≡ old → OpeningAsks step → P old.back → After P Q next new.back
+  opening-as : (step : OpeningStep) (next : Step) (old new : Shelf) → next ≡ opens.goes_as step → new ≡ old → OpeningAsks step → P old.back → After P Q next new.back
   opening-as step next old new is same asks p = plain-step next old.back new.back (opening-plain step next is asks) (back-of old new same) p
 
-  put-opened : (step : OpeningNext) (machine : PutFile) (old : Shelf) (next : Next) (new : PutFile) (after : Shelf)
+  put-opened : (step : OpeningStep) (machine : PutFile) (old : Shelf) (next : Step) (new : PutFile) (after : Shelf)
       → ((file : List ℕ) → A file machine.write.offset (writes.made_bytes machine.write.text) (old.seq + 1))
       → puts.AfterOpening step wsize machine turn old next new after → OpeningAsks step → P old.back → After P Q next after.back
   put-opened (openings.Send call) machine old next new after brings a asks p =
@@ -397,7 +397,7 @@ module _ (wsize : ℕ) (turn : Turn) (A : List ℕ → ℕ → List ℕ → ℕ 
       (brings file) a.writes p)
   put-opened (openings.Ended (Err fault)) machine old next new after brings a asks p = done-after P Q _ next old.back after.back a.0 (back-of old after a.2) p
 
-  put-resumes : (at : Putting) (machine : PutFile) (old : Shelf) (next : Next) (new : PutFile) (after : Shelf) → puts.Resumes at wsize machine turn old next new after
+  put-resumes : (at : Putting) (machine : PutFile) (old : Shelf) (next : Step) (new : PutFile) (after : Shelf) → puts.Resumes at wsize machine turn old next new after
       → P old.back → After P Q next after.back
   put-resumes putting.Idle machine old next new after s p = close-waits next old after s.next_is s.shelf_is p
   put-resumes putting.Opens machine old next new after s p =
@@ -408,7 +408,7 @@ module _ (wsize : ℕ) (turn : Turn) (A : List ℕ → ℕ → List ℕ → ℕ 
       new.state after s.0 p
 
   put-takes : (sent : Turn) (came : Result Reply Fault) (N : Saving → Pending → Type 0) → CarriesReply wsize sent turn came N P Q
-      → (at : Putting) (machine : PutFile) (old : Shelf) (next : Next) (new : PutFile) (after : Shelf)
+      → (at : Putting) (machine : PutFile) (old : Shelf) (next : Step) (new : PutFile) (after : Shelf)
       → PutIs (λ f. A f machine.write.offset (writes.made_bytes machine.write.text) (old.seq + 1)) at machine.write.state
       → puts.Takes at wsize machine sent turn came old next new after → PutSaves (λ s. N s old.back) at machine.write.state → P old.back → After P Q next after.back
   put-takes sent came N v putting.Idle machine old next new after a t n p = close-waits next old after t.next_is t.shelf_is p
@@ -447,7 +447,7 @@ module _ (wsize : ℕ) (turn : Turn) (A : List ℕ → ℕ → List ℕ → ℕ 
 
   -- ---- any operation on a file
 
-  pub file-starts : (machine : FileMachine) (old : Shelf) (next : Next) (new : FileMachine) (after : Shelf)
+  pub file-starts : (machine : FileMachine) (old : Shelf) (next : Step) (new : FileMachine) (after : Shelf)
       → FileStartsWith (λ f o b. A f o b (old.seq + 1)) machine old.opens → steps.Starts wsize machine turn old next new after → P old.back → After P Q next after.back
   file-starts (files.Open m) old next new after a s p = plain-step next old.back after.back (open-starts m turn old.opens next s.next_is) (back-of old after s.shelf_is) p
   file-starts (files.Read m) old next new after a s p =
@@ -463,7 +463,7 @@ module _ (wsize : ℕ) (turn : Turn) (A : List ℕ → ℕ → List ℕ → ℕ 
       opening-as (opening.go_next (puts.opening_at turn m) turn) next old after s.next_is s.shelf_is
       (go-asks (puts.opening_at turn m) turn (opening.go_next (puts.opening_at turn m) turn) refl) p
 
-  pub file-resumes : (machine : FileMachine) (old : Shelf) (next : Next) (new : FileMachine) (after : Shelf) → steps.Resumes wsize machine turn old next new after
+  pub file-resumes : (machine : FileMachine) (old : Shelf) (next : Step) (new : FileMachine) (after : Shelf) → steps.Resumes wsize machine turn old next new after
       → P old.back → After P Q next after.back
   file-resumes (files.Open m) old next new after s p = plain-step next old.back after.back (open-resumes m turn next s.next_is) (back-of old after s.shelf_is) p
   file-resumes (files.Read m) old next new after s p =
@@ -476,7 +476,7 @@ module _ (wsize : ℕ) (turn : Turn) (A : List ℕ → ℕ → List ℕ → ℕ 
   file-resumes (files.Put m) old next new after s p = put-resumes m.state m old next s.machine after s.step p
 
   pub file-takes : (sent : Turn) (came : Result Reply Fault) (N : Saving → Pending → Type 0) → CarriesReply wsize sent turn came N P Q
-      → (machine : FileMachine) (old : Shelf) (next : Next) (new : FileMachine) (after : Shelf) → FileBrings (λ f o b. A f o b (old.seq + 1)) machine
+      → (machine : FileMachine) (old : Shelf) (next : Step) (new : FileMachine) (after : Shelf) → FileBrings (λ f o b. A f o b (old.seq + 1)) machine
       → steps.Takes wsize machine sent turn came old next new after → FileSaves (λ s. N s old.back) machine → P old.back → After P Q next after.back
   file-takes sent came N v (files.Open m) old next new after a s n p =
       plain-step next old.back after.back (open-takes m sent turn came after.attrs old.repeats next old.pages after.pages old.opens after.opens s.steps)

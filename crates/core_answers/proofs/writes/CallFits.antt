@@ -1,12 +1,12 @@
 -- A WRITE is asked for by an operation that sends bytes of its file, and a COMMIT by one that waits for it.
-use Rattle.core_answers.proofs.Prelude.{◌≡◌, ◌+◌, ◌&&◌, ◌==◌, ℕ, Bool, true, false, List, [], ◌∷◌, Option, Some, None, Result, Ok, Err, inl, inr, refl, sym, ap, subst, ◌∙◌, nat_lt, Verdict, AllStable, SendAgain, verdict_of, Verf, FileCall, Answer, Fault, Memory, Call, Reply, lost, chosen, piece_of, Pending, of_file, Sent, Segments, last_end, Next, Repeat, Shelf, Turn, goes_again, left, is_first, CloseFile, Closing, Removal, OpeningNext, PutFile, Putting, Sending, Committing, Resending, CommittingAgain, Saving, SyncFile, Syncing, WriteFile, Writing, is_full, refusal_of, remove_of, remove_busy, commit_told, file_to_write, file_at, joined, by-step, ends_as, FileMachine, flies_if, flies_save, flies_write, flies_sync, flies_close, flies_put, flies_file}
+use Rattle.core_answers.proofs.Prelude.{◌≡◌, ◌+◌, ◌&&◌, ◌==◌, ℕ, Bool, true, false, List, [], ◌∷◌, Option, Some, None, Result, Ok, Err, inl, inr, refl, sym, ap, subst, ◌∙◌, nat_lt, Verdict, AllStable, SendAgain, verdict_of, Verf, FileCall, Answer, Fault, Memory, Call, Reply, lost, chosen, piece_of, Pending, of_file, Sent, Segments, last_end, Step, Repeat, Shelf, Turn, goes_again, left, is_first, CloseFile, Closing, Removal, OpeningStep, PutFile, Putting, Sending, Committing, Resending, CommittingAgain, Saving, SyncFile, Syncing, WriteFile, Writing, is_full, refusal_of, remove_of, remove_busy, commit_told, file_to_write, file_at, joined, by-step, ends_as, FileMachine, flies_if, flies_save, flies_write, flies_sync, flies_close, flies_put, flies_file}
 use Rattle.std.specs.FinMap as finite
 use Rattle.nfs_file_calls.specs.declared.call.FileCall.TheVariants as file_calls
 use Rattle.world_model.specs.declared.answer.Answer.TheVariants as answers
 use Rattle.world_model.specs.declared.message.Call.TheVariants as calls
-use Rattle.client_shelf.specs.declared.next.Next.TheVariants as nexts
+use Rattle.client_shelf.specs.declared.step.Step.TheVariants as nexts
 use Rattle.file_ops.specs.declared.close_file.Closing.TheVariants as closing
-use Rattle.file_ops.specs.declared.opening.OpeningNext.TheVariants as openings
+use Rattle.file_ops.specs.declared.opening.OpeningStep.TheVariants as openings
 use Rattle.file_ops.specs.declared.put_file.Putting.TheVariants as putting
 use Rattle.file_ops.specs.declared.saving.Phase.{Phase}
 use Rattle.file_ops.specs.declared.sync_file.Syncing.TheVariants as syncing
@@ -91,7 +91,7 @@ other-fits flies commits (calls.File call) none o = record {
 other-fits flies commits (calls.Dir call) none o = record { sends = λ f is. none-is f (sym none ∙ is); writes = λ f is. none-is f is; commits_ = λ f is. none-is f is }
 other-fits flies commits (calls.Mount call) none o = record { sends = λ f is. none-is f (sym none ∙ is); writes = λ f is. none-is f is; commits_ = λ f is. none-is f is }
 
-abbrev pub AskFits : Next → Option (List ℕ) → Option (List ℕ) → Type 0
+abbrev pub AskFits : Step → Option (List ℕ) → Option (List ℕ) → Type 0
 AskFits (nexts.Send call) flies commits = Fits flies commits call
 AskFits nexts.Wait flies commits = Unit {0}
 AskFits (nexts.Done answer) flies commits = Unit {0}
@@ -118,7 +118,7 @@ idle-commit Committing = refl
 idle-commit Resending = refl
 idle-commit CommittingAgain = refl
 
-abbrev SaveAsks : Next → Saving → Type 0
+abbrev SaveAsks : Step → Saving → Type 0
 SaveAsks next s = AskFits next (flies_save s) (commits_save s)
 
 and-left : (a b : Bool) → (a && b) ≡ true → a ≡ true
@@ -227,24 +227,24 @@ module _ (wsize : ℕ) (sent turn : Turn) where
 
 -- ---- steps of operations
 
-waits-asks : (next : Next) (flies commits : Option (List ℕ)) → next ≡ nexts.Wait → AskFits next flies commits
-waits-asks next flies commits is = subst (λ (n : Next). AskFits n flies commits) (sym is) tt
+waits-asks : (next : Step) (flies commits : Option (List ℕ)) → next ≡ nexts.Wait → AskFits next flies commits
+waits-asks next flies commits is = subst (λ (n : Step). AskFits n flies commits) (sym is) tt
 
-done-asks : (answer : Answer) (next : Next) (flies commits : Option (List ℕ)) → next ≡ nexts.Done answer → AskFits next flies commits
-done-asks answer next flies commits is = subst (λ (n : Next). AskFits n flies commits) (sym is) tt
+done-asks : (answer : Answer) (next : Step) (flies commits : Option (List ℕ)) → next ≡ nexts.Done answer → AskFits next flies commits
+done-asks answer next flies commits is = subst (λ (n : Step). AskFits n flies commits) (sym is) tt
 
-pub plain-asks : (next : Next) (flies commits : Option (List ℕ)) → flies ≡ None → PlainAsks next → AskFits next flies commits
+pub plain-asks : (next : Step) (flies commits : Option (List ℕ)) → flies ≡ None → PlainAsks next → AskFits next flies commits
 plain-asks (nexts.Send call) flies commits none asks = other-fits flies commits call none (asks call refl)
 plain-asks nexts.Wait flies commits none asks = tt
 plain-asks (nexts.Done answer) flies commits none asks = tt
 
-send-asks : (call : Call) (next : Next) (flies commits : Option (List ℕ)) → next ≡ nexts.Send call → Fits flies commits call → AskFits next flies commits
-send-asks call next flies commits is f = subst (λ (n : Next). AskFits n flies commits) (sym is) f
+send-asks : (call : Call) (next : Step) (flies commits : Option (List ℕ)) → next ≡ nexts.Send call → Fits flies commits call → AskFits next flies commits
+send-asks call next flies commits is f = subst (λ (n : Step). AskFits n flies commits) (sym is) f
 
 module _ (wsize : ℕ) (turn : Turn) where
   -- ---- syncs
 
-  sync-as : (gives : _) (saved : Saving) (next : Next) (state : Syncing) → next ≡ syncs.sync_next gives → state ≡ syncs.sync_state gives saved
+  sync-as : (gives : _) (saved : Saving) (next : Step) (state : Syncing) → next ≡ syncs.sync_next gives → state ≡ syncs.sync_state gives saved
       → SaveAsks (syncs.sync_next gives) saved → AskFits next (flies_sync state) (commits_sync state)
   sync-as gives saved next state n s a = by-step
       (λ g. next ≡ syncs.sync_next g → state ≡ syncs.sync_state g saved → SaveAsks (syncs.sync_next g) saved → AskFits next (flies_sync state) (commits_sync state))
@@ -253,13 +253,13 @@ module _ (wsize : ℕ) (turn : Turn) where
       (λ result n s a. done-asks _ next _ _ n)
       gives n s a
 
-  sync-queues : (b : Bool) (lane : ℕ) (saving : Saving) (old : Shelf) (next : Next) (state : Syncing) (new : Shelf) → syncs.QueuesIf b wsize lane turn saving old next state new
+  sync-queues : (b : Bool) (lane : ℕ) (saving : Saving) (old : Shelf) (next : Step) (state : Syncing) (new : Shelf) → syncs.QueuesIf b wsize lane turn saving old next state new
       → AskFits next (flies_sync state) (commits_sync state)
   sync-queues true lane saving old next state new q =
       sync-as q.gives q.saved next state q.follows.next_is q.follows.state_is (goes-asks wsize turn.xid turn.room false saving old.back q.gives q.saved new.back q.goes)
   sync-queues false lane saving old next state new q = waits-asks next _ _ q.next_is
 
-  sync-starts : (m : SyncFile) (old : Shelf) (next : Next) (state : Syncing) (new : Shelf) → syncs.Starts wsize m turn old next state new
+  sync-starts : (m : SyncFile) (old : Shelf) (next : Step) (state : Syncing) (new : Shelf) → syncs.Starts wsize m turn old next state new
       → AskFits next (flies_sync state) (commits_sync state)
   sync-starts m old next state new s = at (file_at m.lane m.slot old.opens) s
     where
@@ -267,12 +267,12 @@ module _ (wsize : ℕ) (turn : Turn) where
       at None s = done-asks _ next _ _ s.next_is
       at (Some file) s = sync-queues (is_first m.lane (joined m.lane file old).order) m.lane (saves.begun file old.seq) (joined m.lane file old) next state new s
 
-  sync-resumes : (at : Syncing) (m : SyncFile) (old : Shelf) (next : Next) (state : Syncing) (new : Shelf) → syncs.Resumes at wsize m turn old next state new
+  sync-resumes : (at : Syncing) (m : SyncFile) (old : Shelf) (next : Step) (state : Syncing) (new : Shelf) → syncs.Resumes at wsize m turn old next state new
       → AskFits next (flies_sync state) (commits_sync state)
   sync-resumes syncing.Idle m old next state new s = waits-asks next _ _ s.next_is
   sync-resumes (syncing.Saves saving) m old next state new s = sync-queues (is_first m.lane old.order) m.lane saving old next state new s
 
-  sync-takes : (sent : Turn) (came : Result Reply Fault) (at : Syncing) (m : SyncFile) (old : Shelf) (next : Next) (state : Syncing) (new : Shelf)
+  sync-takes : (sent : Turn) (came : Result Reply Fault) (at : Syncing) (m : SyncFile) (old : Shelf) (next : Step) (state : Syncing) (new : Shelf)
       → syncs.Takes at wsize m sent turn came old next state new → AskFits next (flies_sync state) (commits_sync state)
   sync-takes sent came syncing.Idle m old next state new s = waits-asks next _ _ s.next_is
   sync-takes sent came (syncing.Saves saving) m old next state new s =
@@ -280,12 +280,12 @@ module _ (wsize : ℕ) (turn : Turn) where
 
   -- ---- closes
 
-  close-asks : (b : Bool) (removal : Removal) (old : Shelf) (next : Next) (state : Closing) (new : Shelf) → closes.Asks b removal old next state new
+  close-asks : (b : Bool) (removal : Removal) (old : Shelf) (next : Step) (state : Closing) (new : Shelf) → closes.Asks b removal old next state new
       → AskFits next (flies_close state) (commits_close state)
   close-asks true removal old next state new a = send-asks (remove_of removal) next _ _ a.next_is (other-fits _ _ (remove_of removal) (ap flies_close a.state_is) tt)
   close-asks false removal old next state new a = waits-asks next _ _ a.next_is
 
-  close-frees : (lane slot : ℕ) (file : List ℕ) (refusal : Option Fault) (old : Shelf) (next : Next) (state : Closing) (new : Shelf)
+  close-frees : (lane slot : ℕ) (file : List ℕ) (refusal : Option Fault) (old : Shelf) (next : Step) (state : Closing) (new : Shelf)
       → closes.Frees lane slot turn.room file refusal old next state new → AskFits next (flies_close state) (commits_close state)
   close-frees lane slot file refusal old next state new f = at f.place f.ends
     where
@@ -293,7 +293,7 @@ module _ (wsize : ℕ) (turn : Turn) where
       at None e = done-asks _ next _ _ e.next_is
       at (Some place) e = close-asks turn.room (record { file = file; dir = place.0; name = place.1; refusal = refusal }) f.freed next state new e
 
-  close-follows : (gives : _) (lane slot : ℕ) (begun : Bool) (saving : Saving) (old : Shelf) (next : Next) (state : Closing) (new : Shelf)
+  close-follows : (gives : _) (lane slot : ℕ) (begun : Bool) (saving : Saving) (old : Shelf) (next : Step) (state : Closing) (new : Shelf)
       → closes.Follows gives lane slot turn.room begun saving old next state new → SaveAsks (syncs.sync_next gives) saving → AskFits next (flies_close state) (commits_close state)
   close-follows gives lane slot begun saving old next state new f a = by-step
       (λ g. closes.Follows g lane slot turn.room begun saving old next state new → SaveAsks (syncs.sync_next g) saving → AskFits next (flies_close state) (commits_close state))
@@ -302,12 +302,12 @@ module _ (wsize : ℕ) (turn : Turn) where
       (λ result f a. close-frees lane slot saving.file (refusal_of result) old next state new f)
       gives f a
 
-  close-on : (lane slot : ℕ) (begun : Bool) (saving : Saving) (old : Shelf) (next : Next) (state : Closing) (new : Shelf)
+  close-on : (lane slot : ℕ) (begun : Bool) (saving : Saving) (old : Shelf) (next : Step) (state : Closing) (new : Shelf)
       → closes.GoesOn wsize lane slot turn begun saving old next state new → AskFits next (flies_close state) (commits_close state)
   close-on lane slot begun saving old next state new g =
       close-follows g.gives lane slot begun g.saved g.gone next state new g.follows (goes-asks wsize turn.xid turn.room false saving old.back g.gives g.saved g.gone.back g.goes)
 
-  close-queues : (b : Bool) (lane slot : ℕ) (saving : Saving) (old : Shelf) (next : Next) (state : Closing) (new : Shelf)
+  close-queues : (b : Bool) (lane slot : ℕ) (saving : Saving) (old : Shelf) (next : Step) (state : Closing) (new : Shelf)
       → closes.QueuesIf b wsize lane slot turn saving old next state new → AskFits next (flies_close state) (commits_close state)
   close-queues false lane slot saving old next state new q = waits-asks next _ _ q.next_is
   close-queues true lane slot saving old next state new q = at (last_end (of_file saving.file old.back).segments) q
@@ -316,7 +316,7 @@ module _ (wsize : ℕ) (turn : Turn) where
       at None b = close-frees lane slot saving.file None old next state new b
       at (Some end) b = close-on lane slot false saving old next state new b
 
-  close-starts : (m : CloseFile) (old : Shelf) (next : Next) (state : Closing) (new : Shelf) → closes.Starts wsize m turn old next state new
+  close-starts : (m : CloseFile) (old : Shelf) (next : Step) (state : Closing) (new : Shelf) → closes.Starts wsize m turn old next state new
       → AskFits next (flies_close state) (commits_close state)
   close-starts m old next state new s = at (file_at m.lane m.slot old.opens) s
     where
@@ -324,7 +324,7 @@ module _ (wsize : ℕ) (turn : Turn) where
       at None s = done-asks _ next _ _ s.next_is
       at (Some file) s = close-queues (is_first m.lane (joined m.lane file old).order) m.lane m.slot (saves.begun file old.seq) (joined m.lane file old) next state new s
 
-  close-resumes : (at : Closing) (m : CloseFile) (old : Shelf) (next : Next) (state : Closing) (new : Shelf) → closes.Resumes at wsize m turn old next state new
+  close-resumes : (at : Closing) (m : CloseFile) (old : Shelf) (next : Step) (state : Closing) (new : Shelf) → closes.Resumes at wsize m turn old next state new
       → AskFits next (flies_close state) (commits_close state)
   close-resumes closing.Idle m old next state new s = waits-asks next _ _ s.next_is
   close-resumes (closing.Queued saving) m old next state new s = close-queues (is_first m.lane old.order) m.lane m.slot saving old next state new s
@@ -336,7 +336,7 @@ module _ (wsize : ℕ) (turn : Turn) where
   close-resumes (closing.ToRemove removal) m old next state new s = close-asks turn.room removal old next state new s
   close-resumes (closing.Removing removal) m old next state new s = waits-asks next _ _ s.next_is
 
-  close-takes : (sent : Turn) (came : Result Reply Fault) (at : Closing) (m : CloseFile) (old : Shelf) (next : Next) (state : Closing) (new : Shelf)
+  close-takes : (sent : Turn) (came : Result Reply Fault) (at : Closing) (m : CloseFile) (old : Shelf) (next : Step) (state : Closing) (new : Shelf)
       → closes.Takes at wsize m sent turn came old next state new → AskFits next (flies_close state) (commits_close state)
   close-takes sent came closing.Idle m old next state new s = waits-asks next _ _ s.next_is
   close-takes sent came (closing.Queued saving) m old next state new s = waits-asks next _ _ s.next_is
@@ -352,7 +352,7 @@ module _ (wsize : ℕ) (turn : Turn) where
 
   -- ---- writes and fills
 
-  room-as : (told : _) (lane : ℕ) (file : List ℕ) (saved : Saving) (shelf : Shelf) (next : Next) (state : Writing) (after : Shelf)
+  room-as : (told : _) (lane : ℕ) (file : List ℕ) (saved : Saving) (shelf : Shelf) (next : Step) (state : Writing) (after : Shelf)
       → writes.Leads (writes.room_next told) (writes.room_state told file saved) (writes.room_shelf told lane shelf) next state after → SaveAsks (syncs.sync_next told) saved
       → AskFits next (flies_write state) (commits_write state)
   room-as told lane file saved shelf next state after r a = by-step
@@ -368,14 +368,14 @@ module _ (wsize : ℕ) (turn : Turn) where
       ended (Ok done) r a = waits-asks next _ _ r.gives_next
       ended (Err fault) r a = done-asks _ next _ _ r.gives_next
 
-  write-saves : (b : Bool) (lane : ℕ) (file : List ℕ) (saving : Saving) (shelf : Shelf) (next : Next) (state : Writing) (after : Shelf)
+  write-saves : (b : Bool) (lane : ℕ) (file : List ℕ) (saving : Saving) (shelf : Shelf) (next : Step) (state : Writing) (after : Shelf)
       → writes.SavesIf b wsize lane file saving turn shelf next state after → AskFits next (flies_write state) (commits_write state)
   write-saves false lane file saving shelf next state after s = waits-asks next _ _ s.gives_next
   write-saves true lane file saving shelf next state after s =
       room-as s.told lane file s.saved (record shelf { back = s.back }) next state after s.leads
       (goes-asks wsize turn.xid turn.room false saving shelf.back s.told s.saved s.back s.goes)
 
-  write-writes : (lane : ℕ) (file : List ℕ) (offset : ℕ) (bytes : List ℕ) (shelf : Shelf) (next : Next) (state : Writing) (after : Shelf)
+  write-writes : (lane : ℕ) (file : List ℕ) (offset : ℕ) (bytes : List ℕ) (shelf : Shelf) (next : Step) (state : Writing) (after : Shelf)
       → writes.Writes wsize lane file offset bytes turn shelf next state after → AskFits next (flies_write state) (commits_write state)
   write-writes lane file offset bytes shelf next state after wrote = by (is_full bytes shelf.back) wrote
     where
@@ -385,7 +385,7 @@ module _ (wsize : ℕ) (turn : Turn) where
       by false (inl s) = done-asks _ next _ _ s.leads.gives_next
       by false (inr s) = done-asks _ next _ _ s.gives_next
 
-  write-starts : (m : WriteFile) (old : Shelf) (next : Next) (new : WriteFile) (after : Shelf) → writes.Starts wsize m turn old next new after
+  write-starts : (m : WriteFile) (old : Shelf) (next : Step) (new : WriteFile) (after : Shelf) → writes.Starts wsize m turn old next new after
       → AskFits next (flies_write new.state) (commits_write new.state)
   write-starts m old next new after s = at (file_to_write m.lane m.slot old.opens) s
     where
@@ -394,12 +394,12 @@ module _ (wsize : ℕ) (turn : Turn) where
       at (Ok file) (inr s) = done-asks _ next _ _ s.refuses.gives_next
       at (Ok file) (inl s) = write-writes m.lane file m.offset (writes.text_bytes m.text) old next new.state after s.writes
 
-  write-resumes : (at : Writing) (lane : ℕ) (old : Shelf) (next : Next) (state : Writing) (after : Shelf) → writes.ResumesIn at wsize lane turn old next state after
+  write-resumes : (at : Writing) (lane : ℕ) (old : Shelf) (next : Step) (state : Writing) (after : Shelf) → writes.ResumesIn at wsize lane turn old next state after
       → AskFits next (flies_write state) (commits_write state)
   write-resumes writing.Idle lane old next state after s = waits-asks next _ _ s.gives_next
   write-resumes (writing.Room file saving) lane old next state after s = write-saves (is_first lane old.order) lane file saving old next state after s
 
-  write-follows : (told : _) (m : WriteFile) (file : List ℕ) (saved : Saving) (shelf : Shelf) (next : Next) (state : Writing) (after : Shelf)
+  write-follows : (told : _) (m : WriteFile) (file : List ℕ) (saved : Saving) (shelf : Shelf) (next : Step) (state : Writing) (after : Shelf)
       → writes.Follows told wsize m file saved turn shelf next state after → SaveAsks (syncs.sync_next told) saved → AskFits next (flies_write state) (commits_write state)
   write-follows told m file saved shelf next state after f a = by-step
       (λ k. writes.Follows k wsize m file saved turn shelf next state after → SaveAsks (syncs.sync_next k) saved → AskFits next (flies_write state) (commits_write state))
@@ -412,7 +412,7 @@ module _ (wsize : ℕ) (turn : Turn) where
       ended (Ok done) f a = write-writes m.lane file m.offset (writes.made_bytes m.text) (record shelf { order = left m.lane shelf.order }) next state after f
       ended (Err fault) f a = done-asks _ next _ _ f.gives_next
 
-  write-takes : (sent : Turn) (came : Result Reply Fault) (at : Writing) (m : WriteFile) (old : Shelf) (next : Next) (state : Writing) (after : Shelf)
+  write-takes : (sent : Turn) (came : Result Reply Fault) (at : Writing) (m : WriteFile) (old : Shelf) (next : Step) (state : Writing) (after : Shelf)
       → writes.TakesIn at wsize m sent turn came old next state after → AskFits next (flies_write state) (commits_write state)
   write-takes sent came writing.Idle m old next state after s = waits-asks next _ _ s.gives_next
   write-takes sent came (writing.Room file saving) m old next state after s =
@@ -420,7 +420,7 @@ module _ (wsize : ℕ) (turn : Turn) where
 
   -- ---- puts
 
-  put-follows : (gives : _) (lane : ℕ) (saving : Saving) (old : Shelf) (next : Next) (state : Putting) (write : Writing) (after : Shelf)
+  put-follows : (gives : _) (lane : ℕ) (saving : Saving) (old : Shelf) (next : Step) (state : Putting) (write : Writing) (after : Shelf)
       → puts.Follows gives lane saving old next state after → SaveAsks (syncs.sync_next gives) saving → AskFits next (flies_put state write) (commits_put state write)
   put-follows gives lane saving old next state write after f a = by-step
       (λ g. puts.Follows g lane saving old next state after → SaveAsks (syncs.sync_next g) saving → AskFits next (flies_put state write) (commits_put state write))
@@ -429,13 +429,13 @@ module _ (wsize : ℕ) (turn : Turn) where
       (λ result f a. done-asks _ next _ _ f.next_is)
       gives f a
 
-  put-queues : (b : Bool) (lane : ℕ) (saving : Saving) (old : Shelf) (next : Next) (state : Putting) (write : Writing) (after : Shelf)
+  put-queues : (b : Bool) (lane : ℕ) (saving : Saving) (old : Shelf) (next : Step) (state : Putting) (write : Writing) (after : Shelf)
       → puts.QueuesIf b wsize lane turn saving old next state after → AskFits next (flies_put state write) (commits_put state write)
   put-queues false lane saving old next state write after q = waits-asks next _ _ q.next_is
   put-queues true lane saving old next state write after g =
       put-follows g.gives lane g.saved g.gone next state write after g.follows (goes-asks wsize turn.xid turn.room false saving old.back g.gives g.saved g.gone.back g.goes)
 
-  put-wrote : (told : Next) (lane : ℕ) (file : List ℕ) (old : Shelf) (next : Next) (state : Putting) (write : Writing) (after : Shelf)
+  put-wrote : (told : Step) (lane : ℕ) (file : List ℕ) (old : Shelf) (next : Step) (state : Putting) (write : Writing) (after : Shelf)
       → puts.AfterWrite told wsize lane file turn old next state after → AskFits told (flies_write write) (commits_write write)
       → AskFits next (flies_put state write) (commits_put state write)
   put-wrote (nexts.Send call) lane file old next state write after a f =
@@ -445,18 +445,18 @@ module _ (wsize : ℕ) (turn : Turn) where
       put-queues (is_first lane (joined lane file old).order) lane (saves.begun file old.seq) (joined lane file old) next state write after a
   put-wrote (nexts.Done (answers.Refused fault)) lane file old next state write after a f = done-asks _ next _ _ a.next_is
 
-  put-as : (next : Next) (to new : PutFile) → new ≡ to → AskFits next (flies_put to.state to.write.state) (commits_put to.state to.write.state)
+  put-as : (next : Step) (to new : PutFile) → new ≡ to → AskFits next (flies_put to.state to.write.state) (commits_put to.state to.write.state)
       → AskFits next (flies_put new.state new.write.state) (commits_put new.state new.write.state)
   put-as next to new is a = subst (λ (m : PutFile). AskFits next (flies_put m.state m.write.state) (commits_put m.state m.write.state)) (sym is) a
 
-  put-goes : (m : PutFile) (file : List ℕ) (told : Next) (written : Writing) (mid : Shelf) (next : Next) (new : PutFile) (after : Shelf)
+  put-goes : (m : PutFile) (file : List ℕ) (told : Step) (written : Writing) (mid : Shelf) (next : Step) (new : PutFile) (after : Shelf)
       → puts.WritesOn wsize m file turn told written mid next new after → AskFits told (flies_write written) (commits_write written)
       → AskFits next (flies_put new.state new.write.state) (commits_put new.state new.write.state)
   put-goes m file told written mid next new after g a =
       put-as next (record m { write = record m.write { state = written }; state = new.state }) new g.machine_is
       (put-wrote told m.write.lane file mid next new.state written after g.follows a)
 
-  put-opened : (step : OpeningNext) (m : PutFile) (old : Shelf) (next : Next) (new : PutFile) (after : Shelf) → m.state ≡ putting.Opens → puts.AfterOpening step wsize m turn old next new after
+  put-opened : (step : OpeningStep) (m : PutFile) (old : Shelf) (next : Step) (new : PutFile) (after : Shelf) → m.state ≡ putting.Opens → puts.AfterOpening step wsize m turn old next new after
       → OpeningAsks step → AskFits next (flies_put new.state new.write.state) (commits_put new.state new.write.state)
   put-opened (openings.Send call) m old next new after at a asks =
       send-asks call next _ _ a.0 (other-fits _ _ call (ap (λ (p : PutFile). flies_put p.state p.write.state) a.1 ∙ ap (λ (t : Putting). flies_put t m.write.state) at) (asks call refl))
@@ -466,7 +466,7 @@ module _ (wsize : ℕ) (turn : Turn) where
       (write-writes m.write.lane file m.write.offset (writes.made_bytes m.write.text) (puts.put_at m.write.lane file old) a.told a.written a.mid a.writes)
   put-opened (openings.Ended (Err fault)) m old next new after at a asks = done-asks _ next _ _ a.0
 
-  put-resumes : (at : Putting) (m : PutFile) (old : Shelf) (next : Next) (new : PutFile) (after : Shelf) → m.state ≡ at → puts.Resumes at wsize m turn old next new after
+  put-resumes : (at : Putting) (m : PutFile) (old : Shelf) (next : Step) (new : PutFile) (after : Shelf) → m.state ≡ at → puts.Resumes at wsize m turn old next new after
       → AskFits next (flies_put new.state new.write.state) (commits_put new.state new.write.state)
   put-resumes putting.Idle m old next new after at s = waits-asks next _ _ s.next_is
   put-resumes putting.Opens m old next new after at s =
@@ -476,7 +476,7 @@ module _ (wsize : ℕ) (turn : Turn) where
   put-resumes (putting.Saves saving) m old next new after at s =
       put-as next (record m { state = new.state }) new s.1 (put-queues (is_first m.write.lane old.order) m.write.lane saving old next new.state m.write.state after s.0)
 
-  put-takes : (sent : Turn) (came : Result Reply Fault) (at : Putting) (m : PutFile) (old : Shelf) (next : Next) (new : PutFile) (after : Shelf)
+  put-takes : (sent : Turn) (came : Result Reply Fault) (at : Putting) (m : PutFile) (old : Shelf) (next : Step) (new : PutFile) (after : Shelf)
       → m.state ≡ at → puts.Takes at wsize m sent turn came old next new after → AskFits next (flies_put new.state new.write.state) (commits_put new.state new.write.state)
   put-takes sent came putting.Idle m old next new after at s = waits-asks next _ _ s.next_is
   put-takes sent came putting.Opens m old next new after at s =
@@ -493,13 +493,13 @@ module _ (wsize : ℕ) (turn : Turn) where
 
   -- ---- any operation on a file
 
-  abbrev pub FileAsks : Next → FileMachine → Type 0
+  abbrev pub FileAsks : Step → FileMachine → Type 0
   FileAsks next m = AskFits next (flies_file m) (commits_file m)
 
-  file-as : (next : Next) (to new : FileMachine) → new ≡ to → FileAsks next to → FileAsks next new
+  file-as : (next : Step) (to new : FileMachine) → new ≡ to → FileAsks next to → FileAsks next new
   file-as next to new is a = subst (λ (m : FileMachine). FileAsks next m) (sym is) a
 
-  pub file-starts : (m : FileMachine) (old : Shelf) (next : Next) (new : FileMachine) (after : Shelf) → steps.Starts wsize m turn old next new after → FileAsks next new
+  pub file-starts : (m : FileMachine) (old : Shelf) (next : Step) (new : FileMachine) (after : Shelf) → steps.Starts wsize m turn old next new after → FileAsks next new
   file-starts (files.Open m) old next new after s = plain-asks next _ _ (ap flies_file s.machine_is) (open-starts m turn old.opens next s.next_is)
   file-starts (files.Read m) old next new after s =
       plain-asks next _ _ (ap flies_file s.machine_is) (read-starts (finite.get old.opens (m.lane, m.slot)) turn m old.pages old.back next s.machine after.pages s.step)
@@ -511,7 +511,7 @@ module _ (wsize : ℕ) (turn : Turn) where
       plain-asks next _ _ (ap flies_file s.machine_is) (opening-plain (opening.go_next (puts.opening_at turn m) turn) next s.next_is
       (go-asks (puts.opening_at turn m) turn (opening.go_next (puts.opening_at turn m) turn) refl))
 
-  pub file-resumes : (m : FileMachine) (old : Shelf) (next : Next) (new : FileMachine) (after : Shelf) → steps.Resumes wsize m turn old next new after → FileAsks next new
+  pub file-resumes : (m : FileMachine) (old : Shelf) (next : Step) (new : FileMachine) (after : Shelf) → steps.Resumes wsize m turn old next new after → FileAsks next new
   file-resumes (files.Open m) old next new after s = plain-asks next _ _ (ap flies_file s.machine_is) (open-resumes m turn next s.next_is)
   file-resumes (files.Read m) old next new after s =
       plain-asks next _ _ (ap flies_file s.machine_is) (read-resumes m.reading turn m old.pages old.back next s.machine after.pages s.step)
@@ -521,7 +521,7 @@ module _ (wsize : ℕ) (turn : Turn) where
   file-resumes (files.Truncate m) old next new after s = plain-asks next _ _ (ap flies_file s.machine_is) (truncate-resumes m.state m turn old next s.next_is)
   file-resumes (files.Put m) old next new after s = file-as next (files.Put s.machine) new s.machine_is (put-resumes m.state m old next s.machine after refl s.step)
 
-  pub file-takes : (sent : Turn) (came : Result Reply Fault) (m : FileMachine) (old : Shelf) (next : Next) (new : FileMachine) (after : Shelf)
+  pub file-takes : (sent : Turn) (came : Result Reply Fault) (m : FileMachine) (old : Shelf) (next : Step) (new : FileMachine) (after : Shelf)
       → steps.Takes wsize m sent turn came old next new after → FileAsks next new
   file-takes sent came (files.Open m) old next new after s =
       plain-asks next _ _ (ap flies_file s.machine_is) (open-takes m sent turn came after.attrs old.repeats next old.pages after.pages old.opens after.opens s.steps)

@@ -1,11 +1,11 @@
 -- While a COMMIT of a file waits nothing of it is in flight, and no WRITE of it waits.
-use Rattle.core_answers.proofs.Prelude.{◌≡◌, ◌≢◌, ◌≤◌, ◌⊎◌, inl, inr, ℕ, Bool, true, false, List, [], ◌∷◌, Option, Some, None, option_map, slice_get, refl, sym, ap, subst, ◌∙◌, arith, Waiting, waiting_at, of_file, Sent, piece_under, same-or, Entry, Call, Op, LaneFile, Next, Shelf, IsUnused, Closing, Opening, Putting, Saving, Syncing, Truncating, Writing, Mounted, FileMachine, Machine, Opener, PathMachine, machine_of, file_of, Lane, Purpose, Busy, Setup, View, of_writing, of_syncing, of_closing, of_truncating, of_putting, in_flight, Reaches, begins-unbegun, of_path, path-file, calls-some, flies_if, flies_save, flies_write, flies_sync, flies_close, flies_put, flies_file, flies_path, flies_of, Flies, Flown, sender, look_at, keeps-flown, Known, purpose_at, reached-all, lanes-under-way, TaleLaws, reached-good, Did}
+use Rattle.core_answers.proofs.Prelude.{◌≡◌, ◌≢◌, ◌≤◌, ◌⊎◌, inl, inr, ℕ, Bool, true, false, List, [], ◌∷◌, Option, Some, None, option_map, slice_get, refl, sym, ap, subst, ◌∙◌, arith, Waiting, waiting_at, of_file, Sent, piece_under, same-or, Entry, Call, Op, LaneFile, Step, Shelf, IsUnused, Closing, Opening, Putting, Saving, Syncing, Truncating, Writing, Mounted, FileMachine, Machine, Opener, PathMachine, machine_of, file_of, Lane, Purpose, Busy, Setup, View, of_writing, of_syncing, of_closing, of_truncating, of_putting, in_flight, Reaches, begins-unbegun, of_path, path-file, calls-some, flies_if, flies_save, flies_write, flies_sync, flies_close, flies_put, flies_file, flies_path, flies_of, Flies, Flown, sender, look_at, keeps-flown, Known, purpose_at, reached-all, lanes-under-way, TaleLaws, reached-good, Did}
 use Rattle.write_back.specs.Files.{HasNoPiece}
 use Rattle.core_facts.proofs.Flown.{flies_state}
 use Rattle.core_facts.proofs.Keeping.{lane-count, reached-kept}
 use Rattle.core_facts.proofs.Tales.{AllGood}
 use Rattle.world_model.specs.declared.message.Call.TheVariants as calls
-use Rattle.client_shelf.specs.declared.next.Next.TheVariants as nexts
+use Rattle.client_shelf.specs.declared.step.Step.TheVariants as nexts
 use Rattle.file_ops.specs.declared.close_file.Closing.TheVariants as closing
 use Rattle.file_ops.specs.declared.put_file.Putting.TheVariants as putting
 use Rattle.file_ops.specs.declared.sync_file.Syncing.TheVariants as syncing
@@ -229,7 +229,7 @@ module _ (f : List ℕ) where
 
 -- ---- each call that waits is one that its operation asked for
 
-any-did : (h : List Entry) (x : ℕ) (op : Op) (next : Next) (new : Machine) (after : Shelf)
+any-did : (h : List Entry) (x : ℕ) (op : Op) (next : Step) (new : Machine) (after : Shelf)
     → Did (λ g y o c. Unit {0}) (λ g s. Unit {0}) (λ g y o s. Unit {0}) h x op next new after
 any-did h x op (nexts.Send call) new after = record { shelf = tt; asks = tt; then_ = tt }
 any-did h x op nexts.Wait new after = record { shelf = tt; asks = tt; then_ = tt }

@@ -1,5 +1,5 @@
 -- A fact of what is pending and one of each operation under way, over what a step of a lane leads to.
-use Rattle.core_answers.proofs.Prelude.{◌≡◌, ◌⊎◌, inl, inr, ℕ, List, [], ◌∷◌, ◌++◌, length, Some, slice_get, slice_set, Err, sym, subst, ◌∙◌, Fault, Pending, Next, Send, Wait, Done, Shelf, Machine, Takes, Lane, State, Busy, Over, IsRefused, Leads, View, turn_at, unmade_turn, at-set, get-push, get-remove, skip, by-place, set-other}
+use Rattle.core_answers.proofs.Prelude.{◌≡◌, ◌⊎◌, inl, inr, ℕ, List, [], ◌∷◌, ◌++◌, length, Some, slice_get, slice_set, Err, sym, subst, ◌∙◌, Fault, Pending, Step, Send, Wait, Done, Shelf, Machine, Takes, Lane, State, Busy, Over, IsRefused, Leads, View, turn_at, unmade_turn, at-set, get-push, get-remove, skip, by-place, set-other}
 use Rattle.std.proofs.Common.{remove}
 
 abbrev pub StateHas : (Machine → Type 0) → State → Type 0
@@ -42,10 +42,10 @@ lanes-set K lanes at number was state there s own =
 
 -- what a call that isn't made leaves
 abbrev pub Unmade : (Pending → Type 0) → (Machine → Type 0) → View → Machine → Type 0
-Unmade J K v machine = (fault : Fault) (next : Next) (after : Machine) (left : Shelf) → Takes v.wsize machine (turn_at v) (unmade_turn v) (Err fault) v.shelf next after left
+Unmade J K v machine = (fault : Fault) (next : Step) (after : Machine) (left : Shelf) → Takes v.wsize machine (turn_at v) (unmade_turn v) (Err fault) v.shelf next after left
     → J left.back × K after
 
-pub leads-holds : (J : Pending → Type 0) (K : Machine → Type 0) (v new : View) (at number : ℕ) (machine : Machine) (next : Next)
+pub leads-holds : (J : Pending → Type 0) (K : Machine → Type 0) (v new : View) (at number : ℕ) (machine : Machine) (next : Step)
     → slice_get v.lanes at ≡ Some (record { number = number; state = Busy machine }) → Holds J K v → Unmade J K v machine → Leads v at number machine next new → Holds J K new
 leads-holds J K v new at number machine (Send call) there i unmade (inl m) = subst (Holds J K) (sym m.is) (record { back = i.back; lanes = i.lanes })
 leads-holds J K v new at number machine (Send call) there i unmade (inr f) = subst (Holds J K) (sym f.is) (record {
@@ -56,7 +56,7 @@ leads-holds J K v new at number machine (Send call) there i unmade (inr f) = sub
     left : J f.left.back × K f.after
     left = unmade f.fault f.next f.after f.left f.takes
 
-    by : (next : Next) → IsRefused f.after next f.state → StateHas K f.state
+    by : (next : Step) → IsRefused f.after next f.state → StateHas K f.state
     by (Send again) is = absurd is
     by Wait is = subst (StateHas K) (sym is) left.1
     by (Done answer) is = subst (StateHas K) (sym is) tt

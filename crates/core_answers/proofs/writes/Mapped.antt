@@ -1,6 +1,6 @@
 -- What is said of pending bytes, and of those that an operation may add, says whatever follows of each byte.
-use Rattle.core_answers.proofs.Prelude.{ℕ, Bool, true, false, List, [], ◌∷◌, Call, Opens, Pending, of_file, Sent, FilePending, Segments, Next, Closing, Putting, Syncing, Writing, FileMachine, Machine, Opener, file_of}
-use Rattle.client_shelf.specs.declared.next.Next.TheVariants as nexts
+use Rattle.core_answers.proofs.Prelude.{ℕ, Bool, true, false, List, [], ◌∷◌, Call, Opens, Pending, of_file, Sent, FilePending, Segments, Step, Closing, Putting, Syncing, Writing, FileMachine, Machine, Opener, file_of}
+use Rattle.client_shelf.specs.declared.step.Step.TheVariants as nexts
 use Rattle.file_ops.specs.declared.close_file.Closing.TheVariants as closing
 use Rattle.file_ops.specs.declared.put_file.Putting.TheVariants as putting
 use Rattle.file_ops.specs.declared.sync_file.Syncing.TheVariants as syncing
@@ -76,7 +76,7 @@ any-other (machines.File m) call = tt
 any-other (machines.Path m) call = any-way m.arrived call
 any-other (machines.Name m) call = tt
 
-pub any-asks : (next : Next) (new : Machine) → AsksOther (λ c. Unit {0}) next new
+pub any-asks : (next : Step) (new : Machine) → AsksOther (λ c. Unit {0}) next new
 any-asks (nexts.Send call) new = any-other new call
 any-asks nexts.Wait new = tt
 any-asks (nexts.Done answer) new = tt

@@ -1,6 +1,6 @@
 -- What a step puts in flight under the xid of its turn is what the WRITE carries that it asks for.
-use Rattle.core_answers.proofs.Prelude.{◌≡◌, ◌≢◌, ◌⊎◌, inl, inr, ℕ, Bool, true, false, List, [], ◌∷◌, ◌++◌, Option, Some, None, Result, Ok, Err, refl, sym, ap, subst, ◌∙◌, unwrap_or, Verdict, AllStable, SendAgain, verdict_of, Verf, Fault, Call, Reply, lost, chosen, piece_of, with_sent, Pending, of_file, OnFile, with_xid, Sent, FilePending, piece_under, Segments, same-or, Next, Repeat, Turn, goes_again, Sending, Committing, Resending, CommittingAgain, Saving, commit_told, IsUnused, write_of}
-use Rattle.client_shelf.specs.declared.next.Next.TheVariants as nexts
+use Rattle.core_answers.proofs.Prelude.{◌≡◌, ◌≢◌, ◌⊎◌, inl, inr, ℕ, Bool, true, false, List, [], ◌∷◌, ◌++◌, Option, Some, None, Result, Ok, Err, refl, sym, ap, subst, ◌∙◌, unwrap_or, Verdict, AllStable, SendAgain, verdict_of, Verf, Fault, Call, Reply, lost, chosen, piece_of, with_sent, Pending, of_file, OnFile, with_xid, Sent, FilePending, piece_under, Segments, same-or, Step, Repeat, Turn, goes_again, Sending, Committing, Resending, CommittingAgain, Saving, commit_told, IsUnused, write_of}
+use Rattle.client_shelf.specs.declared.step.Step.TheVariants as nexts
 use Rattle.file_ops.specs.declared.saving.Phase.{Phase}
 use Rattle.file_ops.specs.Saves as saves
 use Rattle.file_ops.specs.Syncs as syncs
@@ -27,7 +27,7 @@ module _ (xid : ℕ) where
   abbrev pub Own : Call → Pending → Type 0
   Own call back = CarriesAll xid call back
 
-  pub free-after : (next : Next) (back : Pending) → Free back → After Free Own next back
+  pub free-after : (next : Step) (back : Pending) → Free back → After Free Own next back
   free-after (nexts.Send call) back free = unused-carries xid call back free
   free-after nexts.Wait back free = free
   free-after (nexts.Done answer) back free = free
@@ -190,12 +190,12 @@ module _ (y : ℕ) (start : Pending) where
     decides = λ file upto verf old new on p. same-under y start old new file _ refl on p;
   }
 
-  any-after : (next : Next) (back : Pending) → Same back → After Same (λ call. Same) next back
+  any-after : (next : Step) (back : Pending) → Same back → After Same (λ call. Same) next back
   any-after (nexts.Send call) back p = p
   any-after nexts.Wait back p = p
   any-after (nexts.Done answer) back p = p
 
-  pub after-same : (next : Next) (back : Pending) → After Same (λ call. Same) next back → Same back
+  pub after-same : (next : Step) (back : Pending) → After Same (λ call. Same) next back → Same back
   after-same (nexts.Send call) back p = p
   after-same nexts.Wait back p = p
   after-same (nexts.Done answer) back p = p

@@ -1,5 +1,5 @@
 -- Each byte that is pending is one that an operation gave.
-use Rattle.core_answers.proofs.Prelude.{◌≡◌, ◌+◌, ◌-◌, ℕ, List, [], ◌∷◌, ◌++◌, length, Bool, true, false, Option, Some, None, Result, Ok, Err, position, slice_get, refl, sym, ap, subst, ◌∙◌, arith, if◌then◌else◌, Mode, Waiting, waiting_at, Opened, Pending, of_file, nothing, Fault, Entry, Began, Answered, Delivered, Reply, Op, At, Modes, IsOf, Terms, At-grow, At-below, At-last, said_of, Next, Shelf, Turn, in_mode, of_open, file_to_write, Mounted, Machine, machine_of, Starts, Resumes, Takes, Lane, Purpose, Busy, Setup, is_busy, IsIdle, with_state, Stirs, counted, StartsLane, TakesAt, View, turn_at, unmade_turn, Reaches, begins-unbegun, taken_one, held-begins, Given, is-given, Known, at-push, at-set}
+use Rattle.core_answers.proofs.Prelude.{◌≡◌, ◌+◌, ◌-◌, ℕ, List, [], ◌∷◌, ◌++◌, length, Bool, true, false, Option, Some, None, Result, Ok, Err, position, slice_get, refl, sym, ap, subst, ◌∙◌, arith, if◌then◌else◌, Mode, Waiting, waiting_at, Opened, Pending, of_file, nothing, Fault, Entry, Began, Answered, Delivered, Reply, Op, At, Modes, IsOf, Terms, At-grow, At-below, At-last, said_of, Step, Shelf, Turn, in_mode, of_open, file_to_write, Mounted, Machine, machine_of, Starts, Resumes, Takes, Lane, Purpose, Busy, Setup, is_busy, IsIdle, with_state, Stirs, counted, StartsLane, TakesAt, View, turn_at, unmade_turn, Reaches, begins-unbegun, taken_one, held-begins, Given, is-given, Known, at-push, at-set}
 use Rattle.std.proofs.Common.{replicate}
 use Rattle.std.specs.Prelude.{slice_index}
 use Rattle.claims.specs.Slots.{slot_of}
@@ -12,7 +12,7 @@ use Rattle.write_back.specs.Segments.{covers}
 use Rattle.write_back.proofs.Keys.{low-of, high-of}
 use Rattle.world_model.specs.declared.op.Op.TheVariants as ops
 use Rattle.claims.specs.Rights.{can_write}
-use Rattle.client_shelf.specs.declared.next.Next.TheVariants as nexts
+use Rattle.client_shelf.specs.declared.step.Step.TheVariants as nexts
 use Rattle.file_ops.specs.Syncs as syncs
 use Rattle.core_facts.specs.SlotAnswers.{GoesWith}
 use Rattle.core_facts.proofs.SlotGrowth.{IsHeld, held-grow}
@@ -174,12 +174,12 @@ module _ (m : Modes) (h : List Entry) where
     decides = λ file upto verf old new on p. on-file-given Gave old new file _ on (λ g. decided-given (Gave file) upto verf (of_file file old) g) p;
   }
 
-  any-after : (next : Next) (back : Pending) → Back back → After Back (λ call. Back) next back
+  any-after : (next : Step) (back : Pending) → Back back → After Back (λ call. Back) next back
   any-after (nexts.Send call) back p = p
   any-after nexts.Wait back p = p
   any-after (nexts.Done answer) back p = p
 
-  after-any : (next : Next) (back : Pending) → After Back (λ call. Back) next back → Back back
+  after-any : (next : Step) (back : Pending) → After Back (λ call. Back) next back → Back back
   after-any (nexts.Send call) back p = p
   after-any nexts.Wait back p = p
   after-any (nexts.Done answer) back p = p
@@ -198,7 +198,7 @@ module _ (m : Modes) (h : List Entry) where
     takes = λ repeats s back next new after later t n p. any-after (syncs.sync_next next) after (takes-kept Back sent turn (kept sent.xid turn.xid) wsize came repeats s back next new after later t p);
   }
 
-  start-step : (wsize : ℕ) (turn : Turn) (machine : Machine) (old : Shelf) (next : Next) (new : Machine) (after : Shelf) → StartsWith (λ f o b. BytesGiven m h f o b) machine old.opens
+  start-step : (wsize : ℕ) (turn : Turn) (machine : Machine) (old : Shelf) (next : Step) (new : Machine) (after : Shelf) → StartsWith (λ f o b. BytesGiven m h f o b) machine old.opens
       → Starts wsize machine turn old next new after → Back old.back → Back after.back × Own new
   start-step wsize turn machine old next new after a s p = (
     after-any next after.back
@@ -206,7 +206,7 @@ module _ (m : Modes) (h : List Entry) where
     starts-brings (λ f o b. BytesGiven m h f o b) wsize machine turn old next new after a s,
   )
 
-  resume-step : (wsize : ℕ) (turn : Turn) (machine : Machine) (old : Shelf) (next : Next) (new : Machine) (after : Shelf) → Resumes wsize machine turn old next new after
+  resume-step : (wsize : ℕ) (turn : Turn) (machine : Machine) (old : Shelf) (next : Step) (new : Machine) (after : Shelf) → Resumes wsize machine turn old next new after
       → Back old.back → Own machine → Back after.back × Own new
   resume-step wsize turn machine old next new after s p own = (
     after-any next after.back
@@ -214,7 +214,7 @@ module _ (m : Modes) (h : List Entry) where
     resumes-brings (λ f o b. BytesGiven m h f o b) wsize machine turn old next new after own s,
   )
 
-  take-step : (wsize : ℕ) (sent turn : Turn) (came : Result Reply Fault) (machine : Machine) (old : Shelf) (next : Next) (new : Machine) (after : Shelf)
+  take-step : (wsize : ℕ) (sent turn : Turn) (came : Result Reply Fault) (machine : Machine) (old : Shelf) (next : Step) (new : Machine) (after : Shelf)
       → Takes wsize machine sent turn came old next new after → Back old.back → Own machine → Back after.back × Own new
   take-step wsize sent turn came machine old next new after s p own = (
     after-any next after.back

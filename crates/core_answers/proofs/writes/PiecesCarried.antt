@@ -1,5 +1,5 @@
 -- Along a history each piece in flight is what a WRITE that waits carries.
-use Rattle.core_answers.proofs.Prelude.{◌≡◌, ◌≢◌, ◌≤◌, ◌<◌, ◌+◌, inl, inr, ℕ, List, [], ◌∷◌, ◌++◌, length, Bool, true, false, cond, nat_eq, Option, Some, None, option_map, position, Result, Err, refl, sym, ap, subst, ◌∙◌, arith, eqb-true, eqb-false, Waiting, next_xid, made_call, waiting_at, without, waits_early, at_made, others_made, others_taken, gone, Pending, of_file, Sent, piece_under, Fault, Entry, Began, Delivered, Call, Reply, Op, SpellsCallBy, proc_of, said_of, Next, Send, Wait, Done, Shelf, Turn, IsUnused, Mounted, Machine, machine_of, Starts, Resumes, Takes, Purpose, Busy, Setup, is_busy, IsIdle, with_state, record_of, Makes, Leads, Stirs, counted, StartsLane, TakesAt, View, turn_at, unmade_turn, Reaches, begins-unbegun, taken_one, Flies, Flown, sender, look_at, keeps-flown, Known, purpose_at, Rows, same-rows, taken-rows, made-known, made-asked}
+use Rattle.core_answers.proofs.Prelude.{◌≡◌, ◌≢◌, ◌≤◌, ◌<◌, ◌+◌, inl, inr, ℕ, List, [], ◌∷◌, ◌++◌, length, Bool, true, false, cond, nat_eq, Option, Some, None, option_map, position, Result, Err, refl, sym, ap, subst, ◌∙◌, arith, eqb-true, eqb-false, Waiting, next_xid, made_call, waiting_at, without, waits_early, at_made, others_made, others_taken, gone, Pending, of_file, Sent, piece_under, Fault, Entry, Began, Delivered, Call, Reply, Op, SpellsCallBy, proc_of, said_of, Step, Send, Wait, Done, Shelf, Turn, IsUnused, Mounted, Machine, machine_of, Starts, Resumes, Takes, Purpose, Busy, Setup, is_busy, IsIdle, with_state, record_of, Makes, Leads, Stirs, counted, StartsLane, TakesAt, View, turn_at, unmade_turn, Reaches, begins-unbegun, taken_one, Flies, Flown, sender, look_at, keeps-flown, Known, purpose_at, Rows, same-rows, taken-rows, made-known, made-asked}
 use Rattle.rpc_message.specs.declared.cred.Cred.{Cred}
 use Rattle.rpc_retry.specs.Sound.{AreSound}
 use Rattle.core_answers.specs.writes.Carried.{IsCarried}
@@ -85,8 +85,8 @@ module _ (setup : Setup) (h : List Entry) (v : View) (r : Rows setup h v) (all :
           }))
       by false d = all xid w (sym (others_made xid (next_xid v.calls) v.calls.calls row d) ∙ is)
 
-  leads-spelled : (new : View) (at number : ℕ) (machine : Machine) (next : Next) → After (Free (next_xid v.calls)) (Own (next_xid v.calls)) next v.shelf.back
-      → ((fault : Fault) (step : Next) (after : Machine) (left : Shelf) → Takes v.wsize machine (turn_at v) (unmade_turn v) (Err fault) v.shelf step after left
+  leads-spelled : (new : View) (at number : ℕ) (machine : Machine) (next : Step) → After (Free (next_xid v.calls)) (Own (next_xid v.calls)) next v.shelf.back
+      → ((fault : Fault) (step : Step) (after : Machine) (left : Shelf) → Takes v.wsize machine (turn_at v) (unmade_turn v) (Err fault) v.shelf step after left
       → (xid : ℕ) → next_xid v.calls ≢ xid → 0 ≢ xid → SameUnder xid v.shelf.back left.back)
       → Leads v at number machine next new → AllSpelled setup new
   leads-spelled new at number machine (Send call) own unmade (inl m) = subst (AllSpelled setup) (sym m.is) (made-spelled number call new m own)
@@ -101,33 +101,33 @@ module _ (setup : Setup) (h : List Entry) (v : View) (r : Rows setup h v) (all :
 -- ---- each step of an operation
 
 module _ (wsize : ℕ) (turn : Turn) where
-  pub starts-under : (y : ℕ) → turn.xid ≢ y → (machine : Machine) (old : Shelf) (next : Next) (new : Machine) (after : Shelf) → Starts wsize machine turn old next new after
+  pub starts-under : (y : ℕ) → turn.xid ≢ y → (machine : Machine) (old : Shelf) (next : Step) (new : Machine) (after : Shelf) → Starts wsize machine turn old next new after
       → SameUnder y old.back after.back
   starts-under y other machine old next new after s =
       after-same y old.back next after.back
       (all-starts wsize turn (λ f o b n. Unit {0}) (λ c. Unit {0}) (λ call o. tt) (Same y old.back) (λ call. Same y old.back) (carries-same y old.back wsize turn other)
       machine old next new after (any-asks next new) (any-starts machine old.opens) (λ f. refl) s)
 
-  starts-own : (machine : Machine) (old : Shelf) (next : Next) (new : Machine) (after : Shelf) → Starts wsize machine turn old next new after → IsUnused turn.xid old.back
+  starts-own : (machine : Machine) (old : Shelf) (next : Step) (new : Machine) (after : Shelf) → Starts wsize machine turn old next new after → IsUnused turn.xid old.back
       → After (Free turn.xid) (Own turn.xid) next after.back
   starts-own machine old next new after s free =
       all-starts wsize turn (λ f o b n. Unit {0}) (λ c. Unit {0}) (λ call o. tt) (Free turn.xid) (Own turn.xid) (carries-own wsize turn)
       machine old next new after (any-asks next new) (any-starts machine old.opens) free s
 
-  pub resumes-under : (y : ℕ) → turn.xid ≢ y → (machine : Machine) (old : Shelf) (next : Next) (new : Machine) (after : Shelf) → Resumes wsize machine turn old next new after
+  pub resumes-under : (y : ℕ) → turn.xid ≢ y → (machine : Machine) (old : Shelf) (next : Step) (new : Machine) (after : Shelf) → Resumes wsize machine turn old next new after
       → SameUnder y old.back after.back
   resumes-under y other machine old next new after s =
       after-same y old.back next after.back
       (all-resumes wsize turn (λ f o b n. Unit {0}) (λ c. Unit {0}) (λ call o. tt) (Same y old.back) (λ call. Same y old.back) (carries-same y old.back wsize turn other)
       machine old next new after (any-asks next new) (λ f. refl) s)
 
-  resumes-own : (machine : Machine) (old : Shelf) (next : Next) (new : Machine) (after : Shelf) → Resumes wsize machine turn old next new after → IsUnused turn.xid old.back
+  resumes-own : (machine : Machine) (old : Shelf) (next : Step) (new : Machine) (after : Shelf) → Resumes wsize machine turn old next new after → IsUnused turn.xid old.back
       → After (Free turn.xid) (Own turn.xid) next after.back
   resumes-own machine old next new after s free =
       all-resumes wsize turn (λ f o b n. Unit {0}) (λ c. Unit {0}) (λ call o. tt) (Free turn.xid) (Own turn.xid) (carries-own wsize turn)
       machine old next new after (any-asks next new) free s
 
-  pub takes-under : (sent : Turn) (came : Result Reply Fault) (y : ℕ) → sent.xid ≢ y → turn.xid ≢ y → (machine : Machine) (old : Shelf) (next : Next) (new : Machine) (after : Shelf)
+  pub takes-under : (sent : Turn) (came : Result Reply Fault) (y : ℕ) → sent.xid ≢ y → turn.xid ≢ y → (machine : Machine) (old : Shelf) (next : Step) (new : Machine) (after : Shelf)
       → Takes wsize machine sent turn came old next new after → SameUnder y old.back after.back
   takes-under sent came y apart other machine old next new after s =
       after-same y old.back next after.back
@@ -135,7 +135,7 @@ module _ (wsize : ℕ) (turn : Turn) where
       sent came (λ s b. Unit {0}) (replies-same y old.back wsize sent turn came apart other) machine old next new after (any-asks next new) (any-brings machine) (any-saves machine)
       (λ f. refl) s)
 
-  takes-own : (sent : Turn) (came : Result Reply Fault) (machine : Machine) (old : Shelf) (next : Next) (new : Machine) (after : Shelf)
+  takes-own : (sent : Turn) (came : Result Reply Fault) (machine : Machine) (old : Shelf) (next : Step) (new : Machine) (after : Shelf)
       → Takes wsize machine sent turn came old next new after → IsUnused turn.xid old.back → After (Free turn.xid) (Own turn.xid) next after.back
   takes-own sent came machine old next new after s free =
       all-takes wsize turn (λ f o b n. Unit {0}) (λ c. Unit {0}) (λ call o. tt) (Free turn.xid) (Own turn.xid) (carries-own wsize turn)
@@ -144,7 +144,7 @@ module _ (wsize : ℕ) (turn : Turn) where
 -- ---- along a history
 
 module _ (m : Mounted) (setup : Setup) where
-  pub unmade-under : (v : View) (machine : Machine) (fault : Fault) (step : Next) (after : Machine) (left : Shelf)
+  pub unmade-under : (v : View) (machine : Machine) (fault : Fault) (step : Step) (after : Machine) (left : Shelf)
       → Takes v.wsize machine (turn_at v) (unmade_turn v) (Err fault) v.shelf step after left
       → (xid : ℕ) → next_xid v.calls ≢ xid → 0 ≢ xid → SameUnder xid v.shelf.back left.back
   unmade-under v machine fault step after left t xid apart zero_ = takes-under v.wsize (unmade_turn v) (turn_at v) (Err fault) xid apart zero_ machine v.shelf step after left t

@@ -1,5 +1,5 @@
 -- The operations that put nothing in flight ask for no WRITE and no COMMIT.
-use Rattle.core_answers.proofs.Prelude.{◌≡◌, ℕ, Bool, true, false, List, Option, Some, None, Result, Ok, Err, refl, sym, subst, ◌∙◌, inl, inr, if◌then◌else◌, Attr, Wcc, Attrs, Pages, Opens, Opened, Fault, Answer, Call, Reply, Pending, Repeat, Shelf, Turn, FileCall, Next, Opening, OpeningStep, OpeningNext, Led, OpenFile, ReadFile, Reading, Phase, TruncateFile, Truncating, fails_busy, goes_again, Said, part, refusal, joined, got_by}
+use Rattle.core_answers.proofs.Prelude.{◌≡◌, ℕ, Bool, true, false, List, Option, Some, None, Result, Ok, Err, refl, sym, subst, ◌∙◌, inl, inr, if◌then◌else◌, Attr, Wcc, Attrs, Pages, Opens, Opened, Fault, Answer, Call, Reply, Pending, Repeat, Shelf, Turn, FileCall, Step, Opening, OpeningPhase, OpeningStep, Led, OpenFile, ReadFile, Reading, Phase, TruncateFile, Truncating, fails_busy, goes_again, Said, part, refusal, joined, got_by}
 use Rattle.open_files.specs.Slots.{Place}
 use Rattle.file_ops.specs.ReadReply.{says_busy}
 use Rattle.std.specs.FinMap as finite
@@ -8,9 +8,9 @@ use Rattle.world_model.specs.declared.answer.Fault.TheVariants as faults
 use Rattle.world_model.specs.declared.answer.Answer.TheVariants as answers
 use Rattle.nfs_file_calls.specs.declared.call.FileCall.TheVariants as file_calls
 use Rattle.world_model.specs.declared.message.Call.TheVariants as calls
-use Rattle.client_shelf.specs.declared.next.Next.TheVariants as nexts
-use Rattle.file_ops.specs.declared.opening.OpeningStep.TheVariants.{Look, Make, Find, Ask}
-use Rattle.file_ops.specs.declared.opening.OpeningNext.TheVariants as steps
+use Rattle.client_shelf.specs.declared.step.Step.TheVariants as nexts
+use Rattle.file_ops.specs.declared.opening.OpeningPhase.TheVariants.{Look, Make, Find, Ask}
+use Rattle.file_ops.specs.declared.opening.OpeningStep.TheVariants as steps
 use Rattle.file_ops.specs.declared.opening.Led.TheVariants as leads
 use Rattle.file_ops.specs.declared.reading.Phase.TheVariants as phases
 use Rattle.file_ops.specs.declared.truncate_file.Truncating.TheVariants as truncating
@@ -32,17 +32,17 @@ IsOther call = Unit {0}
 
 -- ---- openings
 
-pub other-opening : (o : Opening) (step : OpeningStep) → IsOther (opening.call_of o step)
+pub other-opening : (o : Opening) (step : OpeningPhase) → IsOther (opening.call_of o step)
 other-opening o Look = tt
 other-opening o Make = tt
 other-opening o Find = tt
 other-opening o (Ask file) = tt
 
 -- what is known of a call that a step of an opening asks for
-abbrev pub OpeningAsks : OpeningNext → Type 0
+abbrev pub OpeningAsks : OpeningStep → Type 0
 OpeningAsks next = (call : Call) → next ≡ steps.Send call → IsOther call
 
-pub go-asks : (o : Opening) (turn : Turn) (next : OpeningNext) → next ≡ opening.go_next o turn → OpeningAsks next
+pub go-asks : (o : Opening) (turn : Turn) (next : OpeningStep) → next ≡ opening.go_next o turn → OpeningAsks next
 go-asks o turn next is call asks = by o.asked turn.room refl refl
   where
     by : (a b : Bool) → o.asked ≡ a → turn.room ≡ b → IsOther call
@@ -53,7 +53,7 @@ go-asks o turn next is call asks = by o.asked turn.room refl refl
     by true b ha hb = let waits : next ≡ steps.Wait = (rw ha at is) in let no-way : steps.Wait ≡ steps.Send call = sym waits ∙ asks in absurd cc
     by false false ha hb = let waits : next ≡ steps.Wait = (rw (ha, hb) at is) in let no-way : steps.Wait ≡ steps.Send call = sym waits ∙ asks in absurd cc
 
-led-asks : (o : Opening) (sent turn : Turn) (led : Led) (next : OpeningNext) (old new : Pages) → opening.LedTo o sent turn led next old new
+led-asks : (o : Opening) (sent turn : Turn) (led : Led) (next : OpeningStep) (old new : Pages) → opening.LedTo o sent turn led next old new
     → OpeningAsks next
 led-asks o sent turn (leads.Goes step) next old new l call asks = go-asks (opening.at_step o step) turn next l.0 call asks
 led-asks o sent turn (leads.Opens file attr) (steps.Ended result) old new l call asks = absurd cc
@@ -64,7 +64,7 @@ led-asks o sent turn (leads.Knows file stamp) (steps.Send other) old new l call 
 led-asks o sent turn (leads.Knows file stamp) steps.Wait old new l call asks = absurd l
 led-asks o sent turn (leads.Ends fault) next old new l call asks = let no-way : steps.Ended (Err fault) ≡ steps.Send call = sym l.0 ∙ asks in absurd cc
 
-pub took-asks : (busy again : Bool) (repeats : List Repeat) (o : Opening) (sent turn : Turn) (led : Led) (next : OpeningNext) (old new : Pages)
+pub took-asks : (busy again : Bool) (repeats : List Repeat) (o : Opening) (sent turn : Turn) (led : Led) (next : OpeningStep) (old new : Pages)
     → goes_again busy sent turn repeats ≡ again → opening.LedIf again o sent turn led next old new → OpeningAsks next
 took-asks busy true repeats o sent turn led next old new h l call asks =
     let same : opening.call_of o o.step ≡ call = (let k : steps.Send (opening.call_of o o.step) ≡ steps.Send call = sym l.0 ∙ asks in cc) in
@@ -72,33 +72,33 @@ took-asks busy true repeats o sent turn led next old new h l call asks =
 took-asks busy false repeats o sent turn led next old new h l call asks = led-asks o sent turn led next old new l call asks
 
 -- what is known of a call that a step of these machines asks for
-abbrev pub PlainAsks : Next → Type 0
+abbrev pub PlainAsks : Step → Type 0
 PlainAsks next = (call : Call) → next ≡ nexts.Send call → IsOther call
 
-waits-plain : (next : Next) → next ≡ nexts.Wait → PlainAsks next
+waits-plain : (next : Step) → next ≡ nexts.Wait → PlainAsks next
 waits-plain next is call asks = let no-way : nexts.Wait ≡ nexts.Send call = sym is ∙ asks in absurd cc
 
-done-plain : (answer : Answer) (next : Next) → next ≡ nexts.Done answer → PlainAsks next
+done-plain : (answer : Answer) (next : Step) → next ≡ nexts.Done answer → PlainAsks next
 done-plain answer next is call asks = let no-way : nexts.Done answer ≡ nexts.Send call = sym is ∙ asks in absurd cc
 
-sends-plain : (sent : Call) (next : Next) → next ≡ nexts.Send sent → IsOther sent → PlainAsks next
+sends-plain : (sent : Call) (next : Step) → next ≡ nexts.Send sent → IsOther sent → PlainAsks next
 sends-plain sent next is other call asks =
     let same : sent ≡ call = (let k : nexts.Send sent ≡ nexts.Send call = sym is ∙ asks in cc) in subst IsOther same other
 
-if-plain : (b : Bool) (sent : Call) (answer : Answer) (next : Next) → next ≡ (if b then nexts.Send sent else nexts.Done answer)
+if-plain : (b : Bool) (sent : Call) (answer : Answer) (next : Step) → next ≡ (if b then nexts.Send sent else nexts.Done answer)
     → IsOther sent → PlainAsks next
 if-plain true sent answer next is other = sends-plain sent next is other
 if-plain false sent answer next is other = done-plain answer next is
 
 -- ---- opens
 
-pub opening-plain : (step : OpeningNext) (next : Next) → next ≡ opens.goes_as step → OpeningAsks step → PlainAsks next
+pub opening-plain : (step : OpeningStep) (next : Step) → next ≡ opens.goes_as step → OpeningAsks step → PlainAsks next
 opening-plain (steps.Send call) next is asks = sends-plain call next is (asks call refl)
 opening-plain steps.Wait next is asks = waits-plain next is
 opening-plain (steps.Ended (Ok file)) next is asks = done-plain _ next is
 opening-plain (steps.Ended (Err fault)) next is asks = done-plain _ next is
 
-pub open-starts : (m : OpenFile) (turn : Turn) (slots : Opens) (next : Next) → next ≡ opens.start_next m turn slots → PlainAsks next
+pub open-starts : (m : OpenFile) (turn : Turn) (slots : Opens) (next : Step) → next ≡ opens.start_next m turn slots → PlainAsks next
 open-starts m turn slots next is = by (opens.is_taken m slots) is
   where
     by : (b : Bool) → next ≡ (if b then opens.refused faults.Slot else opens.goes_as (opening.go_next (opens.begun m turn).opening turn)) → PlainAsks next
@@ -106,10 +106,10 @@ open-starts m turn slots next is = by (opens.is_taken m slots) is
     by false is = opening-plain (opening.go_next (opens.begun m turn).opening turn) next is
         (go-asks (opens.begun m turn).opening turn (opening.go_next (opens.begun m turn).opening turn) refl)
 
-pub open-resumes : (m : OpenFile) (turn : Turn) (next : Next) → next ≡ opens.goes_as (opening.go_next m.opening turn) → PlainAsks next
+pub open-resumes : (m : OpenFile) (turn : Turn) (next : Step) → next ≡ opens.goes_as (opening.go_next m.opening turn) → PlainAsks next
 open-resumes m turn next is = opening-plain (opening.go_next m.opening turn) next is (go-asks m.opening turn (opening.go_next m.opening turn) refl)
 
-pub open-takes : (m : OpenFile) (sent turn : Turn) (came : Result Reply Fault) (attrs : Attrs) (repeats : List Repeat) (next : Next) (pages later : Pages)
+pub open-takes : (m : OpenFile) (sent turn : Turn) (came : Result Reply Fault) (attrs : Attrs) (repeats : List Repeat) (next : Step) (pages later : Pages)
     (old new : Opens)
     → opens.OpenTakes m sent turn came attrs repeats next pages later old new → PlainAsks next
 open-takes m sent turn came attrs repeats next pages later old new t = by t.step t.follows asks
@@ -123,7 +123,7 @@ open-takes m sent turn came attrs repeats next pages later old new t = by t.step
     put None place of (inl p) = done-plain _ next p.0
     put None place of (inr p) = done-plain _ next p.0
 
-    by : (step : OpeningNext) → opens.Follows m step next old new → OpeningAsks step → PlainAsks next
+    by : (step : OpeningStep) → opens.Follows m step next old new → OpeningAsks step → PlainAsks next
     by (steps.Ended (Ok file)) f asks = put (finite.get old (opens.place_of m)) (opens.place_of m) (opens.opened_of m.opening file) f
     by (steps.Ended (Err fault)) f asks = done-plain _ next f.0
     by (steps.Send call) f asks = opening-plain (steps.Send call) next f.0 asks
@@ -138,7 +138,7 @@ other-asked s = by (reading.asks_attrs s.reading.phase)
     by true = tt
     by false = tt
 
-read-goes : (turn : Turn) (back : Pending) (s : reading.State) (next : Next) → reading.Goes turn.room back s next → PlainAsks next
+read-goes : (turn : Turn) (back : Pending) (s : reading.State) (next : Step) → reading.Goes turn.room back s next → PlainAsks next
 read-goes turn back s next g = by (reading.asks turn.room s) refl g
   where
     stays : (phase : Phase) → reading.Stays phase s.reading back next → PlainAsks next
@@ -153,7 +153,7 @@ read-goes turn back s next g = by (reading.asks turn.room s) refl g
     by true h is = sends-plain (reading.asked_call s) next is (other-asked s)
     by false h is = stays s.reading.phase is
 
-pub read-starts : (opened : Option Opened) (turn : Turn) (m : ReadFile) (pages : Pages) (back : Pending) (next : Next) (new : ReadFile) (later : Pages)
+pub read-starts : (opened : Option Opened) (turn : Turn) (m : ReadFile) (pages : Pages) (back : Pending) (next : Step) (new : ReadFile) (later : Pages)
     → reads.Starts opened turn m pages back next new later → PlainAsks next
 read-starts opened turn m pages back next new later s = by s.reading s.goes
   where
@@ -161,12 +161,12 @@ read-starts opened turn m pages back next new later s = by s.reading s.goes
     by (Err fault) g = done-plain _ next g.step
     by (Ok r) g = read-goes turn back (reading.settled r pages) next g.step
 
-pub read-resumes : (at : Option Reading) (turn : Turn) (m : ReadFile) (pages : Pages) (back : Pending) (next : Next) (new : ReadFile) (later : Pages)
+pub read-resumes : (at : Option Reading) (turn : Turn) (m : ReadFile) (pages : Pages) (back : Pending) (next : Step) (new : ReadFile) (later : Pages)
     → reads.ResumesIn at turn.room m pages back next new later → PlainAsks next
 read-resumes None turn m pages back next new later s = waits-plain next s.step
 read-resumes (Some r) turn m pages back next new later s = read-goes turn back (reading.settled r pages) next s.step
 
-read-attrs : (result : Result Attr Fault) (again : Bool) (sent turn : Turn) (r : Reading) (pages : Pages) (back : Pending) (next : Next) (new : reading.State)
+read-attrs : (result : Result Attr Fault) (again : Bool) (sent turn : Turn) (r : Reading) (pages : Pages) (back : Pending) (next : Step) (new : reading.State)
     → reading.TakesAttrs again result sent turn r pages back next new → PlainAsks next
 read-attrs (Ok attr) again sent turn r pages back next new t = by t.result t.goes
   where
@@ -175,14 +175,14 @@ read-attrs (Ok attr) again sent turn r pages back next new t = by t.result t.goe
     by (Err lack) a = done-plain _ next a.0
 read-attrs (Err fault) again sent turn r pages back next new t = if-plain again (reading.attrs_call r.file) (answers.Refused fault) next t.0 tt
 
-read-said : (said : Said) (again : Bool) (sent turn : Turn) (r : Reading) (pages : Pages) (back : Pending) (next : Next)
+read-said : (said : Said) (again : Bool) (sent turn : Turn) (r : Reading) (pages : Pages) (back : Pending) (next : Step)
     → reading.Tells again sent turn said r pages back next → PlainAsks next
 read-said (part attr eof bytes) again sent turn r pages back next t =
     read-goes turn back (reading.after_part (reading.count_of r.phase) sent.moment attr eof bytes r pages) next t
 read-said (refusal attr fault) again sent turn r pages back next t = if-plain again (reading.part_call r) (answers.Refused fault) next t tt
 
 pub read-takes : (at : Option Reading) (sent turn : Turn) (came : Result Reply Fault) (repeats : List Repeat) (m : ReadFile) (pages : Pages) (back : Pending)
-    (next : Next) (new : ReadFile) (later : Pages)
+    (next : Step) (new : ReadFile) (later : Pages)
     → reads.TakesIn at sent turn came repeats m pages back next new later → PlainAsks next
 read-takes None sent turn came repeats m pages back next new later t = waits-plain next t.step
 read-takes (Some r) sent turn came repeats m pages back next new later t = by (reading.waits_attrs r.phase) t.step
@@ -197,7 +197,7 @@ read-takes (Some r) sent turn came repeats m pages back next new later t = by (r
 
 -- ---- truncates
 
-truncate-queued : (m : TruncateFile) (file : List ℕ) (turn : Turn) (old : Shelf) (next : Next) → next ≡ truncates.queued_next m file turn old
+truncate-queued : (m : TruncateFile) (file : List ℕ) (turn : Turn) (old : Shelf) (next : Step) → next ≡ truncates.queued_next m file turn old
     → PlainAsks next
 truncate-queued m file turn old next is = by (truncates.may_ask m.lane file turn old) refl is
   where
@@ -206,20 +206,20 @@ truncate-queued m file turn old next is = by (truncates.may_ask m.lane file turn
     by true h is = sends-plain (truncates.size_call file m.size) next is tt
     by false h is = waits-plain next is
 
-pub truncate-starts : (m : TruncateFile) (turn : Turn) (old : Shelf) (next : Next) → next ≡ truncates.started_next m turn old → PlainAsks next
+pub truncate-starts : (m : TruncateFile) (turn : Turn) (old : Shelf) (next : Step) → next ≡ truncates.started_next m turn old → PlainAsks next
 truncate-starts m turn old next is = by (truncates.found_file m old) is
   where
     by : (found : Result (List ℕ) Fault) → next ≡ truncates.begun_next found m turn old → PlainAsks next
     by (Ok file) is = truncate-queued m file turn (joined m.lane file old) next is
     by (Err fault) is = done-plain _ next is
 
-pub truncate-resumes : (at : Truncating) (m : TruncateFile) (turn : Turn) (old : Shelf) (next : Next) → next ≡ truncates.resumed_next at m turn old
+pub truncate-resumes : (at : Truncating) (m : TruncateFile) (turn : Turn) (old : Shelf) (next : Step) → next ≡ truncates.resumed_next at m turn old
     → PlainAsks next
 truncate-resumes truncating.Idle m turn old next is = waits-plain next is
 truncate-resumes (truncating.Queued file upto) m turn old next is = truncate-queued m file turn old next is
 truncate-resumes (truncating.Asked file upto) m turn old next is = waits-plain next is
 
-pub truncate-takes : (at : Truncating) (m : TruncateFile) (came : Result Reply Fault) (sent turn : Turn) (repeats : List Repeat) (next : Next)
+pub truncate-takes : (at : Truncating) (m : TruncateFile) (came : Result Reply Fault) (sent turn : Turn) (repeats : List Repeat) (next : Step)
     → next ≡ truncates.took_next at m came sent turn repeats → PlainAsks next
 truncate-takes truncating.Idle m came sent turn repeats next is = waits-plain next is
 truncate-takes (truncating.Queued file upto) m came sent turn repeats next is = waits-plain next is

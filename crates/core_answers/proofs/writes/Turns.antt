@@ -1,9 +1,9 @@
 -- An operation on a file whose call waits is the first in the order of its file.
-use Rattle.core_answers.proofs.Prelude.{◌≡◌, ◌≤◌, ◌+◌, ◌&&◌, ℕ, Bool, true, false, List, Option, Some, None, Result, Ok, Err, inl, inr, refl, sym, ap, subst, arith, if◌then◌else◌, Answer, Fault, Reply, last_end, of_file, LaneFile, Next, Shelf, Turn, goes_again, left, is_first, CloseFile, Closing, Removal, OpeningNext, PutFile, Putting, Saving, SyncFile, Syncing, TruncateFile, Truncating, WriteFile, Writing, is_full, refusal_of, remove_busy, file_to_write, file_at, joined, by-step, ends_as, FileMachine, of_saving, of_writing, of_syncing, of_closing, of_putting}
+use Rattle.core_answers.proofs.Prelude.{◌≡◌, ◌≤◌, ◌+◌, ◌&&◌, ℕ, Bool, true, false, List, Option, Some, None, Result, Ok, Err, inl, inr, refl, sym, ap, subst, arith, if◌then◌else◌, Answer, Fault, Reply, last_end, of_file, LaneFile, Step, Shelf, Turn, goes_again, left, is_first, CloseFile, Closing, Removal, OpeningStep, PutFile, Putting, Saving, SyncFile, Syncing, TruncateFile, Truncating, WriteFile, Writing, is_full, refusal_of, remove_busy, file_to_write, file_at, joined, by-step, ends_as, FileMachine, of_saving, of_writing, of_syncing, of_closing, of_putting}
 use Rattle.world_model.specs.declared.answer.Answer.TheVariants as answers
-use Rattle.client_shelf.specs.declared.next.Next.TheVariants as nexts
+use Rattle.client_shelf.specs.declared.step.Step.TheVariants as nexts
 use Rattle.file_ops.specs.declared.close_file.Closing.TheVariants as closing
-use Rattle.file_ops.specs.declared.opening.OpeningNext.TheVariants as openings
+use Rattle.file_ops.specs.declared.opening.OpeningStep.TheVariants as openings
 use Rattle.file_ops.specs.declared.put_file.Putting.TheVariants as putting
 use Rattle.file_ops.specs.declared.sync_file.Syncing.TheVariants as syncing
 use Rattle.file_ops.specs.declared.truncate_file.Truncating.TheVariants as truncating
@@ -23,7 +23,7 @@ use Rattle.core_facts.specs.InFlight.{of_file as calls_of}
 -- ---- whose turn it is
 
 -- as long as it goes on
-abbrev pub Still : Next → Type 0 → Type 0
+abbrev pub Still : Step → Type 0 → Type 0
 Still (nexts.Send call) X = X
 Still nexts.Wait X = X
 Still (nexts.Done answer) X = Unit {0}
@@ -72,15 +72,15 @@ FileTurn (files.Put m) order = PutTurn (IsFirst m.write.lane order) m.state m.wr
 
 -- ---- where it is its turn
 
-any-still : (next : Next) (X : Type 0) → X → Still next X
+any-still : (next : Step) (X : Type 0) → X → Still next X
 any-still (nexts.Send call) X x = x
 any-still nexts.Wait X x = x
 any-still (nexts.Done answer) X x = tt
 
-still-done : (answer : Answer) (next : Next) (X : Type 0) → next ≡ nexts.Done answer → Still next X
-still-done answer next X is = subst (λ (n : Next). Still n X) (sym is) tt
+still-done : (answer : Answer) (next : Step) (X : Type 0) → next ≡ nexts.Done answer → Still next X
+still-done answer next X is = subst (λ (n : Step). Still n X) (sym is) tt
 
-still-map : (next : Next) (X Y : Type 0) → (X → Y) → Still next X → Still next Y
+still-map : (next : Step) (X Y : Type 0) → (X → Y) → Still next X → Still next Y
 still-map (nexts.Send call) X Y f s = f s
 still-map nexts.Wait X Y f s = f s
 still-map (nexts.Done answer) X Y f s = tt
@@ -122,7 +122,7 @@ first-as lane old new is t = subst (IsFirst lane) (sym is) t
 module _ (wsize lane : ℕ) (turn : Turn) where
   -- ---- syncs
 
-  sync-as : (gives : _) (next : Next) (order later : List LaneFile) → next ≡ syncs.sync_next gives → later ≡ syncs.sync_order gives lane order → IsFirst lane order
+  sync-as : (gives : _) (next : Step) (order later : List LaneFile) → next ≡ syncs.sync_next gives → later ≡ syncs.sync_order gives lane order → IsFirst lane order
       → Still next (IsFirst lane later)
   sync-as gives next order later n o t = by-step
       (λ g. next ≡ syncs.sync_next g → later ≡ syncs.sync_order g lane order → Still next (IsFirst lane later))
@@ -131,7 +131,7 @@ module _ (wsize lane : ℕ) (turn : Turn) where
       (λ result n o. still-done (syncs.answer_of result) next (IsFirst lane later) n)
       gives n o
 
-  sync-queues : (b : Bool) (saving : Saving) (old : Shelf) (next : Next) (state : Syncing) (new : Shelf) → is_first lane old.order ≡ b → SaveTurn (IsFirst lane old.order) saving
+  sync-queues : (b : Bool) (saving : Saving) (old : Shelf) (next : Step) (state : Syncing) (new : Shelf) → is_first lane old.order ≡ b → SaveTurn (IsFirst lane old.order) saving
       → syncs.QueuesIf b wsize lane turn saving old next state new → Still next (SyncTurn (IsFirst lane new.order) state)
   sync-queues true saving old next state new is t q =
       still-map next (IsFirst lane new.order) (SyncTurn (IsFirst lane new.order) state) (λ f. sync-any (IsFirst lane new.order) f state)
@@ -141,20 +141,20 @@ module _ (wsize lane : ℕ) (turn : Turn) where
 
   -- ---- closes
 
-  close-waits : (at : Closing) (old : Shelf) (next : Next) (state : Closing) (new : Shelf) → closes.Waits at old next state new → CloseTurn (IsFirst lane old.order) at
+  close-waits : (at : Closing) (old : Shelf) (next : Step) (state : Closing) (new : Shelf) → closes.Waits at old next state new → CloseTurn (IsFirst lane old.order) at
       → Still next (CloseTurn (IsFirst lane new.order) state)
   close-waits at old next state new w t =
       any-still next _ (subst (λ (s : Closing). CloseTurn (IsFirst lane new.order) s) (sym w.state_is)
       (subst (λ (s : Shelf). CloseTurn (IsFirst lane s.order) at) (sym w.shelf_is) t))
 
-  close-first : (next : Next) (state : Closing) (old new : List LaneFile) → new ≡ old → IsFirst lane old → Still next (CloseTurn (IsFirst lane new) state)
+  close-first : (next : Step) (state : Closing) (old new : List LaneFile) → new ≡ old → IsFirst lane old → Still next (CloseTurn (IsFirst lane new) state)
   close-first next state old new is t = any-still next _ (close-any (IsFirst lane new) (first-as lane old new is t) state)
 
-  close-asks : (b : Bool) (removal : Removal) (old : Shelf) (next : Next) (state : Closing) (new : Shelf) → closes.Asks b removal old next state new → IsFirst lane old.order
+  close-asks : (b : Bool) (removal : Removal) (old : Shelf) (next : Step) (state : Closing) (new : Shelf) → closes.Asks b removal old next state new → IsFirst lane old.order
       → Still next (CloseTurn (IsFirst lane new.order) state)
   close-asks b removal old next state new a t = close-first next state old.order new.order (order-of old new a.shelf_is) t
 
-  close-frees : (slot : ℕ) (file : List ℕ) (refusal : Option Fault) (old : Shelf) (next : Next) (state : Closing) (new : Shelf)
+  close-frees : (slot : ℕ) (file : List ℕ) (refusal : Option Fault) (old : Shelf) (next : Step) (state : Closing) (new : Shelf)
       → closes.Frees lane slot turn.room file refusal old next state new → IsFirst lane old.order → Still next (CloseTurn (IsFirst lane new.order) state)
   close-frees slot file refusal old next state new f t = at f.place f.ends
     where
@@ -165,7 +165,7 @@ module _ (wsize lane : ℕ) (turn : Turn) where
       at None e = still-done _ next (CloseTurn (IsFirst lane new.order) state) e.next_is
       at (Some place) e = close-asks turn.room (record { file = file; dir = place.0; name = place.1; refusal = refusal }) f.freed next state new e freed
 
-  close-follows : (gives : _) (slot : ℕ) (begun : Bool) (saving : Saving) (old : Shelf) (next : Next) (state : Closing) (new : Shelf)
+  close-follows : (gives : _) (slot : ℕ) (begun : Bool) (saving : Saving) (old : Shelf) (next : Step) (state : Closing) (new : Shelf)
       → closes.Follows gives lane slot turn.room begun saving old next state new → IsFirst lane old.order → Still next (CloseTurn (IsFirst lane new.order) state)
   close-follows gives slot begun saving old next state new f t = by-step
       (λ g. closes.Follows g lane slot turn.room begun saving old next state new → Still next (CloseTurn (IsFirst lane new.order) state))
@@ -174,12 +174,12 @@ module _ (wsize lane : ℕ) (turn : Turn) where
       (λ result f. close-frees slot saving.file (refusal_of result) old next state new f t)
       gives f
 
-  close-on : (slot : ℕ) (begun : Bool) (saving : Saving) (old : Shelf) (next : Next) (state : Closing) (new : Shelf)
+  close-on : (slot : ℕ) (begun : Bool) (saving : Saving) (old : Shelf) (next : Step) (state : Closing) (new : Shelf)
       → closes.GoesOn wsize lane slot turn begun saving old next state new → IsFirst lane old.order → Still next (CloseTurn (IsFirst lane new.order) state)
   close-on slot begun saving old next state new g t =
       close-follows g.gives slot begun g.saved g.gone next state new g.follows (first-as lane old.order g.gone.order (ap (λ (s : Shelf). s.order) g.others) t)
 
-  close-queues : (b : Bool) (slot : ℕ) (saving : Saving) (old : Shelf) (next : Next) (state : Closing) (new : Shelf) → is_first lane old.order ≡ b
+  close-queues : (b : Bool) (slot : ℕ) (saving : Saving) (old : Shelf) (next : Step) (state : Closing) (new : Shelf) → is_first lane old.order ≡ b
       → closes.QueuesIf b wsize lane slot turn saving old next state new → Still next (CloseTurn (IsFirst lane new.order) state)
   close-queues false slot saving old next state new is q = close-waits (closing.Queued saving) old next state new q tt
   close-queues true slot saving old next state new is q = at (last_end (of_file saving.file old.back).segments) q
@@ -190,7 +190,7 @@ module _ (wsize lane : ℕ) (turn : Turn) where
 
   -- ---- writes and fills
 
-  room-as : (told : _) (file : List ℕ) (saved : Saving) (shelf : Shelf) (next : Next) (state : Writing) (after : Shelf)
+  room-as : (told : _) (file : List ℕ) (saved : Saving) (shelf : Shelf) (next : Step) (state : Writing) (after : Shelf)
       → writes.Leads (writes.room_next told) (writes.room_state told file saved) (writes.room_shelf told lane shelf) next state after → IsFirst lane shelf.order
       → Still next (WriteTurn (IsFirst lane after.order) state)
   room-as told file saved shelf next state after r t = by-step
@@ -208,13 +208,13 @@ module _ (wsize lane : ℕ) (turn : Turn) where
       ended (Ok done) r = here r.shelf_is
       ended (Err fault) r = still-done _ next _ r.gives_next
 
-  write-saves : (b : Bool) (file : List ℕ) (saving : Saving) (shelf : Shelf) (next : Next) (state : Writing) (after : Shelf) → is_first lane shelf.order ≡ b
+  write-saves : (b : Bool) (file : List ℕ) (saving : Saving) (shelf : Shelf) (next : Step) (state : Writing) (after : Shelf) → is_first lane shelf.order ≡ b
       → SaveTurn (IsFirst lane shelf.order) saving → writes.SavesIf b wsize lane file saving turn shelf next state after → Still next (WriteTurn (IsFirst lane after.order) state)
   write-saves false file saving shelf next state after is t s =
       any-still next _ (subst (WriteTurn (IsFirst lane after.order)) (sym s.keeps) (λ some. first-as lane shelf.order after.order (order-of shelf after s.shelf_is) (t some)))
   write-saves true file saving shelf next state after is t s = room-as s.told file s.saved (record shelf { back = s.back }) next state after s.leads is
 
-  write-writes : (file : List ℕ) (offset : ℕ) (bytes : List ℕ) (shelf : Shelf) (next : Next) (state : Writing) (after : Shelf)
+  write-writes : (file : List ℕ) (offset : ℕ) (bytes : List ℕ) (shelf : Shelf) (next : Step) (state : Writing) (after : Shelf)
       → writes.Writes wsize lane file offset bytes turn shelf next state after → Still next (WriteTurn (IsFirst lane after.order) state)
   write-writes file offset bytes shelf next state after wrote = by (is_full bytes shelf.back) wrote
     where
@@ -226,17 +226,17 @@ module _ (wsize lane : ℕ) (turn : Turn) where
       by false (inl s) = still-done _ next _ s.leads.gives_next
       by false (inr s) = still-done _ next _ s.gives_next
 
-  write-resumes : (at : Writing) (old : Shelf) (next : Next) (state : Writing) (after : Shelf) → WriteTurn (IsFirst lane old.order) at
+  write-resumes : (at : Writing) (old : Shelf) (next : Step) (state : Writing) (after : Shelf) → WriteTurn (IsFirst lane old.order) at
       → writes.ResumesIn at wsize lane turn old next state after → Still next (WriteTurn (IsFirst lane after.order) state)
   write-resumes writing.Idle old next state after t s = any-still next _ (subst (WriteTurn (IsFirst lane after.order)) (sym s.keeps) tt)
   write-resumes (writing.Room file saving) old next state after t s = write-saves (is_first lane old.order) file saving old next state after refl t s
 
   -- ---- puts
 
-  put-first : (next : Next) (state : Putting) (write : Writing) (old new : List LaneFile) → new ≡ old → IsFirst lane old → Still next (PutTurn (IsFirst lane new) state write)
+  put-first : (next : Step) (state : Putting) (write : Writing) (old new : List LaneFile) → new ≡ old → IsFirst lane old → Still next (PutTurn (IsFirst lane new) state write)
   put-first next state write old new is t = any-still next _ (put-any (IsFirst lane new) (first-as lane old new is t) state write)
 
-  put-follows : (gives : _) (saving : Saving) (old : Shelf) (next : Next) (state : Putting) (write : Writing) (after : Shelf)
+  put-follows : (gives : _) (saving : Saving) (old : Shelf) (next : Step) (state : Putting) (write : Writing) (after : Shelf)
       → puts.Follows gives lane saving old next state after → IsFirst lane old.order → Still next (PutTurn (IsFirst lane after.order) state write)
   put-follows gives saving old next state write after f t = by-step
       (λ g. puts.Follows g lane saving old next state after → Still next (PutTurn (IsFirst lane after.order) state write))
@@ -245,7 +245,7 @@ module _ (wsize lane : ℕ) (turn : Turn) where
       (λ result f. still-done _ next _ f.next_is)
       gives f
 
-  put-queues : (b : Bool) (saving : Saving) (old : Shelf) (next : Next) (state : Putting) (write : Writing) (after : Shelf) → is_first lane old.order ≡ b
+  put-queues : (b : Bool) (saving : Saving) (old : Shelf) (next : Step) (state : Putting) (write : Writing) (after : Shelf) → is_first lane old.order ≡ b
       → SaveTurn (IsFirst lane old.order) saving → puts.QueuesIf b wsize lane turn saving old next state after → Still next (PutTurn (IsFirst lane after.order) state write)
   put-queues false saving old next state write after is t q =
       any-still next _ (subst (λ (s : Putting). PutTurn (IsFirst lane after.order) s write) (sym q.state_is)
@@ -253,7 +253,7 @@ module _ (wsize lane : ℕ) (turn : Turn) where
   put-queues true saving old next state write after is t g =
       put-follows g.gives g.saved g.gone next state write after g.follows (first-as lane old.order g.gone.order (ap (λ (s : Shelf). s.order) g.others) is)
 
-  put-wrote : (told : Next) (file : List ℕ) (old : Shelf) (next : Next) (state : Putting) (write : Writing) (after : Shelf)
+  put-wrote : (told : Step) (file : List ℕ) (old : Shelf) (next : Step) (state : Putting) (write : Writing) (after : Shelf)
       → puts.AfterWrite told wsize lane file turn old next state after → Still told (WriteTurn (IsFirst lane old.order) write)
       → Still next (PutTurn (IsFirst lane after.order) state write)
   put-wrote (nexts.Send call) file old next state write after a t =
@@ -270,7 +270,7 @@ module _ (wsize lane : ℕ) (turn : Turn) where
 -- ---- with what came of a call
 
 module _ (wsize : ℕ) (sent turn : Turn) (came : Result Reply Fault) where
-  write-follows : (told : _) (machine : WriteFile) (file : List ℕ) (saved : Saving) (shelf : Shelf) (next : Next) (state : Writing) (after : Shelf)
+  write-follows : (told : _) (machine : WriteFile) (file : List ℕ) (saved : Saving) (shelf : Shelf) (next : Step) (state : Writing) (after : Shelf)
       → writes.Follows told wsize machine file saved turn shelf next state after → IsFirst machine.lane shelf.order
       → Still next (WriteTurn (IsFirst machine.lane after.order) state)
   write-follows told machine file saved shelf next state after f t = by-step
@@ -287,14 +287,14 @@ module _ (wsize : ℕ) (sent turn : Turn) (came : Result Reply Fault) where
       ended (Ok done) f = write-writes wsize machine.lane turn file machine.offset (writes.made_bytes machine.text) (record shelf { order = left machine.lane shelf.order }) next state after f
       ended (Err fault) f = still-done _ next _ f.gives_next
 
-  write-takes : (at : Writing) (machine : WriteFile) (old : Shelf) (next : Next) (state : Writing) (after : Shelf) (others : ℕ) → of_writing at ≡ others + 1
+  write-takes : (at : Writing) (machine : WriteFile) (old : Shelf) (next : Step) (state : Writing) (after : Shelf) (others : ℕ) → of_writing at ≡ others + 1
       → WriteTurn (IsFirst machine.lane old.order) at → writes.TakesIn at wsize machine sent turn came old next state after
       → Still next (WriteTurn (IsFirst machine.lane after.order) state)
   write-takes writing.Idle machine old next state after others one t s = absurd (omega (arith, one))
   write-takes (writing.Room file saving) machine old next state after others one t s =
       write-follows s.told machine file s.saved _ next state after s.follows (t (omega (arith, one)))
 
-  sync-takes : (at : Syncing) (machine : SyncFile) (old : Shelf) (next : Next) (state : Syncing) (new : Shelf) (others : ℕ) → of_syncing at ≡ others + 1
+  sync-takes : (at : Syncing) (machine : SyncFile) (old : Shelf) (next : Step) (state : Syncing) (new : Shelf) (others : ℕ) → of_syncing at ≡ others + 1
       → SyncTurn (IsFirst machine.lane old.order) at → syncs.Takes at wsize machine sent turn came old next state new
       → Still next (SyncTurn (IsFirst machine.lane new.order) state)
   sync-takes syncing.Idle machine old next state new others one t s = absurd (omega (arith, one))
@@ -302,7 +302,7 @@ module _ (wsize : ℕ) (sent turn : Turn) (came : Result Reply Fault) where
       still-map next (IsFirst machine.lane new.order) (SyncTurn (IsFirst machine.lane new.order) state) (λ f. sync-any (IsFirst machine.lane new.order) f state)
       (sync-as wsize machine.lane turn s.gives next old.order new.order s.follows.next_is s.follows.order_is (t (omega (arith, one))))
 
-  close-takes : (at : Closing) (machine : CloseFile) (old : Shelf) (next : Next) (state : Closing) (new : Shelf) (others : ℕ) → of_closing at ≡ others + 1
+  close-takes : (at : Closing) (machine : CloseFile) (old : Shelf) (next : Step) (state : Closing) (new : Shelf) (others : ℕ) → of_closing at ≡ others + 1
       → CloseTurn (IsFirst machine.lane old.order) at → closes.Takes at wsize machine sent turn came old next state new
       → Still next (CloseTurn (IsFirst machine.lane new.order) state)
   close-takes closing.Idle machine old next state new others one t s = absurd (omega (arith, one))
@@ -321,20 +321,20 @@ module _ (wsize : ℕ) (sent turn : Turn) (came : Result Reply Fault) where
       by false e = still-done _ next _ e.next_is
 
 -- a put in whose lane the write is
-abbrev pub OfPut : Next → PutFile → List LaneFile → Type 0
+abbrev pub OfPut : Step → PutFile → List LaneFile → Type 0
 OfPut next m order = Still next (PutTurn (IsFirst m.write.lane order) m.state m.write.state)
 
 module _ (wsize : ℕ) (turn : Turn) where
-  put-as : (next : Next) (to new : PutFile) (order : List LaneFile) → new ≡ to → OfPut next to order → OfPut next new order
+  put-as : (next : Step) (to new : PutFile) (order : List LaneFile) → new ≡ to → OfPut next to order → OfPut next new order
   put-as next to new order is t = subst (λ (m : PutFile). OfPut next m order) (sym is) t
 
-  put-goes : (m : PutFile) (file : List ℕ) (told : Next) (written : Writing) (mid : Shelf) (next : Next) (new : PutFile) (after : Shelf)
+  put-goes : (m : PutFile) (file : List ℕ) (told : Step) (written : Writing) (mid : Shelf) (next : Step) (new : PutFile) (after : Shelf)
       → puts.WritesOn wsize m file turn told written mid next new after → Still told (WriteTurn (IsFirst m.write.lane mid.order) written) → OfPut next new after.order
   put-goes m file told written mid next new after g t =
       put-as next (record m { write = record m.write { state = written }; state = new.state }) new after.order g.machine_is
       (put-wrote wsize m.write.lane turn told file mid next new.state written after g.follows t)
 
-  put-stays : (m : PutFile) (old : Shelf) (next : Next) (new : PutFile) (after : Shelf) → new ≡ m → after ≡ old → PutTurn (IsFirst m.write.lane old.order) m.state m.write.state
+  put-stays : (m : PutFile) (old : Shelf) (next : Step) (new : PutFile) (after : Shelf) → new ≡ m → after ≡ old → PutTurn (IsFirst m.write.lane old.order) m.state m.write.state
       → OfPut next new after.order
   put-stays m old next new after is same t =
       put-as next m new after.order is (any-still next _ (subst (λ (s : Shelf). PutTurn (IsFirst m.write.lane s.order) m.state m.write.state) (sym same) t))
@@ -342,7 +342,7 @@ module _ (wsize : ℕ) (turn : Turn) where
   opens-turn : (m : PutFile) (T : Type 0) → m.state ≡ putting.Opens → PutTurn T m.state m.write.state
   opens-turn m T is = subst (λ (s : Putting). PutTurn T s m.write.state) (sym is) tt
 
-  put-opened : (step : OpeningNext) (m : PutFile) (old : Shelf) (next : Next) (new : PutFile) (after : Shelf) → m.state ≡ putting.Opens
+  put-opened : (step : OpeningStep) (m : PutFile) (old : Shelf) (next : Step) (new : PutFile) (after : Shelf) → m.state ≡ putting.Opens
       → puts.AfterOpening step wsize m turn old next new after → OfPut next new after.order
   put-opened (openings.Send call) m old next new after at a = put-stays m old next new after a.1 a.2 (opens-turn m (IsFirst m.write.lane old.order) at)
   put-opened openings.Wait m old next new after at a = put-stays m old next new after a.machine_is a.shelf_is (opens-turn m (IsFirst m.write.lane old.order) at)
@@ -351,7 +351,7 @@ module _ (wsize : ℕ) (turn : Turn) where
       (write-writes wsize m.write.lane turn file m.write.offset (writes.made_bytes m.write.text) (puts.put_at m.write.lane file old) a.told a.written a.mid a.writes)
   put-opened (openings.Ended (Err fault)) m old next new after at a = still-done _ next _ a.0
 
-  put-resumes : (at : Putting) (m : PutFile) (old : Shelf) (next : Next) (new : PutFile) (after : Shelf) → m.state ≡ at
+  put-resumes : (at : Putting) (m : PutFile) (old : Shelf) (next : Step) (new : PutFile) (after : Shelf) → m.state ≡ at
       → PutTurn (IsFirst m.write.lane old.order) at m.write.state → puts.Resumes at wsize m turn old next new after → OfPut next new after.order
   put-resumes putting.Idle m old next new after at t s =
       put-stays m old next new after s.machine_is s.shelf_is (subst (λ (s : Putting). PutTurn (IsFirst m.write.lane old.order) s m.write.state) (sym at) tt)
@@ -364,7 +364,7 @@ module _ (wsize : ℕ) (turn : Turn) where
       put-as next (record m { state = new.state }) new after.order s.1
       (put-queues wsize m.write.lane turn (is_first m.write.lane old.order) saving old next new.state m.write.state after refl t s.0)
 
-  put-takes : (sent : Turn) (came : Result Reply Fault) (at : Putting) (m : PutFile) (old : Shelf) (next : Next) (new : PutFile) (after : Shelf) (others : ℕ) → m.state ≡ at
+  put-takes : (sent : Turn) (came : Result Reply Fault) (at : Putting) (m : PutFile) (old : Shelf) (next : Step) (new : PutFile) (after : Shelf) (others : ℕ) → m.state ≡ at
       → of_putting at m.opening m.write.state ≡ others + 1 → PutTurn (IsFirst m.write.lane old.order) at m.write.state
       → puts.Takes at wsize m sent turn came old next new after → OfPut next new after.order
   put-takes sent came putting.Idle m old next new after others at one t s = absurd (omega (arith, one))
@@ -420,13 +420,13 @@ module _ (wsize : ℕ) (turn : Turn) where
 
   -- ---- any operation on a file
 
-  abbrev pub OfFile : Next → FileMachine → List LaneFile → Type 0
+  abbrev pub OfFile : Step → FileMachine → List LaneFile → Type 0
   OfFile next m order = Still next (FileTurn m order)
 
-  file-as : (next : Next) (to new : FileMachine) (order : List LaneFile) → new ≡ to → OfFile next to order → OfFile next new order
+  file-as : (next : Step) (to new : FileMachine) (order : List LaneFile) → new ≡ to → OfFile next to order → OfFile next new order
   file-as next to new order is t = subst (λ (m : FileMachine). OfFile next m order) (sym is) t
 
-  write-starts : (m : WriteFile) (old : Shelf) (next : Next) (new : WriteFile) (after : Shelf) → writes.Starts wsize m turn old next new after
+  write-starts : (m : WriteFile) (old : Shelf) (next : Step) (new : WriteFile) (after : Shelf) → writes.Starts wsize m turn old next new after
       → OfFile next (files.Write new) after.order
   write-starts m old next new after s = at (file_to_write m.lane m.slot old.opens) s
     where
@@ -438,7 +438,7 @@ module _ (wsize : ℕ) (turn : Turn) where
           subst (λ (l : ℕ). Still next (WriteTurn (IsFirst l after.order) new.state)) (sym same)
           (write-writes wsize m.lane turn file m.offset (writes.text_bytes m.text) old next new.state after s.writes)
 
-  sync-starts : (m : SyncFile) (old : Shelf) (next : Next) (state : Syncing) (after : Shelf) → syncs.Starts wsize m turn old next state after
+  sync-starts : (m : SyncFile) (old : Shelf) (next : Step) (state : Syncing) (after : Shelf) → syncs.Starts wsize m turn old next state after
       → Still next (SyncTurn (IsFirst m.lane after.order) state)
   sync-starts m old next state after s = at (file_at m.lane m.slot old.opens) s
     where
@@ -448,12 +448,12 @@ module _ (wsize : ℕ) (turn : Turn) where
           sync-queues wsize m.lane turn (is_first m.lane (joined m.lane file old).order) (saves.begun file old.seq) (joined m.lane file old) next state after refl
           (begun-turn (IsFirst m.lane (joined m.lane file old).order) file old.seq) s
 
-  sync-resumes : (at : Syncing) (m : SyncFile) (old : Shelf) (next : Next) (state : Syncing) (after : Shelf) → SyncTurn (IsFirst m.lane old.order) at
+  sync-resumes : (at : Syncing) (m : SyncFile) (old : Shelf) (next : Step) (state : Syncing) (after : Shelf) → SyncTurn (IsFirst m.lane old.order) at
       → syncs.Resumes at wsize m turn old next state after → Still next (SyncTurn (IsFirst m.lane after.order) state)
   sync-resumes syncing.Idle m old next state after t s = any-still next _ (subst (SyncTurn (IsFirst m.lane after.order)) (sym s.state_is) tt)
   sync-resumes (syncing.Saves saving) m old next state after t s = sync-queues wsize m.lane turn (is_first m.lane old.order) saving old next state after refl t s
 
-  close-starts : (m : CloseFile) (old : Shelf) (next : Next) (state : Closing) (after : Shelf) → closes.Starts wsize m turn old next state after
+  close-starts : (m : CloseFile) (old : Shelf) (next : Step) (state : Closing) (after : Shelf) → closes.Starts wsize m turn old next state after
       → Still next (CloseTurn (IsFirst m.lane after.order) state)
   close-starts m old next state after s = at (file_at m.lane m.slot old.opens) s
     where
@@ -462,7 +462,7 @@ module _ (wsize : ℕ) (turn : Turn) where
       at (Some file) s =
           close-queues wsize m.lane turn (is_first m.lane (joined m.lane file old).order) m.slot (saves.begun file old.seq) (joined m.lane file old) next state after refl s
 
-  close-resumes : (at : Closing) (m : CloseFile) (old : Shelf) (next : Next) (state : Closing) (after : Shelf) → CloseTurn (IsFirst m.lane old.order) at
+  close-resumes : (at : Closing) (m : CloseFile) (old : Shelf) (next : Step) (state : Closing) (after : Shelf) → CloseTurn (IsFirst m.lane old.order) at
       → closes.Resumes at wsize m turn old next state after → Still next (CloseTurn (IsFirst m.lane after.order) state)
   close-resumes closing.Idle m old next state after t s = close-waits wsize m.lane turn closing.Idle old next state after s tt
   close-resumes (closing.Queued saving) m old next state after t s = close-queues wsize m.lane turn (is_first m.lane old.order) m.slot saving old next state after refl s
@@ -475,7 +475,7 @@ module _ (wsize : ℕ) (turn : Turn) where
   close-resumes (closing.ToRemove removal) m old next state after t s = close-asks wsize m.lane turn turn.room removal old next state after s t
   close-resumes (closing.Removing removal) m old next state after t s = close-waits wsize m.lane turn (closing.Removing removal) old next state after s t
 
-  pub file-starts : (m : FileMachine) (old : Shelf) (next : Next) (new : FileMachine) (after : Shelf) → steps.Starts wsize m turn old next new after → OfFile next new after.order
+  pub file-starts : (m : FileMachine) (old : Shelf) (next : Step) (new : FileMachine) (after : Shelf) → steps.Starts wsize m turn old next new after → OfFile next new after.order
   file-starts (files.Open m) old next new after s = file-as next _ new after.order s.machine_is (any-still next _ tt)
   file-starts (files.Read m) old next new after s = file-as next (files.Read s.machine) new after.order s.machine_is (any-still next _ tt)
   file-starts (files.Write m) old next new after s = file-as next (files.Write s.machine) new after.order s.machine_is (write-starts m old next s.machine after s.step)
@@ -489,7 +489,7 @@ module _ (wsize : ℕ) (turn : Turn) where
   file-starts (files.Put m) old next new after s =
       file-as next (files.Put (record m { opening = opening.go_after (puts.opening_at turn m) turn; state = putting.Opens })) new after.order s.machine_is (any-still next _ tt)
 
-  pub file-resumes : (m : FileMachine) (old : Shelf) (next : Next) (new : FileMachine) (after : Shelf) → FileTurn m old.order → steps.Resumes wsize m turn old next new after
+  pub file-resumes : (m : FileMachine) (old : Shelf) (next : Step) (new : FileMachine) (after : Shelf) → FileTurn m old.order → steps.Resumes wsize m turn old next new after
       → OfFile next new after.order
   file-resumes (files.Open m) old next new after t s = file-as next _ new after.order s.machine_is (any-still next _ tt)
   file-resumes (files.Read m) old next new after t s = file-as next (files.Read s.machine) new after.order s.machine_is (any-still next _ tt)
@@ -505,7 +505,7 @@ module _ (wsize : ℕ) (turn : Turn) where
   file-resumes (files.Put m) old next new after t s =
       file-as next (files.Put s.machine) new after.order s.machine_is (put-resumes m.state m old next s.machine after refl t s.step)
 
-  pub file-takes : (sent : Turn) (came : Result Reply Fault) (m : FileMachine) (old : Shelf) (next : Next) (new : FileMachine) (after : Shelf) (others : ℕ)
+  pub file-takes : (sent : Turn) (came : Result Reply Fault) (m : FileMachine) (old : Shelf) (next : Step) (new : FileMachine) (after : Shelf) (others : ℕ)
       → calls_of m ≡ others + 1 → FileTurn m old.order → steps.Takes wsize m sent turn came old next new after → OfFile next new after.order
   file-takes sent came (files.Open m) old next new after others one t s = file-as next _ new after.order s.machine_is (any-still next _ tt)
   file-takes sent came (files.Read m) old next new after others one t s = file-as next (files.Read s.machine) new after.order s.machine_is (any-still next _ tt)

@@ -1,8 +1,8 @@
 -- Each WRITE that waits has its piece in flight: the same bytes.
-use Rattle.core_answers.proofs.Prelude.{◌≡◌, ◌≢◌, ◌≤◌, ◌<◌, ◌+◌, ◌-◌, ◌&&◌, ◌==◌, inl, inr, ℕ, List, [], ◌∷◌, ◌++◌, length, Bool, true, false, nat_eq, Option, Some, None, option_map, position, Result, Ok, Err, refl, sym, ap, subst, ◌∙◌, arith, nat_lt, unwrap_or, eqb-true, eqb-false, Verdict, AllStable, SendAgain, verdict_of, Verf, Waiting, next_xid, made_call, waiting_at, without, waits_early, at_made, others_made, others_taken, gone, lost, chosen, piece_of, with_sent, Pending, of_file, OnFile, with_xid, Sent, FilePending, piece_under, Segments, Fault, Memory, Entry, Began, Delivered, Call, Reply, Op, SpellsCallBy, proc_of, said_of, Next, Repeat, Shelf, Turn, goes_again, Closing, Putting, Sending, Committing, Resending, CommittingAgain, Saving, Syncing, Writing, commit_told, IsUnused, Mounted, FileMachine, Machine, Opener, PathMachine, machine_of, file_of, Starts, Resumes, Takes, Purpose, Busy, Setup, is_busy, IsIdle, with_state, record_of, Makes, Leads, Stirs, counted, StartsLane, TakesAt, View, turn_at, unmade_turn, in_flight, Reaches, begins-unbegun, taken_one, flies_if, flies_save, flies_write, flies_sync, flies_close, flies_put, flies_file, flies_path, flies_of, Known, Rows, same-rows, taken-rows, made-known, made-asked, reached-good, write_of}
+use Rattle.core_answers.proofs.Prelude.{◌≡◌, ◌≢◌, ◌≤◌, ◌<◌, ◌+◌, ◌-◌, ◌&&◌, ◌==◌, inl, inr, ℕ, List, [], ◌∷◌, ◌++◌, length, Bool, true, false, nat_eq, Option, Some, None, option_map, position, Result, Ok, Err, refl, sym, ap, subst, ◌∙◌, arith, nat_lt, unwrap_or, eqb-true, eqb-false, Verdict, AllStable, SendAgain, verdict_of, Verf, Waiting, next_xid, made_call, waiting_at, without, waits_early, at_made, others_made, others_taken, gone, lost, chosen, piece_of, with_sent, Pending, of_file, OnFile, with_xid, Sent, FilePending, piece_under, Segments, Fault, Memory, Entry, Began, Delivered, Call, Reply, Op, SpellsCallBy, proc_of, said_of, Step, Repeat, Shelf, Turn, goes_again, Closing, Putting, Sending, Committing, Resending, CommittingAgain, Saving, Syncing, Writing, commit_told, IsUnused, Mounted, FileMachine, Machine, Opener, PathMachine, machine_of, file_of, Starts, Resumes, Takes, Purpose, Busy, Setup, is_busy, IsIdle, with_state, record_of, Makes, Leads, Stirs, counted, StartsLane, TakesAt, View, turn_at, unmade_turn, in_flight, Reaches, begins-unbegun, taken_one, flies_if, flies_save, flies_write, flies_sync, flies_close, flies_put, flies_file, flies_path, flies_of, Known, Rows, same-rows, taken-rows, made-known, made-asked, reached-good, write_of}
 use Rattle.core_facts.proofs.Keeping.{taker-is, taker-one}
 use Rattle.world_model.specs.declared.message.Call.TheVariants as calls
-use Rattle.client_shelf.specs.declared.next.Next.TheVariants as nexts
+use Rattle.client_shelf.specs.declared.step.Step.TheVariants as nexts
 use Rattle.file_ops.specs.declared.close_file.Closing.TheVariants as closing
 use Rattle.file_ops.specs.declared.put_file.Putting.TheVariants as putting
 use Rattle.file_ops.specs.declared.saving.Phase.{Phase}
@@ -68,7 +68,7 @@ module _ (xid : ℕ) where
   abbrev pub Has : Call → Pending → Type 0
   Has call back = HasPiece xid call back
 
-  AfterHas : Next → Pending → Type 0
+  AfterHas : Step → Pending → Type 0
   AfterHas next back = After (Free xid) Has next back
 
   lead-has : (to : _) (saved : Saving) (next : _) (new : Saving) (old after : Pending) → saves.Leads to saved next new → after ≡ old
@@ -220,7 +220,7 @@ other-by (machines.File m) call e = tt
 other-by (machines.Path m) call e = no-way m.arrived m call refl e.writes
 other-by (machines.Name m) call e = λ f at. none-some f (e.writes f at)
 
-asks-other : (next : Next) (new : Machine) → Asks next new → AsksOther NoWrite next new
+asks-other : (next : Step) (new : Machine) → Asks next new → AsksOther NoWrite next new
 asks-other (nexts.Send call) new a = other-by new call a
 asks-other nexts.Wait new a = tt
 asks-other (nexts.Done answer) new a = tt
@@ -273,19 +273,19 @@ module _ (Q : List ℕ → Type 0) where
   all-q (machines.Name m) q = tt
 
 module _ (wsize : ℕ) (turn : Turn) where
-  pub starts-has : (machine : Machine) (old : Shelf) (next : Next) (new : Machine) (after : Shelf) → Starts wsize machine turn old next new after → IsUnused turn.xid old.back
+  pub starts-has : (machine : Machine) (old : Shelf) (next : Step) (new : Machine) (after : Shelf) → Starts wsize machine turn old next new after → IsUnused turn.xid old.back
       → After (Free turn.xid) (Has turn.xid) next after.back
   starts-has machine old next new after s free =
       backs.all-starts wsize turn (λ f o b n. Unit {0}) NoWrite other-no (Free turn.xid) (Has turn.xid) (carries-has wsize turn) machine old next new after
       (asks-other next new (fitting.all-starts wsize turn machine old next new after s)) (any-starts machine old.opens) free s
 
-  pub resumes-has : (machine : Machine) (old : Shelf) (next : Next) (new : Machine) (after : Shelf) → Resumes wsize machine turn old next new after → IsUnused turn.xid old.back
+  pub resumes-has : (machine : Machine) (old : Shelf) (next : Step) (new : Machine) (after : Shelf) → Resumes wsize machine turn old next new after → IsUnused turn.xid old.back
       → After (Free turn.xid) (Has turn.xid) next after.back
   resumes-has machine old next new after s free =
       backs.all-resumes wsize turn (λ f o b n. Unit {0}) NoWrite other-no (Free turn.xid) (Has turn.xid) (carries-has wsize turn) machine old next new after
       (asks-other next new (fitting.all-resumes wsize turn machine old next new after s)) free s
 
-  pub takes-has : (sent : Turn) (came : Result Reply Fault) (machine : Machine) (old : Shelf) (next : Next) (new : Machine) (after : Shelf) (others : ℕ) → in_flight machine ≡ others + 1
+  pub takes-has : (sent : Turn) (came : Result Reply Fault) (machine : Machine) (old : Shelf) (next : Step) (new : Machine) (after : Shelf) (others : ℕ) → in_flight machine ≡ others + 1
       → ((f : List ℕ) → flies_of machine ≡ Some f → IsSent sent.xid f old.back) → Takes wsize machine sent turn came old next new after → IsUnused turn.xid old.back
       → After (Free turn.xid) (Has turn.xid) next after.back
   takes-has sent came machine old next new after others one it s free =
@@ -345,8 +345,8 @@ module _ (setup : Setup) (h : List Entry) (v : View) (r : Rows setup h v) (all :
           }))
       by false d = all xid w (sym (others_made xid (next_xid v.calls) v.calls.calls row d) ∙ is)
 
-  leads-whole : (new : View) (at number : ℕ) (machine : Machine) (next : Next) → After (Free (next_xid v.calls)) (Has (next_xid v.calls)) next v.shelf.back
-      → ((fault : Fault) (step : Next) (after : Machine) (left : Shelf) → Takes v.wsize machine (turn_at v) (unmade_turn v) (Err fault) v.shelf step after left
+  leads-whole : (new : View) (at number : ℕ) (machine : Machine) (next : Step) → After (Free (next_xid v.calls)) (Has (next_xid v.calls)) next v.shelf.back
+      → ((fault : Fault) (step : Step) (after : Machine) (left : Shelf) → Takes v.wsize machine (turn_at v) (unmade_turn v) (Err fault) v.shelf step after left
       → (xid : ℕ) → next_xid v.calls ≢ xid → 0 ≢ xid → SameUnder xid v.shelf.back left.back)
       → Leads v at number machine next new → AllWhole setup new
   leads-whole new at number machine (nexts.Send call) own unmade (inl m) = subst (AllWhole setup) (sym m.is) (made-whole number call new m own)

@@ -1,11 +1,11 @@
 -- What a step of any operation makes of the machine.
-use Rattle.core_counts.proofs.Prelude.{◌≡◌, ◌⊎◌, inl, inr, ◌+◌, ℕ, Bool, true, List, [], ◌∷◌, Result, Err, refl, sym, subst, Held, Fault, Call, Reply, Pending, of_file, with_bytes, HasNoPiece, IsNewest, OnFile, with_cut, nothing, Next, Shelf, Turn, Saving, IsUnused, Machine, Fits, Starts, Resumes, Takes, Purpose, Setup, After, TakesHas, NearAs, EachSound}
+use Rattle.core_counts.proofs.Prelude.{◌≡◌, ◌⊎◌, inl, inr, ◌+◌, ℕ, Bool, true, List, [], ◌∷◌, Result, Err, refl, sym, subst, Held, Fault, Call, Reply, Pending, of_file, with_bytes, HasNoPiece, IsNewest, OnFile, with_cut, nothing, Step, Shelf, Turn, Saving, IsUnused, Machine, Fits, Starts, Resumes, Takes, Purpose, Setup, After, TakesHas, NearAs, EachSound}
 use Rattle.write_back.specs.Pieces.{Sent}
 use Rattle.core_answers.proofs.writes.Backs.{CarriesReply}
 use Rattle.core_session.proofs.order.Adds.{Bears}
 use Rattle.core_session.proofs.order.Sounds.{Sounds, SoundsFirst, SoundCall, bears-sounds, replies-sounds}
 use Rattle.world_model.specs.declared.answer.Fault.TheVariants as faults
-use Rattle.client_shelf.specs.declared.next.Next.TheVariants as nexts
+use Rattle.client_shelf.specs.declared.step.Step.TheVariants as nexts
 use Rattle.file_ops.specs.Quiet.{is_quiet, are_none}
 use Rattle.file_ops.specs.Saves as saves
 use Rattle.file_ops.specs.Syncs as syncs
@@ -25,7 +25,7 @@ quiet-none [] is = refl
 quiet-none (p ∷ ps) is = absurd cc
 
 -- two facts of what a step leads to
-both-after : (A C : Pending → Type 0) (B D : Call → Pending → Type 0) (next : Next) (back : Pending) → After A B next back → After C D next back
+both-after : (A C : Pending → Type 0) (B D : Call → Pending → Type 0) (next : Step) (back : Pending) → After A B next back → After C D next back
     → After (λ k. A k × C k) (λ call k. B call k × D call k) next back
 both-after A C B D (nexts.Send call) back a c = (a, c)
 both-after A C B D nexts.Wait back a c = (a, c)
@@ -168,13 +168,13 @@ module _ (setup : Setup) (held : Held Purpose) (H : View → Type 0) (wsize : �
 
   -- ---- a step of any operation
 
-  pub starts-led : (m : Machine) (old : Shelf) (next : Next) (new : Machine) (after : Shelf) → Fits m → Had old.back → EachSound old.back → IsUnused turn.xid old.back
+  pub starts-led : (m : Machine) (old : Shelf) (next : Step) (new : Machine) (after : Shelf) → Fits m → Had old.back → EachSound old.back → IsUnused turn.xid old.back
       → IsNewest (old.seq + 1) old.back → Starts wsize m turn old next new after → After Since WithCall next after.back
   starts-led m old next new after fits had sound free newest s =
       adding.all-starts wsize turn (NearAs wsize turn (old.seq + 1)) (First (old.seq + 1)) Since WithCall (bears-had (old.seq + 1)) m old next new after
       (near-starts (old.seq + 1) wsize turn m old.opens next fits) (had, record { sounds = record { sound = sound; free = free }; newest = newest }) s
 
-  pub resumes-led : (m : Machine) (old : Shelf) (next : Next) (new : Machine) (after : Shelf) → Had old.back → EachSound old.back → IsUnused turn.xid old.back
+  pub resumes-led : (m : Machine) (old : Shelf) (next : Step) (new : Machine) (after : Shelf) → Had old.back → EachSound old.back → IsUnused turn.xid old.back
       → Resumes wsize m turn old next new after → After Since WithCall next after.back
   resumes-led m old next new after had sound free s =
       adding.all-resumes wsize turn Since WithCall (bears-had 0).then_ m old next new after (had, record { sound = sound; free = free }) s
@@ -188,7 +188,7 @@ module _ (setup : Setup) (held : Held Purpose) (H : View → Type 0) (wsize : �
           ((replies-sounds wsize turn sent came n).takes repeats s back next new after later t tt p.1);
     }
 
-    pub takes-by : (m : Machine) (old : Shelf) (next : Next) (new : Machine) (after : Shelf) (t : Takes wsize m sent turn came old next new after)
+    pub takes-by : (m : Machine) (old : Shelf) (next : Step) (new : Machine) (after : Shelf) (t : Takes wsize m sent turn came old next new after)
         → TakesHas (λ file offset bytes. NearAs wsize turn (old.seq + 1) file offset bytes (old.seq + 1)) wsize m sent turn came old next new after t
         → Saves (λ s. N s old.back) m → Had old.back → EachSound old.back → IsUnused turn.xid old.back → IsNewest (old.seq + 1) old.back → After Since WithCall next after.back
     takes-by m old next new after t near now had sound free newest =

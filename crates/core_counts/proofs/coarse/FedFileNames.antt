@@ -1,21 +1,21 @@
 -- What a step of an operation on a file, or of one on its way, leaves of the kept names: what holds of each of them, if it holds of what a
 -- LOOKUP was answered with.
 -- ---- writes
-use Rattle.core_counts.proofs.Prelude.{◌≡◌, ◌-◌, ℕ, Bool, true, false, List, Option, Some, None, Result, Ok, Err, inl, inr, refl, ap, ◌∙◌, Fault, Call, Reply, of_file, last_end, is_first, Next, Shelf, Turn, CloseFile, Closing, Removal, Opening, OpeningNext, Saving, Writing, refusal_of, joined, file_at, OpeningStep, by-step, ends_as, WalkNext, file_to_write, FileMachine, Machine, PathMachine, file_of, slot_taken, begun_at, Starts, Resumes, Takes, PutFile, Putting}
+use Rattle.core_counts.proofs.Prelude.{◌≡◌, ◌-◌, ℕ, Bool, true, false, List, Option, Some, None, Result, Ok, Err, inl, inr, refl, ap, ◌∙◌, Fault, Call, Reply, of_file, last_end, is_first, Step, Shelf, Turn, CloseFile, Closing, Removal, Opening, OpeningStep, Saving, Writing, refusal_of, joined, file_at, OpeningPhase, by-step, ends_as, WalkStep, file_to_write, FileMachine, Machine, PathMachine, file_of, slot_taken, begun_at, Starts, Resumes, Takes, PutFile, Putting}
 use Rattle.op_machines.specs.Openers.{placed}
 use Rattle.world_model.specs.declared.answer.Answer.TheVariants as answers
 use Rattle.client_shelf.specs.Unmade.{came_unmade}
-use Rattle.client_shelf.specs.declared.next.Next.TheVariants as nexts
+use Rattle.client_shelf.specs.declared.step.Step.TheVariants as nexts
 use Rattle.file_ops.specs.declared.close_file.Closing.TheVariants as closing
-use Rattle.file_ops.specs.declared.opening.OpeningNext.TheVariants as openings
+use Rattle.file_ops.specs.declared.opening.OpeningStep.TheVariants as openings
 use Rattle.file_ops.specs.declared.write_file.Writing.TheVariants as writing
 use Rattle.file_ops.specs.Closes as closes
 use Rattle.file_ops.specs.Opening as opening
 use Rattle.file_ops.specs.Saves as saves
 use Rattle.file_ops.specs.WriteFile as writes
-use Rattle.file_ops.specs.declared.opening.OpeningStep.TheVariants as opening_steps
+use Rattle.file_ops.specs.declared.opening.OpeningPhase.TheVariants as opening_steps
 use Rattle.name_cache.specs.Names as names
-use Rattle.name_ops.specs.declared.walk.WalkNext.TheVariants as walks
+use Rattle.name_ops.specs.declared.walk.WalkStep.TheVariants as walks
 use Rattle.name_ops.specs.Walking as walking
 use Rattle.file_ops.specs.TruncateFile.{found_file}
 use Rattle.op_machines.specs.declared.file_machine.FileMachine.TheVariants as files
@@ -28,7 +28,7 @@ use Rattle.core_facts.proofs.AllAwaited.{PutAwaits, FileAwaits, PathOr, Awaits}
 use Rattle.file_ops.specs.declared.put_file.Putting.TheVariants as putting
 use Rattle.file_ops.specs.PutFile as puts
 
-leads-names : (to : Next) (state : Writing) (shelf : Shelf) (next : Next) (new : Writing) (after : Shelf) → writes.Leads to state shelf next new after → after.names ≡ shelf.names
+leads-names : (to : Step) (state : Writing) (shelf : Shelf) (next : Step) (new : Writing) (after : Shelf) → writes.Leads to state shelf next new after → after.names ≡ shelf.names
 leads-names to state shelf next new after l = ap (λ (s : Shelf). s.names) l.shelf_is
 
 room-names : (told : _) (lane : ℕ) (shelf : Shelf) → (writes.room_shelf told lane shelf).names ≡ shelf.names
@@ -38,12 +38,12 @@ room-names told lane shelf = by-step (λ g. (writes.room_shelf g lane shelf).nam
     ended (Ok nothing) = refl
     ended (Err fault) = refl
 
-saves-names : (b : Bool) (wsize lane : ℕ) (file : List ℕ) (saving : Saving) (turn : Turn) (shelf : Shelf) (next : Next) (new : Writing) (after : Shelf)
+saves-names : (b : Bool) (wsize lane : ℕ) (file : List ℕ) (saving : Saving) (turn : Turn) (shelf : Shelf) (next : Step) (new : Writing) (after : Shelf)
     → writes.SavesIf b wsize lane file saving turn shelf next new after → after.names ≡ shelf.names
 saves-names true wsize lane file saving turn shelf next new after s = ap (λ (k : Shelf). k.names) s.leads.shelf_is ∙ room-names s.told lane (record shelf { back = s.back })
 saves-names false wsize lane file saving turn shelf next new after s = leads-names nexts.Wait (writing.Room file saving) shelf next new after s
 
-writes-names : (b : Bool) (wsize lane : ℕ) (file : List ℕ) (offset : ℕ) (bytes : List ℕ) (turn : Turn) (shelf : Shelf) (next : Next) (new : Writing) (after : Shelf)
+writes-names : (b : Bool) (wsize lane : ℕ) (file : List ℕ) (offset : ℕ) (bytes : List ℕ) (turn : Turn) (shelf : Shelf) (next : Step) (new : Writing) (after : Shelf)
     → writes.WritesIf b wsize lane file offset bytes turn shelf next new after → after.names ≡ shelf.names
 writes-names true wsize lane file offset bytes turn shelf next new after (inl s) =
     saves-names (is_first lane (joined lane s.of shelf).order) wsize lane file (saves.begun s.of shelf.seq) turn (joined lane s.of shelf) next new after s.saves
@@ -51,16 +51,16 @@ writes-names true wsize lane file offset bytes turn shelf next new after (inr s)
 writes-names false wsize lane file offset bytes turn shelf next new after (inl s) = ap (λ (k : Shelf). k.names) s.leads.shelf_is
 writes-names false wsize lane file offset bytes turn shelf next new after (inr s) = leads-names _ _ shelf next new after s
 
-put-follows : (gives : _) (lane : ℕ) (saving : Saving) (old : Shelf) (next : Next) (state : Putting) (new : Shelf) → puts.Follows gives lane saving old next state new → new.names ≡ old.names
+put-follows : (gives : _) (lane : ℕ) (saving : Saving) (old : Shelf) (next : Step) (state : Putting) (new : Shelf) → puts.Follows gives lane saving old next state new → new.names ≡ old.names
 put-follows gives lane saving old next state new f = by-step (λ g. puts.Follows g lane saving old next state new → new.names ≡ old.names)
     (λ call l. ap (λ (k : Shelf). k.names) l.2) (λ l. ap (λ (k : Shelf). k.names) l.2) (λ result l. ap (λ (k : Shelf). k.names) l.others) gives f
 
-put-queues : (b : Bool) (wsize lane : ℕ) (turn : Turn) (saving : Saving) (old : Shelf) (next : Next) (state : Putting) (new : Shelf)
+put-queues : (b : Bool) (wsize lane : ℕ) (turn : Turn) (saving : Saving) (old : Shelf) (next : Step) (state : Putting) (new : Shelf)
     → puts.QueuesIf b wsize lane turn saving old next state new → new.names ≡ old.names
 put-queues true wsize lane turn saving old next state new q = put-follows q.gives lane q.saved q.gone next state new q.follows ∙ ap (λ (k : Shelf). k.names) q.others
 put-queues false wsize lane turn saving old next state new q = ap (λ (k : Shelf). k.names) q.shelf_is
 
-after-write : (told : Next) (wsize lane : ℕ) (file : List ℕ) (turn : Turn) (old : Shelf) (next : Next) (state : Putting) (new : Shelf)
+after-write : (told : Step) (wsize lane : ℕ) (file : List ℕ) (turn : Turn) (old : Shelf) (next : Step) (state : Putting) (new : Shelf)
     → puts.AfterWrite told wsize lane file turn old next state new → new.names ≡ old.names
 after-write (nexts.Send call) wsize lane file turn old next state new a = ap (λ (k : Shelf). k.names) a.2
 after-write nexts.Wait wsize lane file turn old next state new a = ap (λ (k : Shelf). k.names) a.2
@@ -68,7 +68,7 @@ after-write (nexts.Done (answers.Done value)) wsize lane file turn old next stat
     put-queues (is_first lane (joined lane file old).order) wsize lane turn (saves.begun file old.seq) (joined lane file old) next state new a
 after-write (nexts.Done (answers.Refused fault)) wsize lane file turn old next state new a = ap (λ (k : Shelf). k.names) a.others
 
-after-opening : (step : OpeningNext) (wsize : ℕ) (m : PutFile) (turn : Turn) (old : Shelf) (next : Next) (new : PutFile) (after : Shelf)
+after-opening : (step : OpeningStep) (wsize : ℕ) (m : PutFile) (turn : Turn) (old : Shelf) (next : Step) (new : PutFile) (after : Shelf)
     → puts.AfterOpening step wsize m turn old next new after → after.names ≡ old.names
 after-opening (openings.Send call) wsize m turn old next new after a = ap (λ (k : Shelf). k.names) a.2
 after-opening openings.Wait wsize m turn old next new after a = ap (λ (k : Shelf). k.names) a.shelf_is
@@ -80,14 +80,14 @@ after-opening (openings.Ended (Err fault)) wsize m turn old next new after a = a
 module _ (T : names.Entries → Type 0) (quiet : QuietLaws T) where
   -- ---- puts
 
-  notes-told : (o : Opening) (came : Result Reply Fault) (step : OpeningStep) (old new : names.Entries) (call : Call) → call ≡ opening.call_of o step → CallTells T quiet came call
+  notes-told : (o : Opening) (came : Result Reply Fault) (step : OpeningPhase) (old new : names.Entries) (call : Call) → call ≡ opening.call_of o step → CallTells T quiet came call
       → opening.NotesNames o came step old new → T old → T new
   notes-told o came opening_steps.Look old new call e c n t = looked-told T quiet o.dir o.name came old new (c o.dir o.name e) n t
   notes-told o came opening_steps.Make old new call e c n t = told-as T quiet _ new n (left-told T quiet (came_unmade came) o.dir old t)
   notes-told o came opening_steps.Find old new call e c n t = looked-told T quiet o.dir o.name came old new (c o.dir o.name e) n t
   notes-told o came (opening_steps.Ask file) old new call e c n t = told-as T quiet old new n t
 
-  put-takes : (at : Putting) (wsize : ℕ) (m : PutFile) (sent turn : Turn) (came : Result Reply Fault) (old : Shelf) (next : Next) (new : PutFile) (after : Shelf) (call : Call)
+  put-takes : (at : Putting) (wsize : ℕ) (m : PutFile) (sent turn : Turn) (came : Result Reply Fault) (old : Shelf) (next : Step) (new : PutFile) (after : Shelf) (call : Call)
       → PutAwaits at m.opening call → CallTells T quiet came call → puts.Takes at wsize m sent turn came old next new after → T old.names → T after.names
   put-takes putting.Idle wsize m sent turn came old next new after call e c k t = shelf-as T quiet old after k.shelf_is t
   put-takes putting.Opens wsize m sent turn came old next new after call e c k t =
@@ -101,48 +101,48 @@ module _ (T : names.Entries → Type 0) (quiet : QuietLaws T) where
 
   -- ---- closes
 
-  ends-at : (place : Option (List ℕ × List ℕ)) (lane : ℕ) (room : Bool) (file : List ℕ) (why : Option Fault) (old : Shelf) (next : Next) (state : Closing) (new : Shelf)
+  ends-at : (place : Option (List ℕ × List ℕ)) (lane : ℕ) (room : Bool) (file : List ℕ) (why : Option Fault) (old : Shelf) (next : Step) (state : Closing) (new : Shelf)
       → closes.EndsAt place lane room file why old next state new → T old.names → T new.names
   ends-at None lane room file why old next state new e t = shelf-as T quiet _ new e.others t
   ends-at (Some place) lane room file why old next state new e t = shelf-as T quiet old new e.shelf_is t
 
-  frees : (lane slot : ℕ) (room : Bool) (file : List ℕ) (why : Option Fault) (old : Shelf) (next : Next) (state : Closing) (new : Shelf)
+  frees : (lane slot : ℕ) (room : Bool) (file : List ℕ) (why : Option Fault) (old : Shelf) (next : Step) (state : Closing) (new : Shelf)
       → closes.Frees lane slot room file why old next state new → T old.names → T new.names
   frees lane slot room file why old next state new f t = ends-at f.place lane room file why f.freed next state new f.ends (shelf-as T quiet _ f.freed f.slot_is t)
 
-  close-follows : (gives : _) (lane slot : ℕ) (room begun : Bool) (saving : Saving) (old : Shelf) (next : Next) (state : Closing) (new : Shelf)
+  close-follows : (gives : _) (lane slot : ℕ) (room begun : Bool) (saving : Saving) (old : Shelf) (next : Step) (state : Closing) (new : Shelf)
       → closes.Follows gives lane slot room begun saving old next state new → T old.names → T new.names
   close-follows gives lane slot room begun saving old next state new f t = by-step
       (λ g. closes.Follows g lane slot room begun saving old next state new → T new.names)
       (λ call l. shelf-as T quiet old new l.2 t) (λ l. shelf-as T quiet old new l.2 t) (λ result l. frees lane slot room saving.file (refusal_of result) old next state new l t) gives f
 
-  close-goes : (wsize lane slot : ℕ) (turn : Turn) (begun : Bool) (saving : Saving) (old : Shelf) (next : Next) (state : Closing) (new : Shelf)
+  close-goes : (wsize lane slot : ℕ) (turn : Turn) (begun : Bool) (saving : Saving) (old : Shelf) (next : Step) (state : Closing) (new : Shelf)
       → closes.GoesOn wsize lane slot turn begun saving old next state new → T old.names → T new.names
   close-goes wsize lane slot turn begun saving old next state new g t =
       close-follows g.gives lane slot turn.room begun g.saved g.gone next state new g.follows (shelf-as T quiet _ g.gone g.others t)
 
-  close-begins : (end : Option ℕ) (wsize lane slot : ℕ) (turn : Turn) (saving : Saving) (old : Shelf) (next : Next) (state : Closing) (new : Shelf)
+  close-begins : (end : Option ℕ) (wsize lane slot : ℕ) (turn : Turn) (saving : Saving) (old : Shelf) (next : Step) (state : Closing) (new : Shelf)
       → closes.Begins end wsize lane slot turn saving old next state new → T old.names → T new.names
   close-begins None wsize lane slot turn saving old next state new b t = frees lane slot turn.room saving.file None old next state new b t
   close-begins (Some end) wsize lane slot turn saving old next state new b t = close-goes wsize lane slot turn false saving old next state new b t
 
-  close-queues : (b : Bool) (wsize lane slot : ℕ) (turn : Turn) (saving : Saving) (old : Shelf) (next : Next) (state : Closing) (new : Shelf)
+  close-queues : (b : Bool) (wsize lane slot : ℕ) (turn : Turn) (saving : Saving) (old : Shelf) (next : Step) (state : Closing) (new : Shelf)
       → closes.QueuesIf b wsize lane slot turn saving old next state new → T old.names → T new.names
   close-queues true wsize lane slot turn saving old next state new q t = close-begins (last_end (of_file saving.file old.back).segments) wsize lane slot turn saving old next state new q t
   close-queues false wsize lane slot turn saving old next state new q t = shelf-as T quiet old new q.shelf_is t
 
-  close-starts : (file : Option (List ℕ)) (wsize : ℕ) (m : CloseFile) (turn : Turn) (old : Shelf) (next : Next) (state : Closing) (new : Shelf)
+  close-starts : (file : Option (List ℕ)) (wsize : ℕ) (m : CloseFile) (turn : Turn) (old : Shelf) (next : Step) (state : Closing) (new : Shelf)
       → closes.StartsAt file wsize m turn old next state new → T old.names → T new.names
   close-starts None wsize m turn old next state new s t = shelf-as T quiet old new s.shelf_is t
   close-starts (Some file) wsize m turn old next state new s t =
       close-queues (is_first m.lane (joined m.lane file old).order) wsize m.lane m.slot turn (saves.begun file old.seq) (joined m.lane file old) next state new s t
 
-  close-on : (b : Bool) (wsize lane slot : ℕ) (turn : Turn) (saving : Saving) (old : Shelf) (next : Next) (state : Closing) (new : Shelf)
+  close-on : (b : Bool) (wsize lane slot : ℕ) (turn : Turn) (saving : Saving) (old : Shelf) (next : Step) (state : Closing) (new : Shelf)
       → closes.GoesOnIf b wsize lane slot turn saving old next state new → T old.names → T new.names
   close-on true wsize lane slot turn saving old next state new g t = close-goes wsize lane slot turn true saving old next state new g t
   close-on false wsize lane slot turn saving old next state new g t = shelf-as T quiet old new g.shelf_is t
 
-  close-resumes : (at : Closing) (wsize : ℕ) (m : CloseFile) (turn : Turn) (old : Shelf) (next : Next) (state : Closing) (new : Shelf)
+  close-resumes : (at : Closing) (wsize : ℕ) (m : CloseFile) (turn : Turn) (old : Shelf) (next : Step) (state : Closing) (new : Shelf)
       → closes.Resumes at wsize m turn old next state new → T old.names → T new.names
   close-resumes closing.Idle wsize m turn old next state new r t = shelf-as T quiet old new r.shelf_is t
   close-resumes (closing.Queued saving) wsize m turn old next state new r t = close-queues (is_first m.lane old.order) wsize m.lane m.slot turn saving old next state new r t
@@ -150,12 +150,12 @@ module _ (T : names.Entries → Type 0) (quiet : QuietLaws T) where
   close-resumes (closing.ToRemove removal) wsize m turn old next state new r t = shelf-as T quiet old new r.shelf_is t
   close-resumes (closing.Removing removal) wsize m turn old next state new r t = shelf-as T quiet old new r.shelf_is t
 
-  ends-if : (b : Bool) (lane : ℕ) (removal : Removal) (old : Shelf) (next : Next) (state : Closing) (new : Shelf) → closes.EndsIf b lane removal old next state new
+  ends-if : (b : Bool) (lane : ℕ) (removal : Removal) (old : Shelf) (next : Step) (state : Closing) (new : Shelf) → closes.EndsIf b lane removal old next state new
       → T old.names → T new.names
   ends-if true lane removal old next state new e t = shelf-as T quiet old new e.shelf_is t
   ends-if false lane removal old next state new e t = shelf-as T quiet _ new e.others t
 
-  close-takes : (at : Closing) (wsize : ℕ) (m : CloseFile) (sent turn : Turn) (came : Result Reply Fault) (old : Shelf) (next : Next) (state : Closing) (new : Shelf)
+  close-takes : (at : Closing) (wsize : ℕ) (m : CloseFile) (sent turn : Turn) (came : Result Reply Fault) (old : Shelf) (next : Step) (state : Closing) (new : Shelf)
       → closes.Takes at wsize m sent turn came old next state new → T old.names → T new.names
   close-takes closing.Idle wsize m sent turn came old next state new k t = shelf-as T quiet old new k.shelf_is t
   close-takes (closing.Queued saving) wsize m sent turn came old next state new k t = shelf-as T quiet old new k.shelf_is t
@@ -167,7 +167,7 @@ module _ (T : names.Entries → Type 0) (quiet : QuietLaws T) where
 
   -- ---- any operation on a file
 
-  file-starts : (m : FileMachine) (wsize : ℕ) (turn : Turn) (old : Shelf) (next : Next) (new : FileMachine) (after : Shelf) → steps.Starts wsize m turn old next new after
+  file-starts : (m : FileMachine) (wsize : ℕ) (turn : Turn) (old : Shelf) (next : Step) (new : FileMachine) (after : Shelf) → steps.Starts wsize m turn old next new after
       → T old.names → T after.names
   file-starts (files.Open m) wsize turn old next new after s t = shelf-as T quiet old after s.shelf_is t
   file-starts (files.Read m) wsize turn old next new after s t = shelf-as T quiet _ after s.others t
@@ -177,7 +177,7 @@ module _ (T : names.Entries → Type 0) (quiet : QuietLaws T) where
   file-starts (files.Truncate m) wsize turn old next new after s t = told-as T quiet old.names after.names (truncate-starts (found_file m old) m old after s.shelf_is) t
   file-starts (files.Put m) wsize turn old next new after s t = shelf-as T quiet old after s.shelf_is t
 
-  file-resumes : (m : FileMachine) (wsize : ℕ) (turn : Turn) (old : Shelf) (next : Next) (new : FileMachine) (after : Shelf) → steps.Resumes wsize m turn old next new after
+  file-resumes : (m : FileMachine) (wsize : ℕ) (turn : Turn) (old : Shelf) (next : Step) (new : FileMachine) (after : Shelf) → steps.Resumes wsize m turn old next new after
       → T old.names → T after.names
   file-resumes (files.Open m) wsize turn old next new after s t = shelf-as T quiet old after s.shelf_is t
   file-resumes (files.Read m) wsize turn old next new after s t = shelf-as T quiet _ after s.others t
@@ -187,7 +187,7 @@ module _ (T : names.Entries → Type 0) (quiet : QuietLaws T) where
   file-resumes (files.Truncate m) wsize turn old next new after s t = shelf-as T quiet old after s.shelf_is t
   file-resumes (files.Put m) wsize turn old next new after s t = told-as T quiet old.names after.names (put-resumes m.state wsize m turn old next s.machine after s.step) t
 
-  file-takes : (m : FileMachine) (wsize : ℕ) (sent turn : Turn) (came : Result Reply Fault) (old : Shelf) (next : Next) (new : FileMachine) (after : Shelf) (call : Call)
+  file-takes : (m : FileMachine) (wsize : ℕ) (sent turn : Turn) (came : Result Reply Fault) (old : Shelf) (next : Step) (new : FileMachine) (after : Shelf) (call : Call)
       → FileAwaits m call → CallTells T quiet came call → steps.Takes wsize m sent turn came old next new after → T old.names → T after.names
   file-takes (files.Open m) wsize sent turn came old next new after call e c s t = notes-told m.opening came m.opening.step old.names after.names call e c s.names t
   file-takes (files.Read m) wsize sent turn came old next new after call e c s t = shelf-as T quiet _ after s.others t
@@ -201,29 +201,29 @@ module _ (T : names.Entries → Type 0) (quiet : QuietLaws T) where
 
   -- ---- opens and puts on their way
 
-  then-told : (wsize : ℕ) (m : PathMachine) (turn : Turn) (old : Shelf) (next : Next) (new : PathMachine) (after : Shelf) → paths.ThenResumes wsize m turn old next new after
+  then-told : (wsize : ℕ) (m : PathMachine) (turn : Turn) (old : Shelf) (next : Step) (new : PathMachine) (after : Shelf) → paths.ThenResumes wsize m turn old next new after
       → T old.names → T after.names
   then-told wsize m turn old next new after k t = file-resumes (file_of m.opener) wsize turn old next (file_of k.opener) after k.step t
 
-  follows-path : (step : WalkNext) (wsize : ℕ) (m : PathMachine) (turn : Turn) (old : Shelf) (next : Next) (new : PathMachine) (after : Shelf)
+  follows-path : (step : WalkStep) (wsize : ℕ) (m : PathMachine) (turn : Turn) (old : Shelf) (next : Step) (new : PathMachine) (after : Shelf)
       → paths.Follows step wsize m turn old next new after → T old.names → T after.names
   follows-path (walks.Send call) wsize m turn old next new after f t = shelf-as T quiet old after f.2 t
   follows-path walks.Wait wsize m turn old next new after f t = shelf-as T quiet old after f.2 t
   follows-path (walks.At dir) wsize m turn old next new after f t = then-told wsize (record m { opener = placed dir m.opener; arrived = true }) turn old next new after f t
   follows-path (walks.Refused fault) wsize m turn old next new after f t = shelf-as T quiet old after f.2 t
 
-  path-resumes : (b : Bool) (wsize : ℕ) (m : PathMachine) (turn : Turn) (old : Shelf) (next : Next) (new : PathMachine) (after : Shelf) → paths.PathResumes b wsize m turn old next new after
+  path-resumes : (b : Bool) (wsize : ℕ) (m : PathMachine) (turn : Turn) (old : Shelf) (next : Step) (new : PathMachine) (after : Shelf) → paths.PathResumes b wsize m turn old next new after
       → T old.names → T after.names
   path-resumes true wsize m turn old next new after r t = then-told wsize m turn old next new after r t
   path-resumes false wsize m turn old next new after r t =
       follows-path (walking.go_next m.walk turn old) wsize (record m { walk = walking.go_after m.walk turn old }) turn (walking.go_shelf m.walk turn old) next new after r (go-told T quiet m.walk turn old t)
 
-  path-starts : (taken : Bool) (wsize : ℕ) (m : PathMachine) (turn : Turn) (old : Shelf) (next : Next) (new : PathMachine) (after : Shelf) → paths.StartsIf taken wsize m turn old next new after
+  path-starts : (taken : Bool) (wsize : ℕ) (m : PathMachine) (turn : Turn) (old : Shelf) (next : Step) (new : PathMachine) (after : Shelf) → paths.StartsIf taken wsize m turn old next new after
       → T old.names → T after.names
   path-starts true wsize m turn old next new after s t = shelf-as T quiet old after s.2 t
   path-starts false wsize m turn old next new after s t = path-resumes m.arrived wsize (record m { opener = begun_at (turn.moment - 1) m.opener }) turn old next new after s t
 
-  path-takes : (b : Bool) (wsize : ℕ) (m : PathMachine) (sent turn : Turn) (came : Result Reply Fault) (old : Shelf) (next : Next) (new : PathMachine) (after : Shelf) (call : Call)
+  path-takes : (b : Bool) (wsize : ℕ) (m : PathMachine) (sent turn : Turn) (came : Result Reply Fault) (old : Shelf) (next : Step) (new : PathMachine) (after : Shelf) (call : Call)
       → PathOr b m call → CallTells T quiet came call → paths.PathTakes b wsize m sent turn came old next new after → T old.names → T after.names
   path-takes true wsize m sent turn came old next new after call e c k t = file-takes (file_of m.opener) wsize sent turn came old next (file_of k.opener) after call e c k.step t
   path-takes false wsize m sent turn came old next new after call e c k t =
@@ -231,17 +231,17 @@ module _ (T : names.Entries → Type 0) (quiet : QuietLaws T) where
 
   -- ---- any operation
 
-  pub all-starts : (m : Machine) (wsize : ℕ) (turn : Turn) (old : Shelf) (next : Next) (new : Machine) (after : Shelf) → Starts wsize m turn old next new after → T old.names → T after.names
+  pub all-starts : (m : Machine) (wsize : ℕ) (turn : Turn) (old : Shelf) (next : Step) (new : Machine) (after : Shelf) → Starts wsize m turn old next new after → T old.names → T after.names
   all-starts (machines.File m) wsize turn old next new after s t = file-starts m wsize turn old next s.machine after s.step t
   all-starts (machines.Path m) wsize turn old next new after s t = path-starts (slot_taken m.opener old.opens) wsize m turn old next s.machine after s.step t
   all-starts (machines.Name m) wsize turn old next new after s t = name-goes T quiet m turn old next s.machine after s.step t
 
-  pub all-resumes : (m : Machine) (wsize : ℕ) (turn : Turn) (old : Shelf) (next : Next) (new : Machine) (after : Shelf) → Resumes wsize m turn old next new after → T old.names → T after.names
+  pub all-resumes : (m : Machine) (wsize : ℕ) (turn : Turn) (old : Shelf) (next : Step) (new : Machine) (after : Shelf) → Resumes wsize m turn old next new after → T old.names → T after.names
   all-resumes (machines.File m) wsize turn old next new after s t = file-resumes m wsize turn old next s.machine after s.step t
   all-resumes (machines.Path m) wsize turn old next new after s t = path-resumes m.arrived wsize m turn old next s.machine after s.step t
   all-resumes (machines.Name m) wsize turn old next new after s t = name-goes T quiet m turn old next s.machine after s.step t
 
-  pub all-takes : (m : Machine) (wsize : ℕ) (sent turn : Turn) (came : Result Reply Fault) (old : Shelf) (next : Next) (new : Machine) (after : Shelf) (call : Call) → Awaits m call
+  pub all-takes : (m : Machine) (wsize : ℕ) (sent turn : Turn) (came : Result Reply Fault) (old : Shelf) (next : Step) (new : Machine) (after : Shelf) (call : Call) → Awaits m call
       → CallTells T quiet came call → Takes wsize m sent turn came old next new after → T old.names → T after.names
   all-takes (machines.File m) wsize sent turn came old next new after call e c s t = file-takes m wsize sent turn came old next s.machine after call e c s.step t
   all-takes (machines.Path m) wsize sent turn came old next new after call e c s t = path-takes m.arrived wsize m sent turn came old next s.machine after call e c s.step t

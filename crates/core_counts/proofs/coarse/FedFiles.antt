@@ -1,7 +1,7 @@
 -- What opens and puts under way have found, and what listings under way have taken.
-use Rattle.core_counts.proofs.Prelude.{◌≡◌, ◌≤◌, ℕ, List, length, sym, subst, arith, Verf, Entry, Opening, OpeningStep, Putting, ListDir, Machine, front_of, last_of, Busy}
+use Rattle.core_counts.proofs.Prelude.{◌≡◌, ◌≤◌, ℕ, List, length, sym, subst, arith, Verf, Entry, Opening, OpeningPhase, Putting, ListDir, Machine, front_of, last_of, Busy}
 use Rattle.nfs_dir_calls.specs.declared.plus_page.PlusRow.{PlusRow}
-use Rattle.file_ops.specs.declared.opening.OpeningStep.TheVariants as opening_steps
+use Rattle.file_ops.specs.declared.opening.OpeningPhase.TheVariants as opening_steps
 use Rattle.file_ops.specs.declared.put_file.Putting.TheVariants as putting
 use Rattle.core_answers.proofs.bonds.AttrsShown.{fresh-attrs}
 use Rattle.core_answers.proofs.bonds.NamesShown.{none-kept}
@@ -27,7 +27,7 @@ gives-by h x d name file (found.looked_up since attr dir own a) = files.looks_up
 gives-by h x d name file (found.created since making attr wcc own a) = files.creates since making attr wcc own a
 
 module _ (most : ℕ) (top : List ℕ) (h : List Entry) (x : ℕ) (path : List (List ℕ)) (file : List ℕ) where
-  step-given : (d : List ℕ) (step : OpeningStep) → StepFound most top h x path d step → StepHas step file → GivenBy h x d (last_of path) file
+  step-given : (d : List ℕ) (step : OpeningPhase) → StepFound most top h x path d step → StepHas step file → GivenBy h x d (last_of path) file
   step-given d opening_steps.Look s has = absurd has
   step-given d opening_steps.Make s has = absurd has
   step-given d opening_steps.Find s has = absurd has

@@ -1,10 +1,10 @@
 -- A relation of the shelf before and after each step of an operation holds of each step of the core.
-use Rattle.core_counts.proofs.Prelude.{◌≡◌, ◌<◌, ◌+◌, ◌-◌, inl, inr, ℕ, List, [], ◌∷◌, ◌++◌, length, false, position, slice_get, Some, option_map, Result, Ok, Err, sym, ap, subst, ◌∙◌, append_assoc, append-nil, arith, xid_at, Waiting, waiting_at, Fault, Entry, Sent, Delivered, Call, Reply, Op, Heard, History, Lawful, HasXid, SpellsCall, FirstSent-grow, At-grow, At-below, At-back, At-last, length_last, said_of, Says, Next, Shelf, Turn, machine_of, Mounted, Machine, Starts, Resumes, Takes, Purpose, Busy, Setup, is_busy, with_state, Leads, Stirs, counted, StartsLane, TakesAt, View, turn_at, unmade_turn, Numbered, in_flight, HearsRecord, Reaches, IsMade, IsOutstanding, Tried, begins-unbegun, taken_one, was-sent, says-of, Known, reached-all, taker-is, taker-one, reached-rows, AskedOf, ThenOf, Passes, IsNfs, Both, nfs-of, WasRun}
+use Rattle.core_counts.proofs.Prelude.{◌≡◌, ◌<◌, ◌+◌, ◌-◌, inl, inr, ℕ, List, [], ◌∷◌, ◌++◌, length, false, position, slice_get, Some, option_map, Result, Ok, Err, sym, ap, subst, ◌∙◌, append_assoc, append-nil, arith, xid_at, Waiting, waiting_at, Fault, Entry, Sent, Delivered, Call, Reply, Op, Heard, History, Lawful, HasXid, SpellsCall, FirstSent-grow, At-grow, At-below, At-back, At-last, length_last, said_of, Says, Step, Shelf, Turn, machine_of, Mounted, Machine, Starts, Resumes, Takes, Purpose, Busy, Setup, is_busy, with_state, Leads, Stirs, counted, StartsLane, TakesAt, View, turn_at, unmade_turn, Numbered, in_flight, HearsRecord, Reaches, IsMade, IsOutstanding, Tried, begins-unbegun, taken_one, was-sent, says-of, Known, reached-all, taker-is, taker-one, reached-rows, AskedOf, ThenOf, Passes, IsNfs, Both, nfs-of, WasRun}
 use Rattle.call_replies.specs.Says.{SpellsOne}
 use Rattle.core_facts.specs.Tries.{unsent, runs, ended}
 use Rattle.core_facts.proofs.Keeping.{reached-kept}
 use Rattle.core_answers.proofs.pages.PageCalls.{both-asks}
-use Rattle.client_shelf.specs.declared.next.Next.TheVariants as nexts
+use Rattle.client_shelf.specs.declared.step.Step.TheVariants as nexts
 use Rattle.core_facts.specs.Counted.{IsOfOperation}
 use Rattle.core_facts.proofs.AllAwaited.{Awaits}
 use Rattle.core_facts.proofs.Flown.{Flown, keeps-flown}
@@ -28,12 +28,12 @@ use Rattle.core_answers.proofs.writes.Along.{KeepsAlong}
 abbrev pub Waits : Machine → Call → Type 0
 Waits m c = Both m c × Awaits m c
 
-waits-asked : (next : Next) (new : Machine) → AskedOf Both next new → AskedOf Awaits next new → AskedOf Waits next new
+waits-asked : (next : Step) (new : Machine) → AskedOf Both next new → AskedOf Awaits next new → AskedOf Waits next new
 waits-asked (nexts.Send call) new a b = (a, b)
 waits-asked nexts.Wait new a b = tt
 waits-asked (nexts.Done answer) new a b = tt
 
-waits-asking : (others : ℕ) (m : Machine) (next : Next) (new : Machine) → Asking Both (Both m) others next new → Asking Awaits (Awaits m) others next new
+waits-asking : (others : ℕ) (m : Machine) (next : Step) (new : Machine) → Asking Both (Both m) others next new → Asking Awaits (Awaits m) others next new
     → Asking Waits (Waits m) others next new
 waits-asking others m (nexts.Send call) new a b = record { asked = (a.asked, b.asked); kept = λ some c on. (a.kept some c on.0, b.kept some c on.1) }
 waits-asking others m nexts.Wait new a b = record { asked = tt; kept = λ some c on. (a.kept some c on.0, b.kept some c on.1) }
@@ -54,9 +54,9 @@ waits-asks = record {
 pub record StepLaws (Tell : Call → ℕ → Reply → Type 0) (R : Shelf → Shelf → Type 0) : Type 0 where
   pub same : (old new : Shelf) → new ≡ old → R old new
   pub then_ : (a b c : Shelf) → R a b → R b c → R a c
-  pub starts : (machine : Machine) (wsize : ℕ) (turn : Turn) (old : Shelf) (next : Next) (new : Machine) (after : Shelf) → Starts wsize machine turn old next new after → R old after
-  pub resumes : (machine : Machine) (wsize : ℕ) (turn : Turn) (old : Shelf) (next : Next) (new : Machine) (after : Shelf) → Resumes wsize machine turn old next new after → R old after
-  pub takes : (machine : Machine) (call : Call) (wsize : ℕ) (sent turn : Turn) (came : Result Reply Fault) (old : Shelf) (next : Next) (new : Machine) (after : Shelf)
+  pub starts : (machine : Machine) (wsize : ℕ) (turn : Turn) (old : Shelf) (next : Step) (new : Machine) (after : Shelf) → Starts wsize machine turn old next new after → R old after
+  pub resumes : (machine : Machine) (wsize : ℕ) (turn : Turn) (old : Shelf) (next : Step) (new : Machine) (after : Shelf) → Resumes wsize machine turn old next new after → R old after
+  pub takes : (machine : Machine) (call : Call) (wsize : ℕ) (sent turn : Turn) (came : Result Reply Fault) (old : Shelf) (next : Step) (new : Machine) (after : Shelf)
       → Waits machine call → ((reply : Reply) → came ≡ Ok reply → Tell call sent.now reply) → ((reply : Reply) → came ≡ Ok reply → IsSentAs sent.xid call old.back)
       → Takes wsize machine sent turn came old next new after → R old after
 
@@ -75,7 +75,7 @@ unit-along m setup = record {
 pub passed-known : (m : Mounted) (setup : Setup) (h : List Entry) (v : View) → Passes (machine_of m) setup h v → Known setup h v
 passed-known m setup h v p = (passed-along (machine_of m) (begins-unbegun m) setup (λ k w. Unit {0}) (unit-along m setup) h v p).known
 
-no-story : (next : Next) (new : Machine) → ThenOf (λ k. Unit {0}) (λ a. Unit {0}) next new
+no-story : (next : Step) (new : Machine) → ThenOf (λ k. Unit {0}) (λ a. Unit {0}) next new
 no-story (nexts.Send call) new = tt
 no-story nexts.Wait new = tt
 no-story (nexts.Done answer) new = tt
@@ -212,7 +212,7 @@ module _ (m : Mounted) (setup : Setup) where
 
   module _ (Tell : Call → ℕ → Reply → Type 0) (R : Shelf → Shelf → Type 0) (laws : StepLaws Tell R) where
     -- with the call that it asks for, also where that isn't made
-    leads-on : (from : Shelf) (v new : View) (at number : ℕ) (machine : Machine) (next : Next) → AskedOf Waits next machine → Leads v at number machine next new → R from v.shelf
+    leads-on : (from : Shelf) (v new : View) (at number : ℕ) (machine : Machine) (next : Step) → AskedOf Waits next machine → Leads v at number machine next new → R from v.shelf
         → R from new.shelf
     leads-on from v new at number machine (nexts.Send call) asked (inl k) f = subst (λ (w : View). R from w.shelf) (sym k.is) f
     leads-on from v new at number machine (nexts.Send call) asked (inr u) f =

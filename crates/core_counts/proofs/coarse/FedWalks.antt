@@ -1,17 +1,17 @@
 -- Each walk of an operation stands where the names lead that it has gone through.
-use Rattle.core_counts.proofs.Prelude.{◌≡◌, ◌<◌, ◌≤◌, ◌-◌, ℕ, Bool, true, false, List, [], ◌∷◌, ◌++◌, length, take, Option, Some, None, Result, Ok, Err, inl, inr, refl, sym, ap, subst, ◌∙◌, arith, if◌then◌else◌, Attr, Fault, Entry, Began, Call, Reply, Op, length_last, Next, Shelf, Turn, Link, ListDir, Pair, PairNext, Deed, Look, Seek, Move, Remove, RemoveFile, Rename, Stat, SymLink, Visit, Walk, WalkNext, access_call, deed_call, TakesLink, look_again, found_by, text_call, TakesText, TakesRename, TakesShow, sym_link_call, TakesSymLink, Mounted, Machine, NameMachine, PathMachine, machine_of, file_of, slot_taken, begun_at, Starts, Resumes, Takes, Opens, State, Busy, Over, ThenOf}
+use Rattle.core_counts.proofs.Prelude.{◌≡◌, ◌<◌, ◌≤◌, ◌-◌, ℕ, Bool, true, false, List, [], ◌∷◌, ◌++◌, length, take, Option, Some, None, Result, Ok, Err, inl, inr, refl, sym, ap, subst, ◌∙◌, arith, if◌then◌else◌, Attr, Fault, Entry, Began, Call, Reply, Op, length_last, Step, Shelf, Turn, Link, ListDir, Pair, PairStep, Deed, Look, Seek, Move, Remove, RemoveFile, Rename, Stat, SymLink, Visit, Walk, WalkStep, access_call, deed_call, TakesLink, look_again, found_by, text_call, TakesText, TakesRename, TakesShow, sym_link_call, TakesSymLink, Mounted, Machine, NameMachine, PathMachine, machine_of, file_of, slot_taken, begun_at, Starts, Resumes, Takes, Opens, State, Busy, Over, ThenOf}
 use Rattle.name_ops.specs.Link.{link_call}
 use Rattle.name_ops.specs.Rename.{rename_call}
 use Rattle.op_machines.specs.Openers.{placed}
 use Rattle.attr_cache.specs.Attrs as attrs
 use Rattle.world_model.specs.declared.op.Op.TheVariants as ops
-use Rattle.dir_list.specs.declared.progress.Step.{Step}
-use Rattle.dir_list.specs.declared.progress.Step.TheVariants.{More, End}
+use Rattle.dir_list.specs.declared.progress.ListStep.{ListStep}
+use Rattle.dir_list.specs.declared.progress.ListStep.TheVariants.{More, End}
 use Rattle.dir_list.specs.declared.progress.ListFault.{ListFault}
 use Rattle.dir_list.specs.Listings.{page_step}
-use Rattle.client_shelf.specs.declared.next.Next.TheVariants as nexts
-use Rattle.name_ops.specs.declared.visit.VisitNext.{VisitNext}
-use Rattle.name_ops.specs.declared.walk.WalkNext.TheVariants as walks
+use Rattle.client_shelf.specs.declared.step.Step.TheVariants as nexts
+use Rattle.name_ops.specs.declared.visit.VisitStep.{VisitStep}
+use Rattle.name_ops.specs.declared.walk.WalkStep.TheVariants as walks
 use Rattle.name_ops.specs.Changing as changing
 use Rattle.name_ops.specs.ListDir as listing
 use Rattle.name_ops.specs.Pairs as pairs
@@ -93,7 +93,7 @@ module _ (most : ℕ) (top : List ℕ) (h : List Entry) (x : ℕ) where
     go-kept : (w : Walk) (turn : Turn) (shelf : Shelf) → Kept most h shelf → Kept most h (walking.go_shelf w turn shelf)
     go-kept w turn shelf k = (k.0, go-told (NamedIn h) w turn shelf k.1)
 
-    took-on : (w : Walk) (sent turn : Turn) (came : Result Reply Fault) (old : Shelf) (step : WalkNext) (new : Walk) (after : Shelf) (call : Call) → Kept most h old
+    took-on : (w : Walk) (sent turn : Turn) (came : Result Reply Fault) (old : Shelf) (step : WalkStep) (new : Walk) (after : Shelf) (call : Call) → Kept most h old
         → Good (ShownIn h) most after.attrs → IsLate h x turn.now → IsLed w → WalkAwaits w call → AreTold came call sent.now
         → walking.Takes (walking.waiting_name w) w sent turn came old step new after → IsLed new
     took-on w sent turn came old step new after call k good late s awaits told t =
@@ -101,7 +101,7 @@ module _ (most : ℕ) (top : List ℕ) (h : List Entry) (x : ℕ) where
 
     -- ---- visits
 
-    follow-on : (step : WalkNext) (room : Bool) (v : Visit) → IsLed v.walk → IsLed (visiting.follow_after step room v).walk
+    follow-on : (step : WalkStep) (room : Bool) (v : Visit) → IsLed v.walk → IsLed (visiting.follow_after step room v).walk
     follow-on (walks.Send call) room v s = s
     follow-on walks.Wait room v s = s
     follow-on (walks.At object) true v s = s
@@ -118,33 +118,33 @@ module _ (most : ℕ) (top : List ℕ) (h : List Entry) (x : ℕ) where
     visit-as : (to new : Visit) → new ≡ to → IsLed to.walk → IsLed new.walk
     visit-as to new is s = subst (λ (z : Visit). IsLed z.walk) (sym is) s
 
-    visit-takes : (v : Visit) (sent turn : Turn) (came : Result Reply Fault) (old : Shelf) (next : VisitNext) (new : Visit) (after : Shelf) (call : Call) → Kept most h old → Kept most h after
+    visit-takes : (v : Visit) (sent turn : Turn) (came : Result Reply Fault) (old : Shelf) (next : VisitStep) (new : Visit) (after : Shelf) (call : Call) → Kept most h old → Kept most h after
         → IsLate h x turn.now → IsLed v.walk → WalkAwaits v.walk call → AreTold came call sent.now → visiting.VisitTakes v sent turn came old next new after → IsLed new.walk
     visit-takes v sent turn came old next new after call k good late s awaits told t =
         visit-as (visiting.follow_after t.step turn.room t.walked) new t.visit_is
         (follow-on t.step turn.room t.walked (took-on v.walk sent turn came old t.step t.walked.walk after call k good.0 late s awaits told t.takes))
 
-    change-takes : (asked : Bool) (own : List ℕ → Call) (said : _) (v : Visit) (sent turn : Turn) (came : Result Reply Fault) (old : Shelf) (next : Next) (new : Visit) (after : Shelf) (call : Call)
+    change-takes : (asked : Bool) (own : List ℕ → Call) (said : _) (v : Visit) (sent turn : Turn) (came : Result Reply Fault) (old : Shelf) (next : Step) (new : Visit) (after : Shelf) (call : Call)
         → Kept most h old → Kept most h after → IsLate h x turn.now → IsLed v.walk → OwnOr asked own v.walk call → AreTold came call sent.now
         → changing.TakesChange asked own said v sent turn came old next new after → IsLed new.walk
     change-takes true own said v sent turn came old next new after call k good late s awaits told t = visit-as v new t.0 s
     change-takes false own said v sent turn came old next new after call k good late s awaits told t =
         visit-takes v sent turn came old t.step new after call k good late s awaits told t.takes
 
-    show-takes : (asked : Bool) (own : List ℕ → Call) (attr : Option Attr) (said : _) (v : Visit) (sent turn : Turn) (came : Result Reply Fault) (old : Shelf) (next : Next) (new : Visit)
+    show-takes : (asked : Bool) (own : List ℕ → Call) (attr : Option Attr) (said : _) (v : Visit) (sent turn : Turn) (came : Result Reply Fault) (old : Shelf) (next : Step) (new : Visit)
         (after : Shelf) (call : Call) → Kept most h old → Kept most h after → IsLate h x turn.now → IsLed v.walk → OwnOr asked own v.walk call → AreTold came call sent.now
         → TakesShow asked own attr said v sent turn came old next new after → IsLed new.walk
     show-takes true own attr said v sent turn came old next new after call k good late s awaits told t = visit-as v new t.0 s
     show-takes false own attr said v sent turn came old next new after call k good late s awaits told t =
         visit-takes v sent turn came old t.step new after call k good late s awaits told t.takes
 
-    text-takes : (asked : Bool) (v : Visit) (sent turn : Turn) (came : Result Reply Fault) (old : Shelf) (next : Next) (new : Visit) (after : Shelf) (call : Call)
+    text-takes : (asked : Bool) (v : Visit) (sent turn : Turn) (came : Result Reply Fault) (old : Shelf) (next : Step) (new : Visit) (after : Shelf) (call : Call)
         → Kept most h old → Kept most h after → IsLate h x turn.now → IsLed v.walk → OwnOr asked text_call v.walk call → AreTold came call sent.now
         → TakesText asked v sent turn came old next new after → IsLed new.walk
     text-takes true v sent turn came old next new after call k good late s awaits told t = visit-as v new t.0 s
     text-takes false v sent turn came old next new after call k good late s awaits told t = visit-takes v sent turn came old t.step new after call k good late s awaits told t.takes
 
-    sym-takes : (asked : Bool) (m : SymLink) (sent turn : Turn) (came : Result Reply Fault) (old : Shelf) (next : Next) (new : Visit) (after : Shelf) (call : Call)
+    sym-takes : (asked : Bool) (m : SymLink) (sent turn : Turn) (came : Result Reply Fault) (old : Shelf) (next : Step) (new : Visit) (after : Shelf) (call : Call)
         → Kept most h old → Kept most h after → IsLate h x turn.now → IsLed m.visit.walk → OwnOr asked (sym_link_call m.name m.target) m.visit.walk call → AreTold came call sent.now
         → TakesSymLink asked m sent turn came old next new after → IsLed new.walk
     sym-takes true m sent turn came old next new after call k good late s awaits told t = visit-as m.visit new t.0 s
@@ -156,25 +156,25 @@ module _ (most : ℕ) (top : List ℕ) (h : List Entry) (x : ℕ) where
     list-as : (to new : ListDir) → new ≡ to → IsLed to.visit.walk → IsLed new.visit.walk
     list-as to new is s = subst (λ (z : ListDir). IsLed z.visit.walk) (sym is) s
 
-    more-on : (step : Step) (room : Bool) (m : ListDir) (next : Next) (new : ListDir) → listing.GoesOn step room m next new → IsLed m.visit.walk → IsLed new.visit.walk
+    more-on : (step : ListStep) (room : Bool) (m : ListDir) (next : Step) (new : ListDir) → listing.GoesOn step room m next new → IsLed m.visit.walk → IsLed new.visit.walk
     more-on (More cookie verf) room m next new t s = list-as _ new t.1 s
     more-on End room m next new t s = list-as _ new t.machine_is s
 
-    step-on : (step : Result Step ListFault) (heard : _) (room : Bool) (m : ListDir) (next : Next) (new : ListDir) → listing.TakesStep step heard room m next new → IsLed m.visit.walk
+    step-on : (step : Result ListStep ListFault) (heard : _) (room : Bool) (m : ListDir) (next : Step) (new : ListDir) → listing.TakesStep step heard room m next new → IsLed m.visit.walk
         → IsLed new.visit.walk
     step-on (Ok step) heard room m next new t s = more-on step room _ next new t s
     step-on (Err fault) heard room m next new t s = list-as m new t.1 s
 
-    page-on : (heard : _) (room : Bool) (m : ListDir) (next : Next) (new : ListDir) → listing.TakesPage heard room m next new → IsLed m.visit.walk → IsLed new.visit.walk
+    page-on : (heard : _) (room : Bool) (m : ListDir) (next : Step) (new : ListDir) → listing.TakesPage heard room m next new → IsLed m.visit.walk → IsLed new.visit.walk
     page-on heard room m next new (inl t) s = list-as m new t.1 s
     page-on heard room m next new (inr t) s = step-on (page_step m.listing heard.page heard.verf heard.eof) heard room m next new t s
 
-    pages-on : (heard : Result _ Fault) (again room : Bool) (m : ListDir) (next : Next) (new : ListDir) → listing.Follows heard again room m next new → IsLed m.visit.walk
+    pages-on : (heard : Result _ Fault) (again room : Bool) (m : ListDir) (next : Step) (new : ListDir) → listing.Follows heard again room m next new → IsLed m.visit.walk
         → IsLed new.visit.walk
     pages-on (Ok heard) again room m next new t s = page-on heard room m next new t s
     pages-on (Err fault) again room m next new t s = list-as m new t.1 s
 
-    list-takes : (asked : Bool) (m : ListDir) (sent turn : Turn) (came : Result Reply Fault) (old : Shelf) (next : Next) (new : ListDir) (after : Shelf) (call : Call)
+    list-takes : (asked : Bool) (m : ListDir) (sent turn : Turn) (came : Result Reply Fault) (old : Shelf) (next : Step) (new : ListDir) (after : Shelf) (call : Call)
         → Kept most h old → Kept most h after → IsLate h x turn.now → IsLed m.visit.walk → OwnOr asked (listing.page_call m.place) m.visit.walk call → AreTold came call sent.now
         → listing.TakesList asked m sent turn came old next new after → IsLed new.visit.walk
     list-takes true m sent turn came old next new after call k good late s awaits told t = pages-on (listing.page_heard came) _ turn.room m next new t.follows s
@@ -188,7 +188,7 @@ module _ (most : ℕ) (top : List ℕ) (h : List Entry) (x : ℕ) where
     ask-on None true m s = s
     ask-on None false m s = s
 
-    stat-on : (step : WalkNext) (turn : Turn) (known : attrs.Attrs) (m : Stat) → IsLed m.walk → IsLed (stats.follow_after step turn known m).walk
+    stat-on : (step : WalkStep) (turn : Turn) (known : attrs.Attrs) (m : Stat) → IsLed m.walk → IsLed (stats.follow_after step turn known m).walk
     stat-on (walks.Send call) turn known m s = s
     stat-on walks.Wait turn known m s = s
     stat-on (walks.At object) turn known m s = ask-on (attrs.looked object turn.now known) turn.room m s
@@ -204,7 +204,7 @@ module _ (most : ℕ) (top : List ℕ) (h : List Entry) (x : ℕ) where
         by true = s
         by false = stat-on (walking.go_next m.walk turn old) turn old.attrs (record m { walk = walking.go_after m.walk turn old }) (go-led-on m.walk turn old k late s)
 
-    stat-takes : (asked : Bool) (m : Stat) (sent turn : Turn) (came : Result Reply Fault) (old : Shelf) (next : Next) (new : Stat) (after : Shelf) (call : Call)
+    stat-takes : (asked : Bool) (m : Stat) (sent turn : Turn) (came : Result Reply Fault) (old : Shelf) (next : Step) (new : Stat) (after : Shelf) (call : Call)
         → Kept most h old → Kept most h after → IsLate h x turn.now → IsLed m.walk → OwnOr asked stats.get_attr m.walk call → AreTold came call sent.now
         → stats.StatTakes asked m sent turn came old next new after → IsLed new.walk
     stat-takes true m sent turn came old next new after call k good late s awaits told t = stat-as m new t.0 s
@@ -218,13 +218,13 @@ module _ (most : ℕ) (top : List ℕ) (h : List Entry) (x : ℕ) where
     asks-on true p s = s
     asks-on false p s = s
 
-    second-on : (step : WalkNext) (room : Bool) (p : Pair) → AreLed p → AreLed (pairs.second_kept step room p)
+    second-on : (step : WalkStep) (room : Bool) (p : Pair) → AreLed p → AreLed (pairs.second_kept step room p)
     second-on (walks.Send call) room p s = s
     second-on walks.Wait room p s = s
     second-on (walks.At object) room p s = asks-on room p s
     second-on (walks.Refused fault) room p s = s
 
-    first-on : (step : WalkNext) (p : Pair) (turn : Turn) (shelf : Shelf) → Kept most h shelf → IsLate h x turn.now → AreLed p → AreLed (pairs.first_kept step p turn shelf)
+    first-on : (step : WalkStep) (p : Pair) (turn : Turn) (shelf : Shelf) → Kept most h shelf → IsLate h x turn.now → AreLed p → AreLed (pairs.first_kept step p turn shelf)
     first-on (walks.Send call) p turn shelf k late s = s
     first-on walks.Wait p turn shelf k late s = s
     first-on (walks.At object) p turn shelf k late s =
@@ -243,19 +243,19 @@ module _ (most : ℕ) (top : List ℕ) (h : List Entry) (x : ℕ) where
     pair-as : (to new : Pair) → new ≡ to → AreLed to → AreLed new
     pair-as to new is s = subst AreLed (sym is) s
 
-    first-attrs : (step : WalkNext) (p : Pair) (turn : Turn) (shelf : Shelf) → (pairs.first_shelf step p turn shelf).attrs ≡ shelf.attrs
+    first-attrs : (step : WalkStep) (p : Pair) (turn : Turn) (shelf : Shelf) → (pairs.first_shelf step p turn shelf).attrs ≡ shelf.attrs
     first-attrs (walks.Send call) p turn shelf = refl
     first-attrs walks.Wait p turn shelf = refl
     first-attrs (walks.At object) p turn shelf = refl
     first-attrs (walks.Refused fault) p turn shelf = refl
 
     -- names that are known after a walk heard a reply
-    heard-names : (w : Walk) (sent turn : Turn) (came : Result Reply Fault) (old : Shelf) (step : WalkNext) (new : Walk) (heard : Shelf) (call : Call) → Kept most h old → WalkAwaits w call
+    heard-names : (w : Walk) (sent turn : Turn) (came : Result Reply Fault) (old : Shelf) (step : WalkStep) (new : Walk) (heard : Shelf) (call : Call) → Kept most h old → WalkAwaits w call
         → AreTold came call sent.now → walking.Takes (walking.waiting_name w) w sent turn came old step new heard → Told (NamedIn h) heard.names
     heard-names w sent turn came old step new heard call k awaits told t =
         walk-told (NamedIn h) w sent turn came old step new heard call awaits (told-named h call sent.now came (λ reply is. (told reply is).told)) t k.1
 
-    pair-takes : (b : Bool) (own : List ℕ → List ℕ → Call) (p : Pair) (sent turn : Turn) (came : Result Reply Fault) (old : Shelf) (next : PairNext) (new : Pair) (after : Shelf) (call : Call)
+    pair-takes : (b : Bool) (own : List ℕ → List ℕ → Call) (p : Pair) (sent turn : Turn) (came : Result Reply Fault) (old : Shelf) (next : PairStep) (new : Pair) (after : Shelf) (call : Call)
         → Kept most h old → Kept most h after → IsLate h x turn.now → AreLed p → PairOr false b own p call → AreTold came call sent.now
         → pairs.PairTakes b p sent turn came old next new after → AreLed new
     pair-takes true own p sent turn came old next new after call k good late s awaits told t =
@@ -273,14 +273,14 @@ module _ (most : ℕ) (top : List ℕ) (h : List Entry) (x : ℕ) where
           took-on p.second sent turn came old t.step t.walked.second after call k good.0 late s.1 awaits told t.takes,
         ))
 
-    rename-takes : (asked : Bool) (m : Rename) (sent turn : Turn) (came : Result Reply Fault) (old : Shelf) (next : Next) (new : Pair) (after : Shelf) (call : Call)
+    rename-takes : (asked : Bool) (m : Rename) (sent turn : Turn) (came : Result Reply Fault) (old : Shelf) (next : Step) (new : Pair) (after : Shelf) (call : Call)
         → Kept most h old → Kept most h after → IsLate h x turn.now → AreLed m.pair → PairOr asked m.pair.first.asked (rename_call m.from m.to) m.pair call → AreTold came call sent.now
         → TakesRename asked m sent turn came old next new after → AreLed new
     rename-takes true m sent turn came old next new after call k good late s awaits told t = pair-as m.pair new t.0 s
     rename-takes false m sent turn came old next new after call k good late s awaits told t =
         pair-takes m.pair.first.asked (rename_call m.from m.to) m.pair sent turn came old t.step new after call k good late s awaits told t.takes
 
-    link-takes : (asked : Bool) (m : Link) (sent turn : Turn) (came : Result Reply Fault) (old : Shelf) (next : Next) (new : Pair) (after : Shelf) (call : Call)
+    link-takes : (asked : Bool) (m : Link) (sent turn : Turn) (came : Result Reply Fault) (old : Shelf) (next : Step) (new : Pair) (after : Shelf) (call : Call)
         → Kept most h old → Kept most h after → IsLate h x turn.now → AreLed m.pair → PairOr asked m.pair.first.asked (link_call m.name) m.pair call → AreTold came call sent.now
         → TakesLink asked m sent turn came old next new after → AreLed new
     link-takes true m sent turn came old next new after call k good late s awaits told t = pair-as m.pair new t.0 s
@@ -292,24 +292,24 @@ module _ (most : ℕ) (top : List ℕ) (h : List Entry) (x : ℕ) where
     remove-as : (to new : RemoveFile) → new ≡ to → IsLed to.walk → IsLed new.walk
     remove-as to new is s = subst (λ (z : RemoveFile). IsLed z.walk) (sym is) s
 
-    remove-follows : (step : WalkNext) (room : Bool) (m : RemoveFile) (opens : Opens) (next : Next) (new : RemoveFile) → removals.Follows step room m opens next new → IsLed m.walk → IsLed new.walk
+    remove-follows : (step : WalkStep) (room : Bool) (m : RemoveFile) (opens : Opens) (next : Step) (new : RemoveFile) → removals.Follows step room m opens next new → IsLed m.walk → IsLed new.walk
     remove-follows (walks.Send call) room m opens next new f s = remove-as m new f.1 s
     remove-follows walks.Wait room m opens next new f s = remove-as m new f.1 s
     remove-follows (walks.At object) room m opens next new f s = remove-as (removals.asked_after m (removals.first_deed f.any) room) new f.machine_is s
     remove-follows (walks.Refused fault) room m opens next new f s = remove-as m new f.1 s
 
-    remove-goes : (deed : Option Deed) (m : RemoveFile) (turn : Turn) (old : Shelf) (next : Next) (new : RemoveFile) (after : Shelf) → Kept most h old → IsLate h x turn.now
+    remove-goes : (deed : Option Deed) (m : RemoveFile) (turn : Turn) (old : Shelf) (next : Step) (new : RemoveFile) (after : Shelf) → Kept most h old → IsLate h x turn.now
         → removals.Goes deed m turn old next new after → IsLed m.walk → IsLed new.walk
     remove-goes (Some deed) m turn old next new after k late g s = remove-as (removals.asked_after m deed turn.room) new g.machine_is s
     remove-goes None m turn old next new after k late g s =
         remove-follows (walking.go_next m.walk turn old) turn.room (record m { walk = walking.go_after m.walk turn old }) old.opens next new g.follows (go-led-on m.walk turn old k late s)
 
-    remove-resumes : (asked : Bool) (m : RemoveFile) (turn : Turn) (old : Shelf) (next : Next) (new : RemoveFile) (after : Shelf) → Kept most h old → IsLate h x turn.now
+    remove-resumes : (asked : Bool) (m : RemoveFile) (turn : Turn) (old : Shelf) (next : Step) (new : RemoveFile) (after : Shelf) → Kept most h old → IsLate h x turn.now
         → removals.Resumes asked m turn old next new after → IsLed m.walk → IsLed new.walk
     remove-resumes true m turn old next new after k late r s = remove-as m new r.machine_is s
     remove-resumes false m turn old next new after k late r s = remove-goes m.deed m turn old next new after k late r s
 
-    look-on : (again : Bool) (told : Result (List ℕ) Fault) (m : RemoveFile) (room : Bool) (old : Shelf) (next : Next) (new : RemoveFile) (after : Shelf)
+    look-on : (again : Bool) (told : Result (List ℕ) Fault) (m : RemoveFile) (room : Bool) (old : Shelf) (next : Step) (new : RemoveFile) (after : Shelf)
         → removals.FollowsLook again told m room old next new after → IsLed m.walk → IsLed new.walk
     look-on true told m room old next new after f s = remove-as m new f.machine_is s
     look-on false (Ok file) m room old next new after f s = remove-as _ new f.plans.machine_is s
@@ -319,26 +319,26 @@ module _ (most : ℕ) (top : List ℕ) (h : List Entry) (x : ℕ) where
     missed-on true file to m room s = s
     missed-on false file to m room s = s
 
-    seek-on : (again : Bool) (told : Result (List ℕ) Fault) (file to : List ℕ) (m : RemoveFile) (room : Bool) (old : Shelf) (next : Next) (new : RemoveFile) (after : Shelf)
+    seek-on : (again : Bool) (told : Result (List ℕ) Fault) (file to : List ℕ) (m : RemoveFile) (room : Bool) (old : Shelf) (next : Step) (new : RemoveFile) (after : Shelf)
         → removals.FollowsSeek again told file to m room old next new after → IsLed m.walk → IsLed new.walk
     seek-on true told file to m room old next new after f s = remove-as m new f.machine_is s
     seek-on false (Ok found) file to m room old next new after f s = remove-as _ new f.machine_is s
     seek-on false (Err fault) file to m room old next new after f s =
         remove-as (removals.missed_after (removals.is_missing fault) file to m room) new f.machine_is (missed-on (removals.is_missing fault) file to m room s)
 
-    deed-takes : (deed : Deed) (m : RemoveFile) (sent turn : Turn) (came : Result Reply Fault) (old : Shelf) (next : Next) (new : RemoveFile) (after : Shelf)
+    deed-takes : (deed : Deed) (m : RemoveFile) (sent turn : Turn) (came : Result Reply Fault) (old : Shelf) (next : Step) (new : RemoveFile) (after : Shelf)
         → removals.TakesDeed deed m sent turn came old next new after → IsLed m.walk → IsLed new.walk
     deed-takes Look m sent turn came old next new after t s = look-on (look_again sent turn came old) (found_by came) m turn.room t.heard next new after t.follows s
     deed-takes (Seek file to) m sent turn came old next new after t s = seek-on (look_again sent turn came old) (found_by came) file to m turn.room t.heard next new after t.follows s
     deed-takes (Move file to) m sent turn came old next new after t s = remove-as m new t.0 s
     deed-takes Remove m sent turn came old next new after t s = remove-as m new t.0 s
 
-    asked-takes : (asked : Bool) (deed : Deed) (m : RemoveFile) (sent turn : Turn) (came : Result Reply Fault) (old : Shelf) (next : Next) (new : RemoveFile) (after : Shelf)
+    asked-takes : (asked : Bool) (deed : Deed) (m : RemoveFile) (sent turn : Turn) (came : Result Reply Fault) (old : Shelf) (next : Step) (new : RemoveFile) (after : Shelf)
         → removals.TakesIf asked deed m sent turn came old next new after → IsLed m.walk → IsLed new.walk
     asked-takes true deed m sent turn came old next new after t s = deed-takes deed m sent turn came old next new after t s
     asked-takes false deed m sent turn came old next new after t s = remove-as m new t.machine_is s
 
-    remove-takes : (deed : Option Deed) (m : RemoveFile) (sent turn : Turn) (came : Result Reply Fault) (old : Shelf) (next : Next) (new : RemoveFile) (after : Shelf) (call : Call)
+    remove-takes : (deed : Option Deed) (m : RemoveFile) (sent turn : Turn) (came : Result Reply Fault) (old : Shelf) (next : Step) (new : RemoveFile) (after : Shelf) (call : Call)
         → Kept most h old → Kept most h after → IsLate h x turn.now → IsLed m.walk → RemoveAwaits deed m call → AreTold came call sent.now
         → removals.Takes deed m sent turn came old next new after → IsLed new.walk
     remove-takes (Some deed) m sent turn came old next new after call k good late s awaits told t = asked-takes m.asked deed m sent turn came old next new after t s
@@ -350,7 +350,7 @@ module _ (most : ℕ) (top : List ℕ) (h : List Entry) (x : ℕ) where
     name-as : (to new : NameMachine) → new ≡ to → EachNamed IsLed to → EachNamed IsLed new
     name-as to new is e = subst (EachNamed IsLed) (sym is) e
 
-    name-goes : (m : NameMachine) (turn : Turn) (old : Shelf) (next : Next) (new : NameMachine) (after : Shelf) → Kept most h old → IsLate h x turn.now → EachNamed IsLed m
+    name-goes : (m : NameMachine) (turn : Turn) (old : Shelf) (next : Step) (new : NameMachine) (after : Shelf) → Kept most h old → IsLate h x turn.now → EachNamed IsLed m
         → steps.NameGoes m turn old next new after → EachNamed IsLed new
     name-goes (names.Change m) turn old next new after k late e g = name-as _ new g.machine_is (visit-goes m.visit turn old k late e)
     name-goes (names.Stat m) turn old next new after k late e g = name-as _ new g.machine_is (stat-goes m turn old k late e)
@@ -362,7 +362,7 @@ module _ (most : ℕ) (top : List ℕ) (h : List Entry) (x : ℕ) where
     name-goes (names.SymLink m) turn old next new after k late e g = name-as _ new g.machine_is (visit-goes m.visit turn old k late e)
     name-goes (names.List m) turn old next new after k late e g = name-as _ new g.machine_is (visit-goes m.visit turn old k late e)
 
-    name-takes : (m : NameMachine) (sent turn : Turn) (came : Result Reply Fault) (old : Shelf) (next : Next) (new : NameMachine) (after : Shelf) (call : Call) → Kept most h old
+    name-takes : (m : NameMachine) (sent turn : Turn) (came : Result Reply Fault) (old : Shelf) (next : Step) (new : NameMachine) (after : Shelf) (call : Call) → Kept most h old
         → Kept most h after → IsLate h x turn.now → EachNamed IsLed m → NameAwaits m call → AreTold came call sent.now → steps.NameTakes m sent turn came old next new after
         → EachNamed IsLed new
     name-takes (names.Change m) sent turn came old next new after call k good late e awaits told t =
@@ -389,27 +389,27 @@ module _ (most : ℕ) (top : List ℕ) (h : List Entry) (x : ℕ) where
     path-as : (to new : PathMachine) → new ≡ to → IsLed to.walk → IsLed new.walk
     path-as to new is s = subst (λ (z : PathMachine). IsLed z.walk) (sym is) s
 
-    path-follows : (step : WalkNext) (wsize : ℕ) (m : PathMachine) (turn : Turn) (old : Shelf) (next : Next) (new : PathMachine) (after : Shelf)
+    path-follows : (step : WalkStep) (wsize : ℕ) (m : PathMachine) (turn : Turn) (old : Shelf) (next : Step) (new : PathMachine) (after : Shelf)
         → paths.Follows step wsize m turn old next new after → IsLed m.walk → IsLed new.walk
     path-follows (walks.Send call) wsize m turn old next new after f s = path-as m new f.1 s
     path-follows walks.Wait wsize m turn old next new after f s = path-as m new f.1 s
     path-follows (walks.At dir) wsize m turn old next new after f s = path-as _ new f.machine_is s
     path-follows (walks.Refused fault) wsize m turn old next new after f s = path-as m new f.1 s
 
-    path-resumes : (b : Bool) (wsize : ℕ) (m : PathMachine) (turn : Turn) (old : Shelf) (next : Next) (new : PathMachine) (after : Shelf) → Kept most h old → IsLate h x turn.now
+    path-resumes : (b : Bool) (wsize : ℕ) (m : PathMachine) (turn : Turn) (old : Shelf) (next : Step) (new : PathMachine) (after : Shelf) → Kept most h old → IsLate h x turn.now
         → paths.PathResumes b wsize m turn old next new after → IsLed m.walk → IsLed new.walk
     path-resumes true wsize m turn old next new after k late r s = path-as _ new r.machine_is s
     path-resumes false wsize m turn old next new after k late r s =
         path-follows (walking.go_next m.walk turn old) wsize (record m { walk = walking.go_after m.walk turn old }) turn (walking.go_shelf m.walk turn old) next new after r
         (go-led-on m.walk turn old k late s)
 
-    path-starts : (taken : Bool) (wsize : ℕ) (m : PathMachine) (turn : Turn) (old : Shelf) (next : Next) (new : PathMachine) (after : Shelf) → Kept most h old → IsLate h x turn.now
+    path-starts : (taken : Bool) (wsize : ℕ) (m : PathMachine) (turn : Turn) (old : Shelf) (next : Step) (new : PathMachine) (after : Shelf) → Kept most h old → IsLate h x turn.now
         → paths.StartsIf taken wsize m turn old next new after → IsLed m.walk → IsLed new.walk
     path-starts true wsize m turn old next new after k late f s = path-as m new f.1 s
     path-starts false wsize m turn old next new after k late f s =
         path-resumes m.arrived wsize (record m { opener = begun_at (turn.moment - 1) m.opener }) turn old next new after k late f s
 
-    follows-attrs : (step : WalkNext) (wsize : ℕ) (m : PathMachine) (turn : Turn) (old : Shelf) (next : Next) (new : PathMachine) (after : Shelf)
+    follows-attrs : (step : WalkStep) (wsize : ℕ) (m : PathMachine) (turn : Turn) (old : Shelf) (next : Step) (new : PathMachine) (after : Shelf)
         → paths.Follows step wsize m turn old next new after → after.attrs ≡ old.attrs
     follows-attrs (walks.Send call) wsize m turn old next new after f = ap (λ (s : Shelf). s.attrs) f.2
     follows-attrs walks.Wait wsize m turn old next new after f = ap (λ (s : Shelf). s.attrs) f.2
@@ -418,7 +418,7 @@ module _ (most : ℕ) (top : List ℕ) (h : List Entry) (x : ℕ) where
         (record { machine = file_of f.opener; machine_is = refl; step = f.step })
     follows-attrs (walks.Refused fault) wsize m turn old next new after f = ap (λ (s : Shelf). s.attrs) f.2
 
-    path-takes : (b : Bool) (wsize : ℕ) (m : PathMachine) (sent turn : Turn) (came : Result Reply Fault) (old : Shelf) (next : Next) (new : PathMachine) (after : Shelf) (call : Call)
+    path-takes : (b : Bool) (wsize : ℕ) (m : PathMachine) (sent turn : Turn) (came : Result Reply Fault) (old : Shelf) (next : Step) (new : PathMachine) (after : Shelf) (call : Call)
         → Kept most h old → Kept most h after → IsLate h x turn.now → IsLed m.walk → PathOr b m call → AreTold came call sent.now
         → paths.PathTakes b wsize m sent turn came old next new after → IsLed new.walk
     path-takes true wsize m sent turn came old next new after call k good late s awaits told t = path-as _ new t.machine_is s
@@ -432,21 +432,21 @@ module _ (most : ℕ) (top : List ℕ) (h : List Entry) (x : ℕ) where
     all-as : (to new : Machine) → new ≡ to → EachWalk IsLed to → EachWalk IsLed new
     all-as to new is e = subst (EachWalk IsLed) (sym is) e
 
-    all-starts : (m : Machine) (wsize : ℕ) (turn : Turn) (old : Shelf) (next : Next) (new : Machine) (after : Shelf) → Kept most h old → IsLate h x turn.now → EachWalk IsLed m
+    all-starts : (m : Machine) (wsize : ℕ) (turn : Turn) (old : Shelf) (next : Step) (new : Machine) (after : Shelf) → Kept most h old → IsLate h x turn.now → EachWalk IsLed m
         → Starts wsize m turn old next new after → EachWalk IsLed new
     all-starts (machines.File m) wsize turn old next new after k late e s = all-as (machines.File s.machine) new s.machine_is tt
     all-starts (machines.Path m) wsize turn old next new after k late e s =
         all-as (machines.Path s.machine) new s.machine_is (path-starts (slot_taken m.opener old.opens) wsize m turn old next s.machine after k late s.step e)
     all-starts (machines.Name m) wsize turn old next new after k late e s = all-as (machines.Name s.machine) new s.machine_is (name-goes m turn old next s.machine after k late e s.step)
 
-    all-resumes : (m : Machine) (wsize : ℕ) (turn : Turn) (old : Shelf) (next : Next) (new : Machine) (after : Shelf) → Kept most h old → IsLate h x turn.now → EachWalk IsLed m
+    all-resumes : (m : Machine) (wsize : ℕ) (turn : Turn) (old : Shelf) (next : Step) (new : Machine) (after : Shelf) → Kept most h old → IsLate h x turn.now → EachWalk IsLed m
         → Resumes wsize m turn old next new after → EachWalk IsLed new
     all-resumes (machines.File m) wsize turn old next new after k late e s = all-as (machines.File s.machine) new s.machine_is tt
     all-resumes (machines.Path m) wsize turn old next new after k late e s =
         all-as (machines.Path s.machine) new s.machine_is (path-resumes m.arrived wsize m turn old next s.machine after k late s.step e)
     all-resumes (machines.Name m) wsize turn old next new after k late e s = all-as (machines.Name s.machine) new s.machine_is (name-goes m turn old next s.machine after k late e s.step)
 
-    all-takes : (m : Machine) (wsize : ℕ) (sent turn : Turn) (came : Result Reply Fault) (old : Shelf) (next : Next) (new : Machine) (after : Shelf) (call : Call) → Kept most h old
+    all-takes : (m : Machine) (wsize : ℕ) (sent turn : Turn) (came : Result Reply Fault) (old : Shelf) (next : Step) (new : Machine) (after : Shelf) (call : Call) → Kept most h old
         → Kept most h after → IsLate h x turn.now → EachWalk IsLed m → Awaits m call → AreTold came call sent.now → Takes wsize m sent turn came old next new after → EachWalk IsLed new
     all-takes (machines.File m) wsize sent turn came old next new after call k good late e awaits told s = all-as (machines.File s.machine) new s.machine_is tt
     all-takes (machines.Path m) wsize sent turn came old next new after call k good late e awaits told s =
@@ -464,7 +464,7 @@ module _ (most : ℕ) (top : List ℕ) where
   abbrev Story : List Entry → ℕ → Op → State → Type 0
   Story h x op state = AllLed h x state
 
-  then-led : (h : List Entry) (x : ℕ) (op : Op) (next : Next) (new : Machine) → x < length h → EachWalk (IsLed most top h x) new
+  then-led : (h : List Entry) (x : ℕ) (op : Op) (next : Step) (new : Machine) → x < length h → EachWalk (IsLed most top h x) new
       → ThenOf (λ k. Story h x op (Busy k)) (λ a. Story h x op (Over a)) next new
   then-led h x op (nexts.Send call) new within e = (within, e)
   then-led h x op nexts.Wait new within e = (within, e)

@@ -1,10 +1,10 @@
 -- What a save makes of the machine as it goes on: nothing, or bytes take off for the WRITE that it asks for.
-use Rattle.core_counts.proofs.Prelude.{◌≡◌, inl, inr, ◌⊎◌, ◌+◌, length, ℕ, Bool, true, false, [], ◌∷◌, Option, Some, None, refl, sym, subst, Held, Fault, Call, chosen, piece_of, Pending, of_file, OnFile, PutsInFlight, Segment, Segments, Next, Saving, IsUnused, Purpose, Setup, After, EachSound, Shows, Stops, Moves, ShownCalls}
+use Rattle.core_counts.proofs.Prelude.{◌≡◌, inl, inr, ◌⊎◌, ◌+◌, length, ℕ, Bool, true, false, [], ◌∷◌, Option, Some, None, refl, sym, subst, Held, Fault, Call, chosen, piece_of, Pending, of_file, OnFile, PutsInFlight, Segment, Segments, Step, Saving, IsUnused, Purpose, Setup, After, EachSound, Shows, Stops, Moves, ShownCalls}
 use Rattle.write_back.specs.Choice.{with_sent}
 use Rattle.write_back.specs.Files.{PutsPiece}
 use Rattle.step_pending.specs.Cells.{Leads}
 use Rattle.write_back.specs.Pieces.{Sent}
-use Rattle.client_shelf.specs.declared.next.Next.TheVariants as nexts
+use Rattle.client_shelf.specs.declared.step.Step.TheVariants as nexts
 use Rattle.file_ops.specs.Saves as saves
 use Rattle.file_ops.specs.Syncs as syncs
 use Rattle.model_writes.specs.Machine.{View}
@@ -57,7 +57,7 @@ module _ (setup : Setup) (held : Held Purpose) (H : View → Type 0) (y : ℕ) w
     plain-asked call back free l = record { b = l.b; from = l.from; c = l.c; moves = l.moves; calls = l.calls; way = plain free l.shows }
 
     -- where nothing is changed
-    pub led-after : (next : Next) (back : Pending) → IsUnused y back → Led back → After Led Asked next back
+    pub led-after : (next : Step) (back : Pending) → IsUnused y back → Led back → After Led Asked next back
     led-after (nexts.Send call) back free l = plain-asked call back free l
     led-after nexts.Wait back free l = l
     led-after (nexts.Done answer) back free l = l

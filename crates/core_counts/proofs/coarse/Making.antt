@@ -1,5 +1,5 @@
 -- What a step leads to: the call is made for which the operation asks, or reaches it as a refusal; or it waits, or has its answer.
-use Rattle.core_counts.proofs.Prelude.{◌≡◌, ◌≤◌, ◌≢◌, ◌⊎◌, inl, inr, ◌+◌, ℕ, Bool, true, false, length, List, [], ◌∷◌, ◌++◌, Option, Some, None, option_map, Err, refl, sym, ap, subst, ◌∙◌, arith, cases_lt, eqb-true, Waiting, Held, next_xid, made_call, waiting_at, waits_early, at_made, others_made, Entry, Call, SpellsCallBy, proc_of, Pending, of_file, OnFile, at_xid, landed, FilePending, piece_under, Next, Shelf, Turn, Saving, IsReady, IsUnused, Mounted, Machine, machine_of, Purpose, Setup, record_of, with_state, Makes, Refuses, IsRefused, Leads, View, turn_at, unmade_turn, Flies, flies_of, sender, look_at, nfs-of, Rows, made-known, made-asked, written_file, one-call, Asks, commits_of, After, Free, SameUnder, NearAs, unmade-has, Has, call_of, EachSound, Shows, Stops, MakesLong, Moves, Shown, ShownCalls}
+use Rattle.core_counts.proofs.Prelude.{◌≡◌, ◌≤◌, ◌≢◌, ◌⊎◌, inl, inr, ◌+◌, ℕ, Bool, true, false, length, List, [], ◌∷◌, ◌++◌, Option, Some, None, option_map, Err, refl, sym, ap, subst, ◌∙◌, arith, cases_lt, eqb-true, Waiting, Held, next_xid, made_call, waiting_at, waits_early, at_made, others_made, Entry, Call, SpellsCallBy, proc_of, Pending, of_file, OnFile, at_xid, landed, FilePending, piece_under, Step, Shelf, Turn, Saving, IsReady, IsUnused, Mounted, Machine, machine_of, Purpose, Setup, record_of, with_state, Makes, Refuses, IsRefused, Leads, View, turn_at, unmade_turn, Flies, flies_of, sender, look_at, nfs-of, Rows, made-known, made-asked, written_file, one-call, Asks, commits_of, After, Free, SameUnder, NearAs, unmade-has, Has, call_of, EachSound, Shows, Stops, MakesLong, Moves, Shown, ShownCalls}
 use Rattle.write_back.specs.Pieces.{Sent}
 use Rattle.client_core.specs.Steps.{put_view}
 use Rattle.core_facts.proofs.Flown.{Flown}
@@ -12,7 +12,7 @@ use Rattle.std.specs.Prelude.{nat_eq}
 use Rattle.nfs_file_calls.specs.declared.call.FileCall.TheVariants as files
 use Rattle.world_model.specs.declared.message.Call.TheVariants as calls
 use Rattle.write_back.specs.declared.change.Change.TheVariants as by_change
-use Rattle.client_shelf.specs.declared.next.Next.TheVariants as nexts
+use Rattle.client_shelf.specs.declared.step.Step.TheVariants as nexts
 use Rattle.file_ops.specs.Saves as saves
 use Rattle.file_ops.specs.Syncs as syncs
 use Rattle.model_writes.specs.Machine as coarse
@@ -222,7 +222,7 @@ module _ (setup : Setup) (h : List Entry) (v : View) (r : Rows setup h v) (H : c
           size = refl;
         })
 
-        by : (next : Next) → IsRefused u.after next u.state
+        by : (next : Step) → IsRefused u.after next u.state
             → After (Since setup v.calls H v.wsize (unmade_turn v) J W st) (WithCall setup v.calls H v.wsize (unmade_turn v) J W st) next u.left.back → Final setup H A v new
         by (nexts.Send again) leads a = absurd leads
         by nexts.Wait leads a = ending a.0
@@ -288,7 +288,7 @@ module _ (setup : Setup) (h : List Entry) (v : View) (r : Rows setup h v) (H : c
   -- ---- what a step leads to
 
   -- where nothing else may be so
-  module _ (at number : ℕ) (machine_ : Machine) (next : Next) (new : View) (asks : Asks next machine_) (ready : IsReady (next_xid v.calls + 1) v.shelf.seq v.shelf.back) (flown : Flown new)
+  module _ (at number : ℕ) (machine_ : Machine) (next : Step) (new : View) (asks : Asks next machine_) (ready : IsReady (next_xid v.calls + 1) v.shelf.seq v.shelf.back) (flown : Flown new)
       (has : After (Free (next_xid v.calls)) (Has (next_xid v.calls)) next v.shelf.back) (leads : Leads v at number machine_ next new)
       (mt : Mounted) (later : List Entry) (ahead : Ahead (machine_of mt) setup later new) where
     -- under its xid nothing is in flight, where the call isn't made
@@ -317,7 +317,7 @@ module _ (setup : Setup) (h : List Entry) (v : View) (r : Rows setup h v) (H : c
           size = size;
         }
 
-        by : (n : Next) → next ≡ n → Asks n machine_ → After (Free (next_xid v.calls)) (Has (next_xid v.calls)) n v.shelf.back → Leads v at number machine_ n new
+        by : (n : Step) → next ≡ n → Asks n machine_ → After (Free (next_xid v.calls)) (Has (next_xid v.calls)) n v.shelf.back → Leads v at number machine_ n new
             → After (Since setup v.calls H v.wsize turn J W st) (WithCall setup v.calls H v.wsize turn J W st) n v.shelf.back → Final setup H A v new
         by nexts.Wait is asks_ has_ leads_ b = subst (Final setup H A v) (sym leads_) (stays b.0 v refl refl refl)
         by (nexts.Done answer) is asks_ has_ leads_ b = subst (Final setup H A v) (sym leads_) (stays b.0 _ refl refl refl)

@@ -1,6 +1,6 @@
 -- How a session goes on from a view between the steps, to where a history goes with it.
-use Rattle.core_counts.proofs.Prelude.{◌≡◌, ◌≤◌, ◌<◌, ℕ, Bool, true, false, cond, inl, inr, nat_eq, List, [], ◌∷◌, ◌++◌, Some, None, Err, refl, sym, subst, ◌∙◌, arith, Waiting, next_xid, waiting_at, Entry, Call, Op, Next, Machine, Purpose, Busy, Setup, with_state, Makes, Leads, Stirs, View, turn_at, unmade_turn, Reaches, SameUnder}
-use Rattle.client_shelf.specs.declared.next.Next.TheVariants as nexts
+use Rattle.core_counts.proofs.Prelude.{◌≡◌, ◌≤◌, ◌<◌, ℕ, Bool, true, false, cond, inl, inr, nat_eq, List, [], ◌∷◌, ◌++◌, Some, None, Err, refl, sym, subst, ◌∙◌, arith, Waiting, next_xid, waiting_at, Entry, Call, Op, Step, Machine, Purpose, Busy, Setup, with_state, Makes, Leads, Stirs, View, turn_at, unmade_turn, Reaches, SameUnder}
+use Rattle.client_shelf.specs.declared.step.Step.TheVariants as nexts
 use Rattle.core_answers.proofs.writes.PiecesCarried.{resumes-under, takes-under}
 
 -- All calls that wait go on waiting, and what is in flight under their xids stays there.
@@ -42,7 +42,7 @@ made-on v number call new m = subst (Onward v) (sym m.is) (record {
   under = λ x low high f. refl;
 })
 
-pub leads-on : (v new : View) (at number : ℕ) (machine : Machine) (next : Next) → Leads v at number machine next new → Onward v new
+pub leads-on : (v new : View) (at number : ℕ) (machine : Machine) (next : Step) → Leads v at number machine next new → Onward v new
 leads-on v new at number machine (nexts.Send call) (inl m) = made-on v number call new m
 leads-on v new at number machine (nexts.Send call) (inr u) = subst (Onward v) (sym u.is) (record {
   next = omega arith;

@@ -1,5 +1,5 @@
 -- An operation takes what came of its call, and the machine hears what the record says.
-use Rattle.core_counts.proofs.Prelude.{◌⊎◌, ◌≡◌, ◌≢◌, inl, inr, ◌≤◌, ◌<◌, ◌+◌, ◌-◌, ℕ, false, List, Option, Some, None, position, Result, refl, sym, ap, subst, ◌∙◌, arith, Waiting, next_xid, made_call, waiting_at, waits_early, others_made, gone, Entry, Fault, Call, Reply, Op, SpellsCallBy, proc_of, said_of, Pending, of_file, OnFile, at_xid, landed, FilePending, fly_at, piece_under, Next, Shelf, Turn, Saving, IsReady, IsUnused, Mounted, Machine, machine_of, Fits, Purpose, Busy, Setup, is_busy, with_state, record_of, Makes, Refuses, TakesAt, View, turn_at, in_flight, Reaches, begins-unbegun, taken_one, flies_of, Known, taker-is, taker-one, Rows, same-rows, taken-rows, reached-good, written_file, Expects, expects-laws, Saves, one-call, nfs-of, CallFits, Asks, commits_of, fits-laws, After, tales, Free, unused-next, waits-late, SameUnder, Basis, basis-ready, sent-piece, Has, Wholly, takes-has, call_of, EachSound, Moves, Hears, MakesLong, Shown, ShownCall}
+use Rattle.core_counts.proofs.Prelude.{◌⊎◌, ◌≡◌, ◌≢◌, inl, inr, ◌≤◌, ◌<◌, ◌+◌, ◌-◌, ℕ, false, List, Option, Some, None, position, Result, refl, sym, ap, subst, ◌∙◌, arith, Waiting, next_xid, made_call, waiting_at, waits_early, others_made, gone, Entry, Fault, Call, Reply, Op, SpellsCallBy, proc_of, said_of, Pending, of_file, OnFile, at_xid, landed, FilePending, fly_at, piece_under, Step, Shelf, Turn, Saving, IsReady, IsUnused, Mounted, Machine, machine_of, Fits, Purpose, Busy, Setup, is_busy, with_state, record_of, Makes, Refuses, TakesAt, View, turn_at, in_flight, Reaches, begins-unbegun, taken_one, flies_of, Known, taker-is, taker-one, Rows, same-rows, taken-rows, reached-good, written_file, Expects, expects-laws, Saves, one-call, nfs-of, CallFits, Asks, commits_of, fits-laws, After, tales, Free, unused-next, waits-late, SameUnder, Basis, basis-ready, sent-piece, Has, Wholly, takes-has, call_of, EachSound, Moves, Hears, MakesLong, Shown, ShownCall}
 use Rattle.write_back.specs.Pieces.{Sent}
 use Rattle.core_facts.proofs.Tales.{TaleLaws}
 use Rattle.core_answers.proofs.asks.CallsAwaited.{Names}
@@ -10,7 +10,7 @@ use Rattle.core_counts.specs.coarse.Runs.{heard_as}
 use Rattle.core_facts.proofs.Telling.{Did}
 use Rattle.std.proofs.lemmas.Bool.{ne_eqb}
 use Rattle.write_back.specs.declared.change.Change.TheVariants as by_change
-use Rattle.client_shelf.specs.declared.next.Next.TheVariants as nexts
+use Rattle.client_shelf.specs.declared.step.Step.TheVariants as nexts
 use Rattle.file_ops.specs.Saves as saves
 use Rattle.op_machines.proofs.AllLaws as laws
 use Rattle.client_core.specs.Steps.{Leads as LeadsTo}
@@ -37,7 +37,7 @@ use Rattle.core_counts.proofs.coarse.Views.{called, ended, renewed-renews}
 
 -- ---- what the operation of a call expects
 
-any-did : (h : List Entry) (x : ℕ) (op : Op) (next : Next) (new : Machine) (after_ : Shelf)
+any-did : (h : List Entry) (x : ℕ) (op : Op) (next : Step) (new : Machine) (after_ : Shelf)
     → Did (λ g y o c. Unit {0}) (λ g s. Unit {0}) (λ g y o s. Unit {0}) h x op next new after_
 any-did h x op (nexts.Send call) new after_ = record { shelf = tt; asks = tt; then_ = tt }
 any-did h x op nexts.Wait new after_ = record { shelf = tt; asks = tt; then_ = tt }
@@ -223,7 +223,7 @@ module _ (m : Mounted) (setup : Setup) (h : List Entry) (old : View) (r : Reache
         let first = k.rows.sound.calls.first in
         omega (arith, low, first)
 
-    landed-so : (next : Next) → LeadsTo v at t.number t.after next new → IsUnused x v.shelf.back
+    landed-so : (next : Step) → LeadsTo v at t.number t.after next new → IsUnused x v.shelf.back
     landed-so (nexts.Send c) (inl mk) =
         let none : waiting_at x new.calls.calls ≡ None =
         ap (λ (w : View). waiting_at x w.calls.calls) mk.is
@@ -310,11 +310,11 @@ module _ (m : Mounted) (setup : Setup) (h : List Entry) (old : View) (r : Reache
       renewed-unmade : t.next ≡ nexts.Send c_ → Refuses v at t.number t.after new → Ends
       renewed-unmade is u =
           file-final setup h v rows Hear Renewing at t.number t.after new u sound ready-after f (as_xid (next_xid old.calls) piece) under
-          (λ g flies_. sym (some-file f g (ap written_file (sym w.writes) ∙ (subst (λ (n : Next). Asks n t.after) is asks).sends g flies_))) renewed-back
+          (λ g flies_. sym (some-file f g (ap written_file (sym w.writes) ∙ (subst (λ (n : Step). Asks n t.after) is asks).sends g flies_))) renewed-back
           (left-idle setup h v rows Hear Renewing at t.number t.after t.next new asks ready-after flown has t.leads m later ahead u)
 
-      renewed-ends : (next : Next) → t.next ≡ next → next ≡ nexts.Send c_ → LeadsTo v at t.number t.after next new → Ends
-      renewed-ends (nexts.Send d) is same leads = by (subst (λ (n : Next). LeadsTo v at t.number t.after n new) same leads)
+      renewed-ends : (next : Step) → t.next ≡ next → next ≡ nexts.Send c_ → LeadsTo v at t.number t.after next new → Ends
+      renewed-ends (nexts.Send d) is same leads = by (subst (λ (n : Step). LeadsTo v at t.number t.after n new) same leads)
         where
           by : LeadsTo v at t.number t.after (nexts.Send c_) new → Ends
           by (inl mk) = renewed-made mk

@@ -1,11 +1,11 @@
 -- What a save makes of the machine as it takes what came of its call.
-use Rattle.core_counts.proofs.Prelude.{◌≡◌, ◌⊎◌, inl, inr, ◌&&◌, ◌||◌, ◌==◌, ℕ, Bool, true, false, List, Option, Some, None, Result, Ok, Err, refl, sym, ap, subst, nat_lt, Verdict, AllStable, SendAgain, decided, verdict_of, Verf, Wcc, Held, Fault, Call, Reply, lost, Pending, of_file, OnFile, acked_by, at_xid, landed, landed_part, with_xid, Next, Repeat, Turn, goes_again, Sending, Committing, Resending, CommittingAgain, Saving, write_told, commit_told, IsUnused, Purpose, Setup, After, EachSound}
+use Rattle.core_counts.proofs.Prelude.{◌≡◌, ◌⊎◌, inl, inr, ◌&&◌, ◌||◌, ◌==◌, ℕ, Bool, true, false, List, Option, Some, None, Result, Ok, Err, refl, sym, ap, subst, nat_lt, Verdict, AllStable, SendAgain, decided, verdict_of, Verf, Wcc, Held, Fault, Call, Reply, lost, Pending, of_file, OnFile, acked_by, at_xid, landed, landed_part, with_xid, Step, Repeat, Turn, goes_again, Sending, Committing, Resending, CommittingAgain, Saving, write_told, commit_told, IsUnused, Purpose, Setup, After, EachSound}
 use Rattle.nfs_types.specs.declared.status.Status.{Status}
 use Rattle.nfs_file_calls.specs.declared.owned.FileKept.TheVariants as kept_replies
 use Rattle.world_model.specs.declared.answer.Fault.TheVariants as faults
 use Rattle.world_model.specs.declared.message.Reply.TheVariants as replies
 use Rattle.write_back.specs.declared.change.Change.TheVariants as by_change
-use Rattle.client_shelf.specs.declared.next.Next.TheVariants as nexts
+use Rattle.client_shelf.specs.declared.step.Step.TheVariants as nexts
 use Rattle.file_ops.specs.declared.saving.Phase.{Phase}
 use Rattle.file_ops.specs.Saves as saves
 use Rattle.file_ops.specs.Syncs as syncs
@@ -49,17 +49,17 @@ module _ (setup : Setup) (held : Held Purpose) (H : View → Type 0) (wsize : �
     pub decides : (s : Saving) (back between : Pending) (wcc : Wcc) (verf : Verf) → N s back → saves.is_sending s.phase ≡ false
         → came ≡ Ok (replies.File (kept_replies.Commit wcc verf)) → OnFile back between s.file (decided s.upto verf (of_file s.file back)) → L between
 
-  pub led-had : (next : Next) (back : Pending) → After L (Asked setup held H turn.xid wsize) next back → After Had Asks next back
+  pub led-had : (next : Step) (back : Pending) → After L (Asked setup held H turn.xid wsize) next back → After Had Asks next back
   led-had (nexts.Send call) back a = inr a
   led-had nexts.Wait back a = inr a
   led-had (nexts.Done answer) back a = inr a
 
-  pub junk-had : ((call : Call) (back : Pending) → J back → W call back) → (next : Next) (back : Pending) → J back → After Had Asks next back
+  pub junk-had : ((call : Call) (back : Pending) → J back → W call back) → (next : Step) (back : Pending) → J back → After Had Asks next back
   junk-had junk (nexts.Send call) back j = inl (junk call back j)
   junk-had junk nexts.Wait back j = inl j
   junk-had junk (nexts.Done answer) back j = inl j
 
-  pub had-after : ((call : Call) (back : Pending) → J back → W call back) → (next : Next) (back : Pending) → IsUnused turn.xid back → Had back → After Had Asks next back
+  pub had-after : ((call : Call) (back : Pending) → J back → W call back) → (next : Step) (back : Pending) → IsUnused turn.xid back → Had back → After Had Asks next back
   had-after junk next back free (inl j) = junk-had junk next back j
   had-after junk next back free (inr l) = led-had next back (led-after setup held H turn.xid wsize next back free l)
 

@@ -1,9 +1,9 @@
 -- Of a session of one lane: in each view marks of files are older than the calls of those that read, and pages that are followed stay.
-use Rattle.core_counts.proofs.Prelude.{◌≡◌, ◌<◌, ◌≤◌, inl, inr, ℕ, Bool, true, false, nat_eq, List, [], ◌∷◌, ◌++◌, Option, Some, slice_get, slice_set, Result, Ok, Err, refl, sym, ap, subst, ◌∙◌, arith, eqb-true, eqb-false, Stamp, Waiting, next_xid, made_call, waiting_at, at_made, others_made, Pages, after_page, Answer, Fault, Entry, Reply, Call, proc_of, Next, Machine, Lane, Purpose, State, Busy, Over, Setup, record_of, IsRefused, Refuses, Leads, with_state, View, turn_at, unmade_turn, at-set, Rows, ThenOf, set-other}
+use Rattle.core_counts.proofs.Prelude.{◌≡◌, ◌<◌, ◌≤◌, inl, inr, ℕ, Bool, true, false, nat_eq, List, [], ◌∷◌, ◌++◌, Option, Some, slice_get, slice_set, Result, Ok, Err, refl, sym, ap, subst, ◌∙◌, arith, eqb-true, eqb-false, Stamp, Waiting, next_xid, made_call, waiting_at, at_made, others_made, Pages, after_page, Answer, Fault, Entry, Reply, Call, proc_of, Step, Machine, Lane, Purpose, State, Busy, Over, Setup, record_of, IsRefused, Refuses, Leads, with_state, View, turn_at, unmade_turn, at-set, Rows, ThenOf, set-other}
 use Rattle.client_core.specs.Steps.{put_view, IsUnmade}
 use Rattle.world_model.specs.declared.answer.Fault.TheVariants as faults
 use Rattle.client_shelf.specs.Unmade.{is_unmade, came_unmade}
-use Rattle.client_shelf.specs.declared.next.Next.TheVariants as nexts
+use Rattle.client_shelf.specs.declared.step.Step.TheVariants as nexts
 use Rattle.core_counts.proofs.thrift.Distinct.{Few}
 use Rattle.core_counts.proofs.thrift.Growth.{GoodPages, good-shown, good-known}
 use Rattle.core_counts.proofs.thrift.OtherPages.{good-later}
@@ -64,7 +64,7 @@ module _ (M : List ℕ → ℕ → Type 0) (few : Few M) (Q : List ℕ → Stamp
     pub lanes : (k number : ℕ) (machine : Machine) → slice_get v.lanes k ≡ Some (record { number = number; state = Busy machine }) → Kind b v machine
 
   -- The machine of the only lane made a step, and what that leads to is still to come.
-  pub record CalmStep (v : View) (at number : ℕ) (machine : Machine) (next : Next) : Type 0 where
+  pub record CalmStep (v : View) (at number : ℕ) (machine : Machine) (next : Step) : Type 0 where
     pub b : ℕ
     pub low : b ≤ v.moments
     pub pages : T b v.shelf.pages
@@ -85,7 +85,7 @@ module _ (M : List ℕ → ℕ → Type 0) (few : Few M) (Q : List ℕ → Stamp
       notes = λ file attr counted eof given place count c is. absurd (no-reply r.fault _ is);
     }
 
-    quiet-then : Young s.b v → (n : Next) (k : Machine) → ThenQuiet s.b n k → ThenOf (Kind s.b v) (λ answer. Unit {0}) n k
+    quiet-then : Young s.b v → (n : Step) (k : Machine) → ThenQuiet s.b n k → ThenOf (Kind s.b v) (λ answer. Unit {0}) n k
     quiet-then young (nexts.Send other) k q = quiet young q
     quiet-then young nexts.Wait k q = quiet young q
     quiet-then young (nexts.Done answer) k q = tt
@@ -94,12 +94,12 @@ module _ (M : List ℕ → ℕ → Type 0) (few : Few M) (Q : List ℕ → Stamp
     kind-of young z (inl k) = putting young k
     kind-of young z (inr k) = saver k
 
-    putting-then : (b : ℕ) → Young b v → (n : Next) (k : Machine) → PutThen b n k → ThenOf (Kind b v) (λ answer. Unit {0}) n k
+    putting-then : (b : ℕ) → Young b v → (n : Step) (k : Machine) → PutThen b n k → ThenOf (Kind b v) (λ answer. Unit {0}) n k
     putting-then b young (nexts.Send other) k q = kind-of young k q
     putting-then b young nexts.Wait k q = kind-of young k q
     putting-then b young (nexts.Done answer) k q = tt
 
-    saver-then : (b : ℕ) (n : Next) (k : Machine) → AllStays n k → ThenOf (Kind b v) (λ answer. Unit {0}) n k
+    saver-then : (b : ℕ) (n : Step) (k : Machine) → AllStays n k → ThenOf (Kind b v) (λ answer. Unit {0}) n k
     saver-then b (nexts.Send other) k q = saver q
     saver-then b nexts.Wait k q = saver q
     saver-then b (nexts.Done answer) k q = tt
@@ -171,7 +171,7 @@ module _ (M : List ℕ → ℕ → Type 0) (few : Few M) (Q : List ℕ → Stamp
         l : Left
         l = unmade-left
 
-        kind : (n : Next) (state : State) → IsRefused r.after n state → ThenOf (Kind l.more v) (λ answer. Unit {0}) n r.after → (other : Machine) → state ≡ Busy other
+        kind : (n : Step) (state : State) → IsRefused r.after n state → ThenOf (Kind l.more v) (λ answer. Unit {0}) n r.after → (other : Machine) → state ≡ Busy other
             → Kind l.more (with_state v at number r.state r.left) other
         kind (nexts.Send other_call) state is own other busy = absurd is
         kind nexts.Wait state is own other busy = moved (subst (Kind l.more v) (busy-is r.after other (sym is ∙ busy)) own)
@@ -190,7 +190,7 @@ module _ (M : List ℕ → ℕ → Type 0) (few : Few M) (Q : List ℕ → Stamp
     only-one v at number machine there alone k n other here =
         same-busy number n machine other (sym there ∙ ap (slice_get v.lanes) (sym (alone k (record { number = n; state = Busy other }) here)) ∙ here)
 
-    pub leads-calm : (v new : View) (at number : ℕ) (machine : Machine) (next : Next) → Rows setup h v → CalmStep v at number machine next → Leads v at number machine next new → Calm new
+    pub leads-calm : (v new : View) (at number : ℕ) (machine : Machine) (next : Step) → Rows setup h v → CalmStep v at number machine next → Leads v at number machine next new → Calm new
     leads-calm v new at number machine (nexts.Send call) r s (inl m) = subst Calm (sym m.is) (record {
       b = s.b;
       low = let low = s.low in omega (arith, low);

@@ -1,10 +1,10 @@
 -- What a record that comes tells of the call that waits for it.
-use Rattle.core_counts.proofs.Prelude.{◌≡◌, ◌<◌, ℕ, List, [], ◌∷◌, ◌++◌, length, Some, slice_get, Ok, sym, subst, arith, append_assoc, xid_at, Waiting, waiting_at, Entry, Sent, Delivered, Call, Reply, At, Heard, HasXid, SpellsCall, SpellsReply, FirstSent-grow, At-grow, At-below, At-back, At-last, said_of, Says, Next, Mounted, Machine, machine_of, Purpose, Busy, Setup, View, HearsRecord, Reaches, IsMade, Tried, IsOutstanding, was-sent, says-of, reached-rows, ThenOf, Both}
+use Rattle.core_counts.proofs.Prelude.{◌≡◌, ◌<◌, ℕ, List, [], ◌∷◌, ◌++◌, length, Some, slice_get, Ok, sym, subst, arith, append_assoc, xid_at, Waiting, waiting_at, Entry, Sent, Delivered, Call, Reply, At, Heard, HasXid, SpellsCall, SpellsReply, FirstSent-grow, At-grow, At-below, At-back, At-last, said_of, Says, Step, Mounted, Machine, machine_of, Purpose, Busy, Setup, View, HearsRecord, Reaches, IsMade, Tried, IsOutstanding, was-sent, says-of, reached-rows, ThenOf, Both}
 use Rattle.call_replies.specs.Says.{SpellsOne}
 use Rattle.core_facts.specs.Tries.{unsent, runs, ended}
 use Rattle.core_answers.proofs.pages.PageCalls.{both-asks}
 use Rattle.claims.specs.Thrifty.{CameWithin}
-use Rattle.client_shelf.specs.declared.next.Next.TheVariants as nexts
+use Rattle.client_shelf.specs.declared.step.Step.TheVariants as nexts
 use Rattle.core_answers.proofs.pages.Keeping as keeping
 
 -- The call that is answered was first sent at a place, and the record spells this reply to it alone.
@@ -82,7 +82,7 @@ module _ (h : List Entry) (rec : List ℕ) (rest : List Entry) (xid : ℕ) (call
 
 -- ---- the call of a lane
 
-no-story : (next : Next) (new : Machine) → ThenOf (λ k. Unit {0}) (λ a. Unit {0}) next new
+no-story : (next : Step) (new : Machine) → ThenOf (λ k. Unit {0}) (λ a. Unit {0}) next new
 no-story (nexts.Send call) new = tt
 no-story nexts.Wait new = tt
 no-story (nexts.Done answer) new = tt

@@ -1,5 +1,5 @@
 -- The step in which a page is given: the read that is under way takes the reply, and keeps the page.
-use Rattle.core_counts.proofs.Prelude.{◌≡◌, ◌<◌, ◌≤◌, ◌&&◌, ◌||◌, ◌⊎◌, inl, inr, not, ℕ, Bool, true, false, nat_eq, List, [], ◌∷◌, ◌++◌, length, Option, Some, Result, Ok, refl, sym, ap, subst, ◌∙◌, arith, if◌then◌else◌, eqb-true, cases_lt, nat_tests, Attr, Accepted, Pages, after_page, Pending, Answer, Fault, Entry, Began, Answered, Call, Reply, Op, At, SpellsReply, AnsweredBefore, EndsAt, UnderWay, At-grow, At-below, At-back, Next, Repeat, Turn, Phase, Reading, place_after, part, refusal, said_to, breaks_rule}
+use Rattle.core_counts.proofs.Prelude.{◌≡◌, ◌<◌, ◌≤◌, ◌&&◌, ◌||◌, ◌⊎◌, inl, inr, not, ℕ, Bool, true, false, nat_eq, List, [], ◌∷◌, ◌++◌, length, Option, Some, Result, Ok, refl, sym, ap, subst, ◌∙◌, arith, if◌then◌else◌, eqb-true, cases_lt, nat_tests, Attr, Accepted, Pages, after_page, Pending, Answer, Fault, Entry, Began, Answered, Call, Reply, Op, At, SpellsReply, AnsweredBefore, EndsAt, UnderWay, At-grow, At-below, At-back, Step, Repeat, Turn, Phase, Reading, place_after, part, refusal, said_to, breaks_rule}
 use Rattle.std.proofs.Common.{nat_lt}
 use Rattle.rpc_message.specs.Reply.{RpcReply, refusal_number, SpellsRefusal}
 use Rattle.world_model.specs.Operations.{Ended, answered, unanswered}
@@ -17,7 +17,7 @@ use Rattle.core_session.proofs.current.FedPages.{gone-pages, settled-pages}
 -- ---- the part is noted, and then pages are looked at alone
 
 module _ (T : Pages → Type 0) (shows : (file : List ℕ) (index : ℕ) (c : Pages) → T c → T (after_page file index c)) where
-  pub part-held : (sent turn : Turn) (came : Result Reply Fault) (r : Reading) (count : ℕ) (attr : Option Attr) (counted : ℕ) (eof : Bool) (given : List ℕ) (repeats : List Repeat) (c : Pages) (back : Pending) (next : Next)
+  pub part-held : (sent turn : Turn) (came : Result Reply Fault) (r : Reading) (count : ℕ) (attr : Option Attr) (counted : ℕ) (eof : Bool) (given : List ℕ) (repeats : List Repeat) (c : Pages) (back : Pending) (next : Step)
       (new : reading.State) → r.phase ≡ phases.Asked count → came ≡ Ok (replies.File (kept.Read attr counted eof given)) → breaks_rule count counted eof given ≡ false
       → reading.TakesIf (reading.waits_attrs r.phase) sent turn came repeats r c back next new → T (reading.noted attr r.file sent.moment (place_after r.base) given eof c) → T new.pages
   part-held sent turn came r count attr counted eof given repeats c back next new at is fine t had =

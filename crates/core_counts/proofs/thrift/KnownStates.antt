@@ -1,10 +1,10 @@
 -- An open that goes by kept attributes leaves its file in the known state; and each file that was opened has a state in the page cache.
-use Rattle.core_counts.proofs.Prelude.{◌≡◌, ℕ, ◌+◌, Bool, true, false, ◌&&◌, ◌==◌, List, Option, Some, None, Result, refl, sym, ap, ◌∙◌, arith, if◌then◌else◌, Attr, Mode, Stamp, stamp_of, Attrs, FileState, Pages, state_of, known_of, Fault, Entry, Reply, Modes, Led, OpeningStep, Mounted, machine_of, Setup, View, Reaches}
+use Rattle.core_counts.proofs.Prelude.{◌≡◌, ℕ, ◌+◌, Bool, true, false, ◌&&◌, ◌==◌, List, Option, Some, None, Result, refl, sym, ap, ◌∙◌, arith, if◌then◌else◌, Attr, Mode, Stamp, stamp_of, Attrs, FileState, Pages, state_of, known_of, Fault, Entry, Reply, Modes, Led, OpeningPhase, Mounted, machine_of, Setup, View, Reaches}
 use Rattle.nfs_types.specs.Stamps.{same_stamp}
 use Rattle.attr_cache.specs.Attrs.{looked}
 use Rattle.claims.specs.Slots.{Finds, asked, looked_up, made, Opens}
 use Rattle.file_ops.specs.declared.opening.Led.TheVariants as leads
-use Rattle.file_ops.specs.declared.opening.OpeningStep.TheVariants as steps
+use Rattle.file_ops.specs.declared.opening.OpeningPhase.TheVariants as steps
 use Rattle.file_ops.specs.Opening as opening
 use Rattle.core_answers.specs.bonds.Kept.{LastAtMost}
 use Rattle.core_session.proofs.current.FedPages.{told-knows}
@@ -15,7 +15,7 @@ use Rattle.core_session.proofs.current.Good.{reached-good}
 knows-is : (a b : List ℕ) (s t : Stamp) → leads.Knows a s ≡ leads.Knows b t → (a ≡ b) × (s ≡ t)
 knows-is a b s t e = (cc, cc)
 
-goes-knows : (step : OpeningStep) (file : List ℕ) (stamp : Stamp) → leads.Goes step ≡ leads.Knows file stamp → ⊥
+goes-knows : (step : OpeningPhase) (file : List ℕ) (stamp : Stamp) → leads.Goes step ≡ leads.Knows file stamp → ⊥
 goes-knows step file stamp e = cc
 
 module _ (now : ℕ) (attrs : Attrs) (c : Pages) where
@@ -38,7 +38,7 @@ module _ (now : ℕ) (attrs : Attrs) (c : Pages) where
   known-stamp (leads.Ends fault) file stamp other e = absurd (other e)
 
   -- the stamp by which a file is opened that isn't asked for its attributes is the known one
-  pub led-stamp : (nocto : Bool) (mode : Mode) (step : OpeningStep) (came : Result Reply Fault) (file : List ℕ) (stamp : Stamp)
+  pub led-stamp : (nocto : Bool) (mode : Mode) (step : OpeningPhase) (came : Result Reply Fault) (file : List ℕ) (stamp : Stamp)
       → opening.known_by nocto (opening.led_to mode step came) now attrs c ≡ leads.Knows file stamp → known_of file c ≡ Some stamp
   led-stamp true mode step came file stamp e = known-stamp (opening.led_to mode step came) file stamp (told-knows now attrs c mode step came file stamp) e
   led-stamp false mode step came file stamp e = absurd (told-knows now attrs c mode step came file stamp e)

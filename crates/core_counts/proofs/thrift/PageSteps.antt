@@ -1,5 +1,5 @@
 -- Operations other than reads add no page.
-use Rattle.core_counts.proofs.Prelude.{◌≡◌, ◌⊎◌, inl, inr, ℕ, List, Result, Ok, refl, sym, ◌∙◌, Fault, Call, Reply, read_call, Pending, Next, Shelf, Turn, Truncating, FileMachine, Machine, Takes}
+use Rattle.core_counts.proofs.Prelude.{◌≡◌, ◌⊎◌, inl, inr, ℕ, List, Result, Ok, refl, sym, ◌∙◌, Fault, Call, Reply, read_call, Pending, Step, Shelf, Turn, Truncating, FileMachine, Machine, Takes}
 use Rattle.nfs_file_calls.specs.declared.call.FileCall.TheVariants as calls_of
 use Rattle.world_model.specs.declared.message.Call.TheVariants as calls
 use Rattle.file_ops.specs.declared.truncate_file.Truncating.TheVariants as truncating
@@ -92,7 +92,7 @@ module _ (P : List ℕ → ℕ → Type 0) where
     cuts = λ file wcc size moment c is asked all. cut-all P file wcc size moment c all;
   }
 
-  pub other-takes : (m : Machine) (call : Call) (wsize : ℕ) (sent turn : Turn) (came : Result Reply Fault) (old : Shelf) (next : Next) (new : Machine) (after : Shelf) → IsOther m → PageAwaits m call
+  pub other-takes : (m : Machine) (call : Call) (wsize : ℕ) (sent turn : Turn) (came : Result Reply Fault) (old : Shelf) (next : Step) (new : Machine) (after : Shelf) → IsOther m → PageAwaits m call
       → ((reply : Reply) → came ≡ Ok reply → IsSentAs sent.xid call old.back) → Takes wsize m sent turn came old next new after → AllOf P old.pages → AllOf P after.pages
   other-takes m call wsize sent turn came old next new after other on link t all = elim (reads-or call) [
     | inl r ↦ pages-takes (AllOf P) (quiet-all P) null_call came (told-all null_call came null-none) sent turn old (λ reply is. link-null sent.xid call old.back r (link reply is)) m wsize next new after

@@ -1,5 +1,5 @@
 -- A read, step by step: what it asks for is as long as may be, and the pages that it offers were met by its READ.
-use Rattle.core_counts.proofs.Prelude.{◌≡◌, ◌<◌, ◌≤◌, ◌+◌, ◌-◌, ◌%◌, inl, inr, ◌&&◌, ◌||◌, ◌==◌, not, ℕ, Bool, true, false, nat_eq, List, length, Option, Some, None, Result, Ok, Err, refl, sym, ap, subst, ◌∙◌, arith, if◌then◌else◌, nat_tests, Attr, Mode, FileKept, Opened, start_of, Pages, Pending, Fault, Entry, Sent, Call, Reply, At, SpellsCall, read_call, Next, Repeat, Turn, Found, ReadFile, Phase, Reading, Bytes, place_after, with_more, part, refusal, said_to, said_by, breaks_rule, got_by}
+use Rattle.core_counts.proofs.Prelude.{◌≡◌, ◌<◌, ◌≤◌, ◌+◌, ◌-◌, ◌%◌, inl, inr, ◌&&◌, ◌||◌, ◌==◌, not, ℕ, Bool, true, false, nat_eq, List, length, Option, Some, None, Result, Ok, Err, refl, sym, ap, subst, ◌∙◌, arith, if◌then◌else◌, nat_tests, Attr, Mode, FileKept, Opened, start_of, Pages, Pending, Fault, Entry, Sent, Call, Reply, At, SpellsCall, read_call, Step, Repeat, Turn, Found, ReadFile, Phase, Reading, Bytes, place_after, with_more, part, refusal, said_to, said_by, breaks_rule, got_by}
 use Rattle.std.proofs.Common.{nat_lt}
 use Rattle.xdr_codec.specs.declared.blob.Memory as memory
 use Rattle.nfs_types.specs.declared.mode.Mode.TheVariants as modes
@@ -149,7 +149,7 @@ module _ (h : List Entry) where
     said-later (Ok (replies.Mount k)) count sent turn r c is asked all = later-stays r c all
     said-later (Err fault) count sent turn r c is asked all = later-stays r c all
 
-    heard-later : (p : Phase) (sent turn : Turn) (repeats : List Repeat) (r : Reading) (c : Pages) (back : Pending) (next : Next) (new : reading.State) → PhaseAwaits p r call
+    heard-later : (p : Phase) (sent turn : Turn) (repeats : List Repeat) (r : Reading) (c : Pages) (back : Pending) (next : Step) (new : reading.State) → PhaseAwaits p r call
         → reading.TakesPart (reading.heard p came) sent turn repeats r c back next new → AllMet h c → Later r new
     heard-later phases.Attrs sent turn repeats r c back next new asked t all = later-as r (record { reading = r; pages = c }) new t.1 (later-stays r c all)
     heard-later phases.AskedAttrs sent turn repeats r c back next new asked t all = later-as r (record { reading = r; pages = c }) new t.1 (later-stays r c all)
@@ -161,14 +161,14 @@ module _ (h : List Entry) where
 
     -- ---- attributes
 
-    opened-later : (result : Result (Unit {0}) memory.Memory) (turn : Turn) (r : Reading) (c : Pages) (back : Pending) (next : Next) (new : reading.State)
+    opened-later : (result : Result (Unit {0}) memory.Memory) (turn : Turn) (r : Reading) (c : Pages) (back : Pending) (next : Step) (new : reading.State)
         → reading.AfterOpened result turn r c back next new → AllMet h c → Later r new
     opened-later (Ok done) turn r c back next new a all =
         later-as r (reading.gone turn.room (reading.settled (record r { phase = phases.Pages }) c)) new a.1
         (later-from r (reading.gone turn.room (reading.settled (record r { phase = phases.Pages }) c)) (goes-long turn.room (record r { phase = phases.Pages }) c all tt))
     opened-later (Err no_memory) turn r c back next new a all = later-as r (record { reading = r; pages = c }) new a.1 (later-stays r c all)
 
-    attrs-later : (what : Result Attr Fault) (again : Bool) (sent turn : Turn) (r : Reading) (c : Pages) (back : Pending) (next : Next) (new : reading.State)
+    attrs-later : (what : Result Attr Fault) (again : Bool) (sent turn : Turn) (r : Reading) (c : Pages) (back : Pending) (next : Step) (new : reading.State)
         → reading.TakesAttrs again what sent turn r c back next new → AllMet h c → Later r new
     attrs-later (Ok attr) again sent turn r c back next new a all =
         opened-later a.result turn r a.later back next new a.goes (pages-opened (AllMet h) (quiet-all (WasMet h)) a.result r.file attr r.moment sent turn c a.later a.opens all)
@@ -176,7 +176,7 @@ module _ (h : List Entry) where
 
     -- ---- any of them
 
-    takes-later : (waits : Bool) (sent turn : Turn) (repeats : List Repeat) (r : Reading) (c : Pages) (back : Pending) (next : Next) (new : reading.State) → PhaseAwaits r.phase r call
+    takes-later : (waits : Bool) (sent turn : Turn) (repeats : List Repeat) (r : Reading) (c : Pages) (back : Pending) (next : Step) (new : reading.State) → PhaseAwaits r.phase r call
         → reading.TakesIf waits sent turn came repeats r c back next new → AllMet h c → Later r new
     takes-later true sent turn repeats r c back next new asked t all = attrs-later (got_by came) _ sent turn r c back next new t all
     takes-later false sent turn repeats r c back next new asked t all = heard-later r.phase sent turn repeats r c back next new asked t all
@@ -190,7 +190,7 @@ module _ (h : List Entry) where
   in-as : (to new : Option Reading) → new ≡ to → LongIn to → LongIn new
   in-as to new is k = subst LongIn (sym is) k
 
-  pub resumes-long : (of : Option Reading) (room : Bool) (k : ReadFile) (c : Pages) (back : Pending) (next : Next) (new : ReadFile) (later : Pages) → k.reading ≡ of → AllMet h c → LongIn k.reading
+  pub resumes-long : (of : Option Reading) (room : Bool) (k : ReadFile) (c : Pages) (back : Pending) (next : Step) (new : ReadFile) (later : Pages) → k.reading ≡ of → AllMet h c → LongIn k.reading
       → reads.ResumesIn of room k c back next new later → LongIn new.reading
   resumes-long None room k c back next new later is all long s = in-as k.reading new.reading (ap (λ (q : ReadFile). q.reading) s.machine) long
   resumes-long (Some r) room k c back next new later is all long s =
@@ -202,7 +202,7 @@ module _ (h : List Entry) where
     pub long : LongIn k.reading → LongIn new.reading
 
   pub takes-long : (call : Call) (came : Result Reply Fault) → ((reply : Reply) → came ≡ Ok reply → WasSent h call) → (of : Option Reading) (sent turn : Turn) (repeats : List Repeat) (k : ReadFile)
-      (c : Pages) (back : Pending) (next : Next) (new : ReadFile) (later : Pages) → k.reading ≡ of → ReadAwaits of call → AllMet h c → reads.TakesIn of sent turn came repeats k c back next new later
+      (c : Pages) (back : Pending) (next : Step) (new : ReadFile) (later : Pages) → k.reading ≡ of → ReadAwaits of call → AllMet h c → reads.TakesIn of sent turn came repeats k c back next new later
       → TakesLong k new later
   takes-long call came told None sent turn repeats k c back next new later is asked all t = record {
     all = subst (AllMet h) (sym t.kept) all;
@@ -246,13 +246,13 @@ module _ (h : List Entry) where
   begins-at None moment k back result b = ok-as (Err faults.Slot) result b tt
   begins-at (Some o) moment k back result b = begins-in o.mode moment k o.file back result b
 
-  starts-in : (result : Result Reading Fault) (room : Bool) (k : ReadFile) (c : Pages) (back : Pending) (next : Next) (new : ReadFile) (later : Pages) → k.reading ≡ None → AllMet h c → OkLong result
+  starts-in : (result : Result Reading Fault) (room : Bool) (k : ReadFile) (c : Pages) (back : Pending) (next : Step) (new : ReadFile) (later : Pages) → k.reading ≡ None → AllMet h c → OkLong result
       → reads.StartsWith result room k c back next new later → LongIn new.reading
   starts-in (Err fault) room k c back next new later none all ok s = in-as None new.reading (ap (λ (q : ReadFile). q.reading) s.machine ∙ none) tt
   starts-in (Ok r) room k c back next new later none all ok s =
       in-as (Some (reading.gone room (reading.settled r c)).reading) new.reading (ap (λ (q : ReadFile). q.reading) s.machine) (goes-long room r c all ok).long
 
-  pub starts-long : (o : Option Opened) (turn : Turn) (k : ReadFile) (c : Pages) (back : Pending) (next : Next) (new : ReadFile) (later : Pages) → k.reading ≡ None → AllMet h c
+  pub starts-long : (o : Option Opened) (turn : Turn) (k : ReadFile) (c : Pages) (back : Pending) (next : Step) (new : ReadFile) (later : Pages) → k.reading ≡ None → AllMet h c
       → reads.Starts o turn k c back next new later → LongIn new.reading
   starts-long o turn k c back next new later none all s =
       starts-in s.reading turn.room k c back next new later none all (begins-at o (turn.moment - 1) k back s.reading s.begins) s.goes

@@ -1,9 +1,9 @@
 -- Along a history each kept page was met by a READ that was sent before, and what a read asks for is as long as may be.
-use Rattle.core_counts.proofs.Prelude.{◌≡◌, ℕ, List, [], ◌∷◌, ◌++◌, length, Option, Some, None, Result, Ok, refl, sym, ap, subst, ◌∙◌, All-nil, All-weaker, Pages, Fault, Entry, Began, Sent, Call, Reply, Op, At-grow, Next, Shelf, Turn, ReadFile, Phase, Reading, Bytes, Mounted, FileMachine, Machine, machine_of, Starts, Resumes, Takes, State, Busy, Over, Setup, View, Reaches, ThenOf, Both}
+use Rattle.core_counts.proofs.Prelude.{◌≡◌, ℕ, List, [], ◌∷◌, ◌++◌, length, Option, Some, None, Result, Ok, refl, sym, ap, subst, ◌∙◌, All-nil, All-weaker, Pages, Fault, Entry, Began, Sent, Call, Reply, Op, At-grow, Step, Shelf, Turn, ReadFile, Phase, Reading, Bytes, Mounted, FileMachine, Machine, machine_of, Starts, Resumes, Takes, State, Busy, Over, Setup, View, Reaches, ThenOf, Both}
 use Rattle.page_cache.specs.Pages.{nothing_kept}
 use Rattle.core_answers.proofs.pages.PageCalls.{PageAwaits, both-asks}
 use Rattle.world_model.specs.declared.op.Op.TheVariants as ops
-use Rattle.client_shelf.specs.declared.next.Next.TheVariants as nexts
+use Rattle.client_shelf.specs.declared.step.Step.TheVariants as nexts
 use Rattle.file_ops.specs.declared.reading.Phase.TheVariants as phases
 use Rattle.op_machines.specs.declared.file_machine.FileMachine.TheVariants as files
 use Rattle.op_machines.specs.declared.machine.Machine.TheVariants as machines
@@ -63,7 +63,7 @@ StateLong h (Over answer) = Unit {0}
 abbrev pub LongStory : List Entry → ℕ → Op → State → Type 0
 LongStory h x op state = (slot offset count : ℕ) → op ≡ ops.Read slot offset count → StateLong h state
 
-then-long : (h : List Entry) (x : ℕ) (op : Op) (next : Next) (new : Machine) → ((slot offset count : ℕ) → op ≡ ops.Read slot offset count → RunsLong h new)
+then-long : (h : List Entry) (x : ℕ) (op : Op) (next : Step) (new : Machine) → ((slot offset count : ℕ) → op ≡ ops.Read slot offset count → RunsLong h new)
     → ThenOf (λ k. LongStory h x op (Busy k)) (λ a. LongStory h x op (Over a)) next new
 then-long h x op (nexts.Send call) new k = k
 then-long h x op nexts.Wait new k = k
@@ -79,7 +79,7 @@ module _ (mounted : Mounted) (h : List Entry) where
   abbrev own : ℕ → ℕ → ℕ → ℕ → ReadFile
   own lane slot offset count = record { lane = lane; slot = slot; offset = offset; count = count; rsize = mounted.rsize; noac = mounted.noac; reading = None }
 
-  begins-long : (lane slot offset count wsize : ℕ) (turn : Turn) (old : Shelf) (next : Next) (new : Machine) (after : Shelf) → AllMet h old.pages
+  begins-long : (lane slot offset count wsize : ℕ) (turn : Turn) (old : Shelf) (next : Step) (new : Machine) (after : Shelf) → AllMet h old.pages
       → Starts wsize (machine_of mounted lane (ops.Read slot offset count)) turn old next new after → RunsLong h new
   begins-long lane slot offset count wsize turn old next new after all s = record {
     of = s.step.machine;
@@ -87,7 +87,7 @@ module _ (mounted : Mounted) (h : List Entry) where
     long = starts-long h _ turn (own lane slot offset count) old.pages old.back next s.step.machine after.pages refl all s.step.step;
   }
 
-  goes-on : (machine : Machine) (wsize : ℕ) (turn : Turn) (old : Shelf) (next : Next) (new : Machine) (after : Shelf) → AllMet h old.pages → RunsLong h machine
+  goes-on : (machine : Machine) (wsize : ℕ) (turn : Turn) (old : Shelf) (next : Step) (new : Machine) (after : Shelf) → AllMet h old.pages → RunsLong h machine
       → Resumes wsize machine turn old next new after → RunsLong h new
   goes-on machine wsize turn old next new after all k r =
       let g = subst (λ (n : Machine). Resumes wsize n turn old next new after) k.is r in
@@ -105,7 +105,7 @@ was-sent machine_of setup h x call sent back reply t =
     let heard = t.since.told.answered.heard in
     record { at = heard.sent_at; xid = t.since.told.answered.xid; bytes = heard.record_sent; sent = heard.sent.sent; spells = heard.spells }
 
-module _ (h : List Entry) (call : Call) (wsize : ℕ) (sent turn : Turn) (came : Result Reply Fault) (old : Shelf) (next : Next) (new : Machine) (after : Shelf)
+module _ (h : List Entry) (call : Call) (wsize : ℕ) (sent turn : Turn) (came : Result Reply Fault) (old : Shelf) (next : Step) (new : Machine) (after : Shelf)
     (told : (reply : Reply) → came ≡ Ok reply → WasSent h call) (link : (reply : Reply) → came ≡ Ok reply → IsSentAs sent.xid call old.back) (all : AllMet h old.pages) where
   read-took : (m : ReadFile) → PageAwaits (machines.File (files.Read m)) call → (t : Takes wsize (machines.File (files.Read m)) sent turn came old next new after)
       → TakesLong h m t.step.machine after.pages

@@ -1,14 +1,14 @@
 -- Puts before their bytes are pending: their steps, and what becomes of the kept pages.
-use Rattle.core_counts.proofs.Prelude.{◌≡◌, ◌≤◌, ◌-◌, ◌⊎◌, inl, inr, ℕ, Bool, true, false, List, Result, Ok, Err, refl, sym, ap, subst, ◌∙◌, if◌then◌else◌, Pages, after_page, Answer, Fault, Call, Reply, Next, Shelf, Turn, WalkNext, Led, Opening, OpeningNext, PutFile, Putting, Machine, Opener, PathMachine, file_of, slot_taken, begun_at, Starts, Resumes, Takes, ThenOf, kept-as, Both}
+use Rattle.core_counts.proofs.Prelude.{◌≡◌, ◌≤◌, ◌-◌, ◌⊎◌, inl, inr, ℕ, Bool, true, false, List, Result, Ok, Err, refl, sym, ap, subst, ◌∙◌, if◌then◌else◌, Pages, after_page, Answer, Fault, Call, Reply, Step, Shelf, Turn, WalkStep, Led, Opening, OpeningStep, PutFile, Putting, Machine, Opener, PathMachine, file_of, slot_taken, begun_at, Starts, Resumes, Takes, ThenOf, kept-as, Both}
 use Rattle.op_machines.specs.Openers.{opening_in, placed}
 use Rattle.core_answers.proofs.pages.NamePages.{SamePages, walk-takes-kept}
 use Rattle.world_model.specs.declared.answer.Answer.TheVariants as answers
 use Rattle.world_model.specs.declared.answer.Fault.TheVariants as faults
-use Rattle.client_shelf.specs.declared.next.Next.TheVariants as nexts
-use Rattle.name_ops.specs.declared.walk.WalkNext.TheVariants as walks
+use Rattle.client_shelf.specs.declared.step.Step.TheVariants as nexts
+use Rattle.name_ops.specs.declared.walk.WalkStep.TheVariants as walks
 use Rattle.name_ops.specs.Walking as walking
 use Rattle.file_ops.specs.declared.opening.Led.TheVariants as leads
-use Rattle.file_ops.specs.declared.opening.OpeningNext.TheVariants as openings
+use Rattle.file_ops.specs.declared.opening.OpeningStep.TheVariants as openings
 use Rattle.file_ops.specs.declared.put_file.Putting.TheVariants as putting
 use Rattle.file_ops.specs.Opening as opening
 use Rattle.file_ops.specs.PutFile as puts
@@ -38,7 +38,7 @@ pub record IsPutting (b : ℕ) (machine : Machine) : Type 0 where
 abbrev pub IsEither : ℕ → Machine → Type 0
 IsEither b z = IsPutting b z ⊎ IsSaver z
 
-abbrev pub PutThen : ℕ → Next → Machine → Type 0
+abbrev pub PutThen : ℕ → Step → Machine → Type 0
 PutThen b next new = ThenOf (IsEither b) (λ answer. Unit {0}) next new
 
 put-is : (p q : PutFile) → files.Put p ≡ files.Put q → p ≡ q
@@ -72,10 +72,10 @@ after-same false o turn led = led-same o turn led
 module _ (b : ℕ) where
   -- ---- what a step leads to
 
-  then-done : (answer : Answer) (next : Next) (new : Machine) → next ≡ nexts.Done answer → PutThen b next new
+  then-done : (answer : Answer) (next : Step) (new : Machine) → next ≡ nexts.Done answer → PutThen b next new
   then-done answer next new is = stays-done (IsEither b) answer next new is
 
-  then-goes : (next : Next) (new : Machine) → IsPutting b new → PutThen b next new
+  then-goes : (next : Step) (new : Machine) → IsPutting b new → PutThen b next new
   then-goes next new k = stays-any (IsEither b) next new (inl k)
 
   as-machine : (m : PathMachine) (o : Opener) (q : PutFile) (p : PathMachine) (new : Machine) → new ≡ machines.Path p → p ≡ record m { opener = o } → o ≡ openers.Put q → q.opening.moment ≤ b
@@ -86,7 +86,7 @@ module _ (b : ℕ) where
   low-as : (o n : Opening) → SameMoment o n → o.moment ≤ b → n.moment ≤ b
   low-as o n s low = subst (λ (k : ℕ). k ≤ b) (sym s) low
 
-  then-resumes : (wsize : ℕ) (m : PathMachine) (q : PutFile) (turn : Turn) (old : Shelf) (next : Next) (p : PathMachine) (new : Machine) (after : Shelf) → m.opener ≡ openers.Put q
+  then-resumes : (wsize : ℕ) (m : PathMachine) (q : PutFile) (turn : Turn) (old : Shelf) (next : Step) (p : PathMachine) (new : Machine) (after : Shelf) → m.opener ≡ openers.Put q
       → q.opening.moment ≤ b → q.state ≡ putting.Opens → new ≡ machines.Path p → paths.ThenResumes wsize m turn old next p after → PutThen b next new
   then-resumes wsize m q turn old next p new after opener low state is t =
       let s : steps.PutResumes wsize q turn old next (file_of t.opener) after = subst (λ (o : Opener). steps.Resumes wsize (file_of o) turn old next (file_of t.opener) after) opener t.step in
@@ -95,7 +95,7 @@ module _ (b : ℕ) where
       then-goes next new (as-machine m t.opener (record q { opening = opening.go_after q.opening turn }) p new is t.machine_is
       (opener-put t.opener (record q { opening = opening.go_after q.opening turn }) (s.machine_is ∙ ap files.Put r.1)) (low-as q.opening (opening.go_after q.opening turn) same low) state)
 
-  follows : (step : WalkNext) (wsize : ℕ) (m : PathMachine) (q : PutFile) (turn : Turn) (old : Shelf) (next : Next) (p : PathMachine) (new : Machine) (after : Shelf) → m.opener ≡ openers.Put q
+  follows : (step : WalkStep) (wsize : ℕ) (m : PathMachine) (q : PutFile) (turn : Turn) (old : Shelf) (next : Step) (p : PathMachine) (new : Machine) (after : Shelf) → m.opener ≡ openers.Put q
       → q.opening.moment ≤ b → m.arrived ≡ false → new ≡ machines.Path p → paths.Follows step wsize m turn old next p after → PutThen b next new
   follows (walks.Send call) wsize m q turn old next p new after opener low way is f =
       then-goes next new (record { m = m; q = q; is = is ∙ ap machines.Path f.1; opener = opener; low = low; there = λ there. absurd (let no_way : false ≡ true = sym way ∙ there in cc) })
@@ -106,14 +106,14 @@ module _ (b : ℕ) where
       (ap (placed dir) opener) low refl is f
   follows (walks.Refused fault) wsize m q turn old next p new after opener low way is f = then-done (answers.Refused fault) next new f.0
 
-  path-resumes : (a : Bool) (wsize : ℕ) (m : PathMachine) (q : PutFile) (turn : Turn) (old : Shelf) (next : Next) (p : PathMachine) (new : Machine) (after : Shelf) → m.opener ≡ openers.Put q
+  path-resumes : (a : Bool) (wsize : ℕ) (m : PathMachine) (q : PutFile) (turn : Turn) (old : Shelf) (next : Step) (p : PathMachine) (new : Machine) (after : Shelf) → m.opener ≡ openers.Put q
       → q.opening.moment ≤ b → m.arrived ≡ a → (a ≡ true → q.state ≡ putting.Opens) → new ≡ machines.Path p → paths.PathResumes a wsize m turn old next p after
       → PutThen b next new
   path-resumes true wsize m q turn old next p new after opener low way there is r = then-resumes wsize m q turn old next p new after opener low (there refl) is r
   path-resumes false wsize m q turn old next p new after opener low way there is r =
       follows (walking.go_next m.walk turn old) wsize (record m { walk = walking.go_after m.walk turn old }) q turn (walking.go_shelf m.walk turn old) next p new after opener low way is r
 
-  pub putting-resumes : (machine : Machine) (wsize : ℕ) (turn : Turn) (old : Shelf) (next : Next) (new : Machine) (after : Shelf) → IsPutting b machine → Resumes wsize machine turn old next new after
+  pub putting-resumes : (machine : Machine) (wsize : ℕ) (turn : Turn) (old : Shelf) (next : Step) (new : Machine) (after : Shelf) → IsPutting b machine → Resumes wsize machine turn old next new after
       → PutThen b next new
   putting-resumes machine wsize turn old next new after k r =
       let s : Resumes wsize (machines.Path k.m) turn old next new after = subst (λ (z : Machine). Resumes wsize z turn old next new after) k.is r in
@@ -121,14 +121,14 @@ module _ (b : ℕ) where
 
   -- ---- the first step
 
-  starts-if : (taken : Bool) (wsize : ℕ) (m : PathMachine) (q : PutFile) (turn : Turn) (old : Shelf) (next : Next) (p : PathMachine) (new : Machine) (after : Shelf) → m.opener ≡ openers.Put q
+  starts-if : (taken : Bool) (wsize : ℕ) (m : PathMachine) (q : PutFile) (turn : Turn) (old : Shelf) (next : Step) (p : PathMachine) (new : Machine) (after : Shelf) → m.opener ≡ openers.Put q
       → turn.moment - 1 ≤ b → m.arrived ≡ false → new ≡ machines.Path p → paths.StartsIf taken wsize m turn old next p after → PutThen b next new
   starts-if true wsize m q turn old next p new after opener low way is s = then-done (answers.Refused faults.Slot) next new s.0
   starts-if false wsize m q turn old next p new after opener low way is s =
       path-resumes m.arrived wsize (record m { opener = begun_at (turn.moment - 1) m.opener }) (record q { opening = record q.opening { moment = turn.moment - 1 } }) turn old next p new after
       (ap (begun_at (turn.moment - 1)) opener) low refl (λ there. absurd (let no_way : false ≡ true = sym way ∙ there in cc)) is s
 
-  pub putting-starts : (m : PathMachine) (q : PutFile) (wsize : ℕ) (turn : Turn) (old : Shelf) (next : Next) (new : Machine) (after : Shelf) → m.opener ≡ openers.Put q → turn.moment - 1 ≤ b
+  pub putting-starts : (m : PathMachine) (q : PutFile) (wsize : ℕ) (turn : Turn) (old : Shelf) (next : Step) (new : Machine) (after : Shelf) → m.opener ≡ openers.Put q → turn.moment - 1 ≤ b
       → m.arrived ≡ false → Starts wsize (machines.Path m) turn old next new after → PutThen b next new
   putting-starts m q wsize turn old next new after opener low way s =
       starts-if (slot_taken m.opener old.opens) wsize m q turn old next s.machine new after opener low way s.machine_is s.step
@@ -136,7 +136,7 @@ module _ (b : ℕ) where
   -- ---- what came of its call
 
   module _ (came : Result Reply Fault) (sent turn : Turn) where
-    after-opening : (step : OpeningNext) (wsize : ℕ) (m : PathMachine) (o : Opener) (q k : PutFile) (took : Shelf) (next : Next) (p : PathMachine) (new : Machine) (after : Shelf)
+    after-opening : (step : OpeningStep) (wsize : ℕ) (m : PathMachine) (o : Opener) (q k : PutFile) (took : Shelf) (next : Step) (p : PathMachine) (new : Machine) (after : Shelf)
         → m.arrived ≡ true → new ≡ machines.Path p → p ≡ record m { opener = o } → file_of o ≡ files.Put k → q.opening.moment ≤ b → q.state ≡ putting.Opens
         → puts.AfterOpening step wsize q turn took next k after → PutThen b next new
     after-opening (openings.Send asked) wsize m o q k took next p new after there is at opener low state a =
@@ -149,7 +149,7 @@ module _ (b : ℕ) where
         then-map IsSaver (IsEither b) (λ answer. Unit {0}) next new new (λ z. inr z) (as-path m o next p new there is at own)
     after-opening (openings.Ended (Err fault)) wsize m o q k took next p new after there is at opener low state a = then-done (answers.Refused fault) next new a.0
 
-    path-takes : (a : Bool) (wsize : ℕ) (m : PathMachine) (q : PutFile) (old : Shelf) (next : Next) (p : PathMachine) (new : Machine) (after : Shelf) → m.opener ≡ openers.Put q
+    path-takes : (a : Bool) (wsize : ℕ) (m : PathMachine) (q : PutFile) (old : Shelf) (next : Step) (p : PathMachine) (new : Machine) (after : Shelf) → m.opener ≡ openers.Put q
         → q.opening.moment ≤ b → m.arrived ≡ a → (a ≡ true → q.state ≡ putting.Opens) → new ≡ machines.Path p → paths.PathTakes a wsize m sent turn came old next p after
         → PutThen b next new
     path-takes true wsize m q old next p new after opener low way there is t =
@@ -163,7 +163,7 @@ module _ (b : ℕ) where
     path-takes false wsize m q old next p new after opener low way there is t =
         follows t.step wsize t.walked q turn t.heard next p new after (ap (λ (z : PathMachine). z.opener) t.walked_is ∙ opener) low (ap (λ (z : PathMachine). z.arrived) t.walked_is ∙ way) is t.follows
 
-    pub putting-takes : (machine : Machine) (wsize : ℕ) (old : Shelf) (next : Next) (new : Machine) (after : Shelf) → IsPutting b machine → Takes wsize machine sent turn came old next new after
+    pub putting-takes : (machine : Machine) (wsize : ℕ) (old : Shelf) (next : Step) (new : Machine) (after : Shelf) → IsPutting b machine → Takes wsize machine sent turn came old next new after
         → PutThen b next new
     putting-takes machine wsize old next new after k t =
         let s : Takes wsize (machines.Path k.m) sent turn came old next new after = subst (λ (z : Machine). Takes wsize z sent turn came old next new after) k.is t in
@@ -173,13 +173,13 @@ module _ (b : ℕ) where
 
 module _ (T : Pages → Type 0) (shows : (file : List ℕ) (index : ℕ) (c : Pages) → T c → T (after_page file index c)) (b : ℕ) (call : Call) (came : Result Reply Fault) (sent turn : Turn)
     (laws : TakeLaws T b call came sent turn) where
-  opened-same : (step : OpeningNext) (wsize : ℕ) (q : PutFile) (old : Shelf) (next : Next) (k : PutFile) (after : Shelf) → puts.AfterOpening step wsize q turn old next k after → SamePages old after
+  opened-same : (step : OpeningStep) (wsize : ℕ) (q : PutFile) (old : Shelf) (next : Step) (k : PutFile) (after : Shelf) → puts.AfterOpening step wsize q turn old next k after → SamePages old after
   opened-same (openings.Send asked) wsize q old next k after a = kept-as old old after a.2 refl
   opened-same openings.Wait wsize q old next k after a = kept-as old old after a.shelf_is refl
   opened-same (openings.Ended (Ok file)) wsize q old next k after a = added-same wsize q file turn old next k after a
   opened-same (openings.Ended (Err fault)) wsize q old next k after a = kept-as old old after a.2 refl
 
-  path-pages : (a : Bool) (wsize : ℕ) (m : PathMachine) (q : PutFile) (old : Shelf) (next : Next) (p : PathMachine) (after : Shelf) → m.opener ≡ openers.Put q → q.opening.moment ≤ b
+  path-pages : (a : Bool) (wsize : ℕ) (m : PathMachine) (q : PutFile) (old : Shelf) (next : Step) (p : PathMachine) (after : Shelf) → m.opener ≡ openers.Put q → q.opening.moment ≤ b
       → (a ≡ true → q.state ≡ putting.Opens) → ((reply : Reply) → came ≡ Ok reply → PathOn a m call) → paths.PathTakes a wsize m sent turn came old next p after
       → T old.pages → T after.pages
   path-pages true wsize m q old next p after opener low there on t had =
@@ -194,7 +194,7 @@ module _ (T : Pages → Type 0) (shows : (file : List ℕ) (index : ℕ) (c : Pa
       follows-pages T shows b call came sent turn laws t.step wsize t.walked t.heard next p after t.follows
       (as-shelf T shows old t.heard (walk-takes-kept (walking.waiting_name m.walk) m.walk sent turn came old t.step t.walked.walk t.heard t.takes) had)
 
-  pub putting-pages : (machine : Machine) (wsize : ℕ) (old : Shelf) (next : Next) (new : Machine) (after : Shelf) → IsPutting b machine → ((reply : Reply) → came ≡ Ok reply → Both machine call)
+  pub putting-pages : (machine : Machine) (wsize : ℕ) (old : Shelf) (next : Step) (new : Machine) (after : Shelf) → IsPutting b machine → ((reply : Reply) → came ≡ Ok reply → Both machine call)
       → Takes wsize machine sent turn came old next new after → T old.pages → T after.pages
   putting-pages machine wsize old next new after k on t had =
       let s : Takes wsize (machines.Path k.m) sent turn came old next new after = subst (λ (z : Machine). Takes wsize z sent turn came old next new after) k.is t in

@@ -1,10 +1,10 @@
 -- Opens, reads and operations on names stay such, with the moment at which they began.
-use Rattle.core_counts.proofs.Prelude.{◌≡◌, ◌≤◌, ◌-◌, ℕ, Bool, true, false, List, Option, Some, None, Result, Ok, Err, inl, inr, refl, sym, ap, subst, ◌∙◌, if◌then◌else◌, Mode, Opened, Pages, Pending, Answer, Fault, Call, Reply, Op, Next, Shelf, Turn, ReadFile, Phase, Reading, Mounted, Machine, NameMachine, machine_of, Starts, Resumes, Takes, ThenOf}
+use Rattle.core_counts.proofs.Prelude.{◌≡◌, ◌≤◌, ◌-◌, ℕ, Bool, true, false, List, Option, Some, None, Result, Ok, Err, inl, inr, refl, sym, ap, subst, ◌∙◌, if◌then◌else◌, Mode, Opened, Pages, Pending, Answer, Fault, Call, Reply, Op, Step, Shelf, Turn, ReadFile, Phase, Reading, Mounted, Machine, NameMachine, machine_of, Starts, Resumes, Takes, ThenOf}
 use Rattle.std.specs.FinMap as finite
 use Rattle.nfs_types.specs.declared.mode.Mode.TheVariants as modes
 use Rattle.world_model.specs.declared.answer.Fault.TheVariants as faults
 use Rattle.world_model.specs.declared.op.Op.TheVariants as ops
-use Rattle.client_shelf.specs.declared.next.Next.TheVariants as nexts
+use Rattle.client_shelf.specs.declared.step.Step.TheVariants as nexts
 use Rattle.file_ops.specs.declared.reading.Phase.TheVariants as phases
 use Rattle.file_ops.specs.ReadFile as reads
 use Rattle.file_ops.specs.Reading as reading
@@ -54,16 +54,16 @@ went-moment room r c = gone-moment room (reading.settled r c) ∙ settled-moment
 abbrev pub Untold : Answer → Type 0
 Untold answer = Unit {0}
 
-abbrev pub ThenQuiet : ℕ → Next → Machine → Type 0
+abbrev pub ThenQuiet : ℕ → Step → Machine → Type 0
 ThenQuiet b next new = ThenOf (IsQuiet b) Untold next new
 
 module _ (b : ℕ) where
-  any-then : (next : Next) (new : Machine) → IsQuiet b new → ThenQuiet b next new
+  any-then : (next : Step) (new : Machine) → IsQuiet b new → ThenQuiet b next new
   any-then (nexts.Send call) new k = k
   any-then nexts.Wait new k = k
   any-then (nexts.Done answer) new k = tt
 
-  open-then : (nocto : Bool) (k : ℕ) (next : Next) (new : Machine) → k ≤ b → marks.GoesOn nocto k next new → ThenQuiet b next new
+  open-then : (nocto : Bool) (k : ℕ) (next : Step) (new : Machine) → k ≤ b → marks.GoesOn nocto k next new → ThenQuiet b next new
   open-then nocto k (nexts.Send call) new low g = quiet_open nocto k low g
   open-then nocto k nexts.Wait new low g = quiet_open nocto k low g
   open-then nocto k (nexts.Done answer) new low g = tt
@@ -71,18 +71,18 @@ module _ (b : ℕ) where
   abbrev Low : Reading → Type 0
   Low r = r.moment ≤ b
 
-  read-then : (next : Next) (new : Machine) → ThenRead Low next new → ThenQuiet b next new
+  read-then : (next : Step) (new : Machine) → ThenRead Low next new → ThenQuiet b next new
   read-then (nexts.Send call) new k = quiet_read k
   read-then nexts.Wait new k = quiet_read k
   read-then (nexts.Done answer) new k = tt
 
-  done-then : (next to : Next) (new : Machine) → next ≡ to → ThenQuiet b to new → ThenQuiet b next new
-  done-then next to new is k = subst (λ (n : Next). ThenQuiet b n new) (sym is) k
+  done-then : (next to : Step) (new : Machine) → next ≡ to → ThenQuiet b to new → ThenQuiet b next new
+  done-then next to new is k = subst (λ (n : Step). ThenQuiet b n new) (sym is) k
 
   low-same : (r n : Reading) → IsSame r n → Low r → Low n
   low-same r n same low = subst (λ (k : ℕ). k ≤ b) (sym same.moment) low
 
-  pub resumes-quiet : (machine : Machine) (wsize : ℕ) (turn : Turn) (old : Shelf) (next : Next) (new : Machine) (after : Shelf) → IsQuiet b machine → Resumes wsize machine turn old next new after
+  pub resumes-quiet : (machine : Machine) (wsize : ℕ) (turn : Turn) (old : Shelf) (next : Step) (new : Machine) (after : Shelf) → IsQuiet b machine → Resumes wsize machine turn old next new after
       → ThenQuiet b next new
   resumes-quiet machine wsize turn old next new after (quiet_open nocto k low o) r =
       open-then nocto k next new low (opening-resumes nocto k machine wsize turn old next new after o r)
@@ -92,12 +92,12 @@ module _ (b : ℕ) where
       any-then next new (quiet_name s.machine s.machine_is)
 
   module _ (call : Call) (came : Result Reply Fault) (sent turn : Turn) where
-    took-quiet : (nocto : Bool) (k : ℕ) (attrs : _) (old : Pages) (next : Next) (new : Machine) (later : Pages) → k ≤ b → Took nocto k call came sent turn attrs old next new later → ThenQuiet b next new
+    took-quiet : (nocto : Bool) (k : ℕ) (attrs : _) (old : Pages) (next : Step) (new : Machine) (later : Pages) → k ≤ b → Took nocto k call came sent turn attrs old next new later → ThenQuiet b next new
     took-quiet nocto k attrs old next new later low (took_on g) = open-then nocto k next new low g
     took-quiet nocto k attrs old next new later low (took_well file attr well said on kind is) = done-then next _ new well tt
     took-quiet nocto k attrs old next new later low (took_known file stamp attr well may gives looked_is kind stamp_is is) = done-then next _ new well tt
 
-    pub takes-quiet : (machine : Machine) (wsize : ℕ) (old : Shelf) (next : Next) (new : Machine) (after : Shelf) → IsQuiet b machine → ((reply : Reply) → came ≡ Ok reply → Asks machine call)
+    pub takes-quiet : (machine : Machine) (wsize : ℕ) (old : Shelf) (next : Step) (new : Machine) (after : Shelf) → IsQuiet b machine → ((reply : Reply) → came ≡ Ok reply → Asks machine call)
         → Takes wsize machine sent turn came old next new after → ThenQuiet b next new
     takes-quiet machine wsize old next new after (quiet_open nocto k low o) on t =
         took-quiet nocto k after.attrs old.pages next new after.pages low (opening-takes nocto k call came sent turn machine wsize old next new after o on t)
@@ -131,7 +131,7 @@ module _ (b : ℕ) where
   begun-at None moment m back r s = absurd (no-refusal r faults.Slot s)
   begun-at (Some o) moment m back r s = begun-in o.mode moment m o.file back r s
 
-  read-begins : (begun_ : Result Reading Fault) (o : Option Opened) (turn : Turn) (m k : ReadFile) (c later : Pages) (back : Pending) (next : Next) (new : Machine) → turn.moment - 1 ≤ b
+  read-begins : (begun_ : Result Reading Fault) (o : Option Opened) (turn : Turn) (m k : ReadFile) (c later : Pages) (back : Pending) (next : Step) (new : Machine) → turn.moment - 1 ≤ b
       → new ≡ machines.File (files.Read k) → reads.Begins (reads.begun_at o (turn.moment - 1) m back) begun_ → reads.StartsWith begun_ turn.room m c back next k later → ThenQuiet b next new
   read-begins (Err fault) o turn m k c later back next new low is s w = done-then next _ new w.step tt
   read-begins (Ok r) o turn m k c later back next new low is s w =
@@ -145,16 +145,16 @@ module _ (b : ℕ) where
         told = subst (λ (n : ℕ). n ≤ b) (sym (went-moment turn.room r c ∙ first)) low;
       }))
 
-  read-starts : (m : Mounted) (lane slot offset count wsize : ℕ) (turn : Turn) (old : Shelf) (next : Next) (new : Machine) (after : Shelf) → turn.moment - 1 ≤ b
+  read-starts : (m : Mounted) (lane slot offset count wsize : ℕ) (turn : Turn) (old : Shelf) (next : Step) (new : Machine) (after : Shelf) → turn.moment - 1 ≤ b
       → Starts wsize (machine_of m lane (ops.Read slot offset count)) turn old next new after → ThenQuiet b next new
   read-starts m lane slot offset count wsize turn old next new after low s =
       read-begins s.step.step.reading (finite.get old.opens (lane, slot)) turn _ s.step.machine old.pages after.pages old.back next new low (s.machine_is ∙ ap machines.File s.step.machine_is)
       s.step.step.begins s.step.step.goes
 
-  name-starts : (m : NameMachine) (wsize : ℕ) (turn : Turn) (old : Shelf) (next : Next) (new : Machine) (after : Shelf) → Starts wsize (machines.Name m) turn old next new after → ThenQuiet b next new
+  name-starts : (m : NameMachine) (wsize : ℕ) (turn : Turn) (old : Shelf) (next : Step) (new : Machine) (after : Shelf) → Starts wsize (machines.Name m) turn old next new after → ThenQuiet b next new
   name-starts m wsize turn old next new after s = any-then next new (quiet_name s.machine s.machine_is)
 
-  pub starts-quiet : (m : Mounted) (lane : ℕ) (op : Op) (wsize : ℕ) (turn : Turn) (old : Shelf) (next : Next) (new : Machine) (after : Shelf) → turn.moment - 1 ≤ b → OnlyReads op
+  pub starts-quiet : (m : Mounted) (lane : ℕ) (op : Op) (wsize : ℕ) (turn : Turn) (old : Shelf) (next : Step) (new : Machine) (after : Shelf) → turn.moment - 1 ≤ b → OnlyReads op
       → Starts wsize (machine_of m lane op) turn old next new after → ThenQuiet b next new
   starts-quiet m lane (ops.OpenFile slot mode path) wsize turn old next new after low only s =
       open-then m.nocto (turn.moment - 1) next new low (opening-starts m.nocto (turn.moment - 1) _ _ wsize turn old next new after refl refl refl s)

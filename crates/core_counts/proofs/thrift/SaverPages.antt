@@ -1,9 +1,9 @@
 -- What an operation that makes bytes stable, or sets a size, makes of the kept pages where it sends no WRITE.
-use Rattle.core_counts.proofs.Prelude.{◌≡◌, ◌-◌, ℕ, Bool, true, false, List, Option, Some, None, Result, Ok, Err, inl, inr, refl, ap, ◌∙◌, if◌then◌else◌, Fault, Reply, is_first, goes_again, Next, Shelf, Turn, Closing, CloseFile, Removal, PutFile, Putting, Saving, SyncFile, Syncing, WriteFile, Writing, is_full, remove_busy, refusal_of, joined, by-step, ends_as, flies_if, flies_put, kept-as}
+use Rattle.core_counts.proofs.Prelude.{◌≡◌, ◌-◌, ℕ, Bool, true, false, List, Option, Some, None, Result, Ok, Err, inl, inr, refl, ap, ◌∙◌, if◌then◌else◌, Fault, Reply, is_first, goes_again, Step, Shelf, Turn, Closing, CloseFile, Removal, PutFile, Putting, Saving, SyncFile, Syncing, WriteFile, Writing, is_full, remove_busy, refusal_of, joined, by-step, ends_as, flies_if, flies_put, kept-as}
 use Rattle.core_facts.proofs.Flights.{flies_save, flies_write, flies_sync, flies_close}
 use Rattle.core_answers.proofs.pages.NamePages.{SamePages}
 use Rattle.world_model.specs.declared.answer.Answer.TheVariants as answers
-use Rattle.client_shelf.specs.declared.next.Next.TheVariants as nexts
+use Rattle.client_shelf.specs.declared.step.Step.TheVariants as nexts
 use Rattle.file_ops.specs.declared.close_file.Closing.TheVariants as closing
 use Rattle.file_ops.specs.declared.put_file.Putting.TheVariants as putting
 use Rattle.file_ops.specs.declared.sync_file.Syncing.TheVariants as syncing
@@ -27,13 +27,13 @@ room-same told lane shelf = by-step (λ g. SamePages shelf (writes.room_shelf g 
     ended (Ok done) = refl
     ended (Err fault) = refl
 
-saves-same : (b : Bool) (wsize lane : ℕ) (file : List ℕ) (saving : Saving) (turn : Turn) (shelf : Shelf) (next : Next) (new : Writing) (after : Shelf)
+saves-same : (b : Bool) (wsize lane : ℕ) (file : List ℕ) (saving : Saving) (turn : Turn) (shelf : Shelf) (next : Step) (new : Writing) (after : Shelf)
     → writes.SavesIf b wsize lane file saving turn shelf next new after → SamePages shelf after
 saves-same true wsize lane file saving turn shelf next new after s =
     kept-as shelf (writes.room_shelf s.told lane (record shelf { back = s.back })) after s.leads.shelf_is (room-same s.told lane (record shelf { back = s.back }))
 saves-same false wsize lane file saving turn shelf next new after s = kept-as shelf shelf after s.shelf_is refl
 
-writes-same : (b : Bool) (wsize lane : ℕ) (file : List ℕ) (offset : ℕ) (bytes : List ℕ) (turn : Turn) (shelf : Shelf) (next : Next) (new : Writing) (after : Shelf)
+writes-same : (b : Bool) (wsize lane : ℕ) (file : List ℕ) (offset : ℕ) (bytes : List ℕ) (turn : Turn) (shelf : Shelf) (next : Step) (new : Writing) (after : Shelf)
     → writes.WritesIf b wsize lane file offset bytes turn shelf next new after → SamePages shelf after
 writes-same true wsize lane file offset bytes turn shelf next new after (inl s) =
     saves-same (is_first lane (joined lane s.of shelf).order) wsize lane file (saves.begun s.of shelf.seq) turn (joined lane s.of shelf) next new after s.saves
@@ -41,7 +41,7 @@ writes-same true wsize lane file offset bytes turn shelf next new after (inr s) 
 writes-same false wsize lane file offset bytes turn shelf next new after (inl a) = ap (λ (s : Shelf). s.pages) a.leads.shelf_is
 writes-same false wsize lane file offset bytes turn shelf next new after (inr s) = kept-as shelf shelf after s.shelf_is refl
 
-write-follows : (told : _) (wsize : ℕ) (m : WriteFile) (file : List ℕ) (saved : Saving) (turn : Turn) (shelf : Shelf) (next : Next) (new : Writing) (after : Shelf)
+write-follows : (told : _) (wsize : ℕ) (m : WriteFile) (file : List ℕ) (saved : Saving) (turn : Turn) (shelf : Shelf) (next : Step) (new : Writing) (after : Shelf)
     → writes.Follows told wsize m file saved turn shelf next new after → SamePages shelf after
 write-follows told wsize m file saved turn shelf next new after f = by-step
     (λ g. writes.Follows g wsize m file saved turn shelf next new after → SamePages shelf after)
@@ -51,12 +51,12 @@ write-follows told wsize m file saved turn shelf next new after f = by-step
     ended (Ok done) l = writes-same (is_full (writes.made_bytes m.text) shelf.back) wsize m.lane file m.offset (writes.made_bytes m.text) turn _ next new after l
     ended (Err fault) l = kept-as shelf (writes.room_shelf (ends_as (Err fault)) m.lane shelf) after l.shelf_is refl
 
-close-ends-at : (place : Option (List ℕ × List ℕ)) (lane : ℕ) (room : Bool) (file : List ℕ) (why : Option Fault) (old : Shelf) (next : Next) (state : Closing) (new : Shelf)
+close-ends-at : (place : Option (List ℕ × List ℕ)) (lane : ℕ) (room : Bool) (file : List ℕ) (why : Option Fault) (old : Shelf) (next : Step) (state : Closing) (new : Shelf)
     → closes.EndsAt place lane room file why old next state new → SamePages old new
 close-ends-at None lane room file why old next state new e = ap (λ (s : Shelf). s.pages) e.others
 close-ends-at (Some place) lane room file why old next state new e = kept-as old old new e.shelf_is refl
 
-close-follows : (gives : _) (lane slot : ℕ) (room begun : Bool) (saving : Saving) (old : Shelf) (next : Next) (state : Closing) (new : Shelf)
+close-follows : (gives : _) (lane slot : ℕ) (room begun : Bool) (saving : Saving) (old : Shelf) (next : Step) (state : Closing) (new : Shelf)
     → closes.Follows gives lane slot room begun saving old next state new → SamePages old new
 close-follows gives lane slot room begun saving old next state new f = by-step
     (λ g. closes.Follows g lane slot room begun saving old next state new → SamePages old new)
@@ -65,23 +65,23 @@ close-follows gives lane slot room begun saving old next state new f = by-step
     frees : (result : Result (Unit {0}) Fault) → closes.Frees lane slot room saving.file (refusal_of result) old next state new → SamePages old new
     frees result k = then-same old k.freed new (ap (λ (s : Shelf). s.pages) k.slot_is) (close-ends-at k.place lane room saving.file (refusal_of result) k.freed next state new k.ends)
 
-close-removed : (again : Bool) (lane : ℕ) (removal : Removal) (mid : Shelf) (next : Next) (state : Closing) (new : Shelf) → closes.EndsIf again lane removal mid next state new → SamePages mid new
+close-removed : (again : Bool) (lane : ℕ) (removal : Removal) (mid : Shelf) (next : Step) (state : Closing) (new : Shelf) → closes.EndsIf again lane removal mid next state new → SamePages mid new
 close-removed true lane removal mid next state new e = kept-as mid mid new e.shelf_is refl
 close-removed false lane removal mid next state new e = ap (λ (s : Shelf). s.pages) e.others
 
-put-follows : (gives : _) (lane : ℕ) (saving : Saving) (old : Shelf) (next : Next) (state : Putting) (new : Shelf) → puts.Follows gives lane saving old next state new → SamePages old new
+put-follows : (gives : _) (lane : ℕ) (saving : Saving) (old : Shelf) (next : Step) (state : Putting) (new : Shelf) → puts.Follows gives lane saving old next state new → SamePages old new
 put-follows gives lane saving old next state new f = by-step
     (λ g. puts.Follows g lane saving old next state new → SamePages old new)
     (λ call l. kept-as old old new l.2 refl) (λ l. kept-as old old new l.2 refl)
     (λ result e. ap (λ (s : Shelf). s.pages) e.others) gives f
 
-put-queues : (b : Bool) (wsize lane : ℕ) (turn : Turn) (saving : Saving) (old : Shelf) (next : Next) (state : Putting) (new : Shelf)
+put-queues : (b : Bool) (wsize lane : ℕ) (turn : Turn) (saving : Saving) (old : Shelf) (next : Step) (state : Putting) (new : Shelf)
     → puts.QueuesIf b wsize lane turn saving old next state new → SamePages old new
 put-queues true wsize lane turn saving old next state new q =
     then-same old q.gone new (ap (λ (s : Shelf). s.pages) q.others) (put-follows q.gives lane q.saved q.gone next state new q.follows)
 put-queues false wsize lane turn saving old next state new q = kept-as old old new q.shelf_is refl
 
-after-write : (told : Next) (wsize lane : ℕ) (file : List ℕ) (turn : Turn) (old : Shelf) (next : Next) (state : Putting) (new : Shelf)
+after-write : (told : Step) (wsize lane : ℕ) (file : List ℕ) (turn : Turn) (old : Shelf) (next : Step) (state : Putting) (new : Shelf)
     → puts.AfterWrite told wsize lane file turn old next state new → SamePages old new
 after-write (nexts.Send call) wsize lane file turn old next state new a = kept-as old old new a.2 refl
 after-write nexts.Wait wsize lane file turn old next state new a = kept-as old old new a.2 refl
@@ -105,17 +105,17 @@ module _ (came : Result Reply Fault) (sent turn : Turn) (old : Shelf) where
       by true is = some-flies (saves.is_sending s.phase) s.file none is
       by false is = refl
 
-  pub write-none : (at : Writing) (wsize : ℕ) (m : WriteFile) (next : Next) (new : Writing) (after : Shelf) → flies_write at ≡ None → writes.TakesIn at wsize m sent turn came old next new after
+  pub write-none : (at : Writing) (wsize : ℕ) (m : WriteFile) (next : Step) (new : Writing) (after : Shelf) → flies_write at ≡ None → writes.TakesIn at wsize m sent turn came old next new after
       → SamePages old after
   write-none writing.Idle wsize m next new after none p = kept-as old old after p.shelf_is refl
   write-none (writing.Room file s) wsize m next new after none p = write-follows p.told wsize m file p.saved turn _ next new after p.follows ∙ none-saved s none
 
-  pub sync-none : (at : Syncing) (wsize : ℕ) (m : SyncFile) (next : Next) (new : Syncing) (after : Shelf) → flies_sync at ≡ None → syncs.Takes at wsize m sent turn came old next new after
+  pub sync-none : (at : Syncing) (wsize : ℕ) (m : SyncFile) (next : Step) (new : Syncing) (after : Shelf) → flies_sync at ≡ None → syncs.Takes at wsize m sent turn came old next new after
       → SamePages old after
   sync-none syncing.Idle wsize m next new after none p = kept-as old old after p.shelf_is refl
   sync-none (syncing.Saves s) wsize m next new after none p = p.pages ∙ none-saved s none
 
-  pub close-none : (at : Closing) (wsize : ℕ) (m : CloseFile) (next : Next) (state : Closing) (after : Shelf) → flies_close at ≡ None → closes.Takes at wsize m sent turn came old next state after
+  pub close-none : (at : Closing) (wsize : ℕ) (m : CloseFile) (next : Step) (state : Closing) (after : Shelf) → flies_close at ≡ None → closes.Takes at wsize m sent turn came old next state after
       → SamePages old after
   close-none closing.Idle wsize m next state after none p = kept-as old old after p.shelf_is refl
   close-none (closing.Queued s) wsize m next state after none p = kept-as old old after p.shelf_is refl
@@ -124,7 +124,7 @@ module _ (came : Result Reply Fault) (sent turn : Turn) (old : Shelf) where
   close-none (closing.Removing removal) wsize m next state after none p =
       close-removed (goes_again (remove_busy came) sent turn old.repeats) m.lane removal p.took next state after p.ends ∙ ap (λ (s : Shelf). s.pages) p.others
 
-  pub put-none : (at : Putting) (wsize : ℕ) (m : PutFile) (next : Next) (new : PutFile) (after : Shelf) → StateSaves at → flies_put at m.write.state ≡ None
+  pub put-none : (at : Putting) (wsize : ℕ) (m : PutFile) (next : Step) (new : PutFile) (after : Shelf) → StateSaves at → flies_put at m.write.state ≡ None
       → puts.Takes at wsize m sent turn came old next new after → SamePages old after
   put-none putting.Idle wsize m next new after own none p = absurd own
   put-none putting.Opens wsize m next new after own none p = absurd own

@@ -1,5 +1,5 @@
 -- Operations that make bytes stable or set a size, as any operation: what their steps lead to, and what becomes of the kept pages.
-use Rattle.core_counts.proofs.Prelude.{◌≡◌, ◌≤◌, ◌-◌, ℕ, Bool, true, false, List, [], Option, Some, None, Result, Ok, Err, refl, sym, ap, subst, ◌∙◌, Stamp, Wcc, FileCall, Pages, Answer, Fault, Call, Reply, Next, Shelf, Turn, PutFile, Truncating, FileMachine, Machine, Opener, PathMachine, file_of, Starts, Resumes, Takes, flies_file, flies_path, flies_of, ThenOf, written_file, kept-as}
+use Rattle.core_counts.proofs.Prelude.{◌≡◌, ◌≤◌, ◌-◌, ℕ, Bool, true, false, List, [], Option, Some, None, Result, Ok, Err, refl, sym, ap, subst, ◌∙◌, Stamp, Wcc, FileCall, Pages, Answer, Fault, Call, Reply, Step, Shelf, Turn, PutFile, Truncating, FileMachine, Machine, Opener, PathMachine, file_of, Starts, Resumes, Takes, flies_file, flies_path, flies_of, ThenOf, written_file, kept-as}
 use Rattle.core_answers.specs.writes.Alone.{write_in}
 use Rattle.core_answers.proofs.pages.NamePages.{SamePages}
 use Rattle.nfs_file_calls.specs.declared.call.FileCall.TheVariants as file_calls
@@ -7,7 +7,7 @@ use Rattle.world_model.specs.declared.message.Call.TheVariants as calls
 use Rattle.claims.specs.Thrifty.{ChangesFile}
 use Rattle.claims.specs.Thrifty as thrifty
 use Rattle.client_shelf.specs.Unmade.{came_unmade}
-use Rattle.client_shelf.specs.declared.next.Next.TheVariants as nexts
+use Rattle.client_shelf.specs.declared.step.Step.TheVariants as nexts
 use Rattle.file_ops.specs.declared.truncate_file.TruncateFile.{TruncateFile}
 use Rattle.file_ops.specs.declared.truncate_file.Truncating.TheVariants as truncating
 use Rattle.file_ops.specs.Saves as saves
@@ -63,7 +63,7 @@ cuts_of (machines.Name m) = None
 
 -- ---- what a step leads to
 
-pub then-map : {S T : Type 0} → (P : S → Type 0) (Q : T → Type 0) (A : Answer → Type 0) (next : Next) (s : S) (t : T) → (P s → Q t) → ThenOf P A next s → ThenOf Q A next t
+pub then-map : {S T : Type 0} → (P : S → Type 0) (Q : T → Type 0) (A : Answer → Type 0) (next : Step) (s : S) (t : T) → (P s → Q t) → ThenOf P A next s → ThenOf Q A next t
 then-map P Q A (nexts.Send call) s t f k = f k
 then-map P Q A nexts.Wait s t f k = f k
 then-map P Q A (nexts.Done answer) s t f k = k
@@ -78,20 +78,20 @@ Stores (files.Close m) = Unit {0}
 Stores (files.Truncate m) = Unit {0}
 Stores (files.Put m) = ⊥
 
-abbrev pub FileStays : Next → FileMachine → Type 0
+abbrev pub FileStays : Step → FileMachine → Type 0
 FileStays next new = ThenOf SavesFile (λ answer. Unit {0}) next new
 
-abbrev pub AllStays : Next → Machine → Type 0
+abbrev pub AllStays : Step → Machine → Type 0
 AllStays next new = ThenOf IsSaver (λ answer. Unit {0}) next new
 
 -- It stays what it is until it is answered.
-one-stays : (next : Next) (to new : FileMachine) → new ≡ to → SavesFile to → FileStays next new
+one-stays : (next : Step) (to new : FileMachine) → new ≡ to → SavesFile to → FileStays next new
 one-stays next to new is own = stays-any SavesFile next new (subst SavesFile (sym is) own)
 
-put-stays : (next : Next) (put : PutFile) (new : FileMachine) → new ≡ files.Put put → PutStays next put → FileStays next new
+put-stays : (next : Step) (put : PutFile) (new : FileMachine) → new ≡ files.Put put → PutStays next put → FileStays next new
 put-stays next put new is k = subst (FileStays next) (sym is) (then-map PutSaves SavesFile (λ answer. Unit {0}) next put (files.Put put) (λ z. z) k)
 
-file-starts : (k : FileMachine) (wsize : ℕ) (turn : Turn) (old : Shelf) (next : Next) (new : FileMachine) (after : Shelf) → Stores k → steps.Starts wsize k turn old next new after
+file-starts : (k : FileMachine) (wsize : ℕ) (turn : Turn) (old : Shelf) (next : Step) (new : FileMachine) (after : Shelf) → Stores k → steps.Starts wsize k turn old next new after
     → FileStays next new
 file-starts (files.Open m) wsize turn old next new after own s = absurd own
 file-starts (files.Read m) wsize turn old next new after own s = absurd own
@@ -101,7 +101,7 @@ file-starts (files.Close m) wsize turn old next new after own s = one-stays next
 file-starts (files.Truncate m) wsize turn old next new after own s = one-stays next _ new s.machine_is tt
 file-starts (files.Put m) wsize turn old next new after own s = absurd own
 
-file-resumes : (k : FileMachine) (wsize : ℕ) (turn : Turn) (old : Shelf) (next : Next) (new : FileMachine) (after : Shelf) → SavesFile k → steps.Resumes wsize k turn old next new after
+file-resumes : (k : FileMachine) (wsize : ℕ) (turn : Turn) (old : Shelf) (next : Step) (new : FileMachine) (after : Shelf) → SavesFile k → steps.Resumes wsize k turn old next new after
     → FileStays next new
 file-resumes (files.Open m) wsize turn old next new after own s = absurd own
 file-resumes (files.Read m) wsize turn old next new after own s = absurd own
@@ -111,7 +111,7 @@ file-resumes (files.Close m) wsize turn old next new after own s = one-stays nex
 file-resumes (files.Truncate m) wsize turn old next new after own s = one-stays next _ new s.machine_is tt
 file-resumes (files.Put m) wsize turn old next new after own s = put-stays next s.machine new s.machine_is (put-resumes m.state wsize m turn old next s.machine after own s.step)
 
-file-takes : (k : FileMachine) (wsize : ℕ) (sent turn : Turn) (came : Result Reply Fault) (old : Shelf) (next : Next) (new : FileMachine) (after : Shelf) → SavesFile k
+file-takes : (k : FileMachine) (wsize : ℕ) (sent turn : Turn) (came : Result Reply Fault) (old : Shelf) (next : Step) (new : FileMachine) (after : Shelf) → SavesFile k
     → steps.Takes wsize k sent turn came old next new after → FileStays next new
 file-takes (files.Open m) wsize sent turn came old next new after own s = absurd own
 file-takes (files.Read m) wsize sent turn came old next new after own s = absurd own
@@ -124,37 +124,37 @@ file-takes (files.Put m) wsize sent turn came old next new after own s =
 
 -- ---- as any operation
 
-as-file : (next : Next) (m : FileMachine) (new : Machine) → new ≡ machines.File m → FileStays next m → AllStays next new
+as-file : (next : Step) (m : FileMachine) (new : Machine) → new ≡ machines.File m → FileStays next m → AllStays next new
 as-file next m new is k = subst (AllStays next) (sym is) (then-map SavesFile IsSaver (λ answer. Unit {0}) next m (machines.File m) (λ z. z) k)
 
-pub as-path : (m : PathMachine) (o : Opener) (next : Next) (p : PathMachine) (new : Machine) → m.arrived ≡ true → new ≡ machines.Path p → p ≡ record m { opener = o }
+pub as-path : (m : PathMachine) (o : Opener) (next : Step) (p : PathMachine) (new : Machine) → m.arrived ≡ true → new ≡ machines.Path p → p ≡ record m { opener = o }
     → FileStays next (file_of o) → AllStays next new
 as-path m o next p new there is at k =
     subst (AllStays next) (sym is) (subst (λ (q : PathMachine). AllStays next (machines.Path q)) (sym at)
     (then-map SavesFile IsSaver (λ answer. Unit {0}) next (file_of o) (machines.Path (record m { opener = o })) (λ z. subst (λ (b : Bool). SavesPath b o) (sym there) z) k))
 
-pub saver-starts : (k : FileMachine) (wsize : ℕ) (turn : Turn) (old : Shelf) (next : Next) (new : Machine) (after : Shelf) → Stores k → Starts wsize (machines.File k) turn old next new after
+pub saver-starts : (k : FileMachine) (wsize : ℕ) (turn : Turn) (old : Shelf) (next : Step) (new : Machine) (after : Shelf) → Stores k → Starts wsize (machines.File k) turn old next new after
     → AllStays next new
 saver-starts k wsize turn old next new after own s = as-file next s.machine new s.machine_is (file-starts k wsize turn old next s.machine after own s.step)
 
-path-resumes : (b : Bool) (wsize : ℕ) (m : PathMachine) (turn : Turn) (old : Shelf) (next : Next) (p : PathMachine) (new : Machine) (after : Shelf) → m.arrived ≡ b → SavesPath b m.opener
+path-resumes : (b : Bool) (wsize : ℕ) (m : PathMachine) (turn : Turn) (old : Shelf) (next : Step) (p : PathMachine) (new : Machine) (after : Shelf) → m.arrived ≡ b → SavesPath b m.opener
     → new ≡ machines.Path p → paths.PathResumes b wsize m turn old next p after → AllStays next new
 path-resumes false wsize m turn old next p new after there own is r = absurd own
 path-resumes true wsize m turn old next p new after there own is r =
     as-path m r.opener next p new there is r.machine_is (file-resumes (file_of m.opener) wsize turn old next (file_of r.opener) after own r.step)
 
-pub saver-resumes : (m : Machine) (wsize : ℕ) (turn : Turn) (old : Shelf) (next : Next) (new : Machine) (after : Shelf) → IsSaver m → Resumes wsize m turn old next new after → AllStays next new
+pub saver-resumes : (m : Machine) (wsize : ℕ) (turn : Turn) (old : Shelf) (next : Step) (new : Machine) (after : Shelf) → IsSaver m → Resumes wsize m turn old next new after → AllStays next new
 saver-resumes (machines.File m) wsize turn old next new after own s = as-file next s.machine new s.machine_is (file-resumes m wsize turn old next s.machine after own s.step)
 saver-resumes (machines.Path m) wsize turn old next new after own s = path-resumes m.arrived wsize m turn old next s.machine new after refl own s.machine_is s.step
 saver-resumes (machines.Name m) wsize turn old next new after own s = absurd own
 
-path-takes : (b : Bool) (wsize : ℕ) (m : PathMachine) (sent turn : Turn) (came : Result Reply Fault) (old : Shelf) (next : Next) (p : PathMachine) (new : Machine) (after : Shelf)
+path-takes : (b : Bool) (wsize : ℕ) (m : PathMachine) (sent turn : Turn) (came : Result Reply Fault) (old : Shelf) (next : Step) (p : PathMachine) (new : Machine) (after : Shelf)
     → m.arrived ≡ b → SavesPath b m.opener → new ≡ machines.Path p → paths.PathTakes b wsize m sent turn came old next p after → AllStays next new
 path-takes false wsize m sent turn came old next p new after there own is t = absurd own
 path-takes true wsize m sent turn came old next p new after there own is t =
     as-path m t.opener next p new there is t.machine_is (file-takes (file_of m.opener) wsize sent turn came old next (file_of t.opener) after own t.step)
 
-pub saver-takes : (m : Machine) (wsize : ℕ) (sent turn : Turn) (came : Result Reply Fault) (old : Shelf) (next : Next) (new : Machine) (after : Shelf) → IsSaver m
+pub saver-takes : (m : Machine) (wsize : ℕ) (sent turn : Turn) (came : Result Reply Fault) (old : Shelf) (next : Step) (new : Machine) (after : Shelf) → IsSaver m
     → Takes wsize m sent turn came old next new after → AllStays next new
 saver-takes (machines.File m) wsize sent turn came old next new after own s = as-file next s.machine new s.machine_is (file-takes m wsize sent turn came old next s.machine after own s.step)
 saver-takes (machines.Path m) wsize sent turn came old next new after own s = path-takes m.arrived wsize m sent turn came old next s.machine new after refl own s.machine_is s.step
@@ -242,7 +242,7 @@ module _ (M : List ℕ → ℕ → Type 0) (P : List ℕ → Stamp → ℕ → T
   truncate-pages (truncating.Asked file upto) m attrs back after off is =
       subst T (sym (ap (λ (s : Shelf). s.pages) is)) (cut-pages (came_unmade came) refl file m.size (off file refl))
 
-  file-none : (m : FileMachine) (wsize : ℕ) (next : Next) (new : FileMachine) (after : Shelf) → SavesFile m → flies_file m ≡ None → ((g : List ℕ) → cuts_file m ≡ Some g → OffIfMade g)
+  file-none : (m : FileMachine) (wsize : ℕ) (next : Step) (new : FileMachine) (after : Shelf) → SavesFile m → flies_file m ≡ None → ((g : List ℕ) → cuts_file m ≡ Some g → OffIfMade g)
       → steps.Takes wsize m sent turn came old next new after → T after.pages
   file-none (files.Open m) wsize next new after own none off t = absurd own
   file-none (files.Read m) wsize next new after own none off t = absurd own
@@ -256,19 +256,19 @@ module _ (M : List ℕ → ℕ → Type 0) (P : List ℕ → Stamp → ℕ → T
   none-opener (openers.Open m) g is = none-cuts g is
   none-opener (openers.Put m) g is = none-cuts g is
 
-  path-none : (b_ : Bool) (m : PathMachine) (wsize : ℕ) (next : Next) (new : PathMachine) (after : Shelf) → SavesPath b_ m.opener → flies_path b_ m.opener ≡ None
+  path-none : (b_ : Bool) (m : PathMachine) (wsize : ℕ) (next : Step) (new : PathMachine) (after : Shelf) → SavesPath b_ m.opener → flies_path b_ m.opener ≡ None
       → paths.PathTakes b_ wsize m sent turn came old next new after → T after.pages
   path-none false m wsize next new after own none t = absurd own
   path-none true m wsize next new after own none t = file-none (file_of m.opener) wsize next (file_of t.opener) after own none (none-opener m.opener) t.step
 
-  none-pages : (m : Machine) (wsize : ℕ) (next : Next) (new : Machine) (after : Shelf) → IsSaver m → flies_of m ≡ None → ((g : List ℕ) → cuts_of m ≡ Some g → OffIfMade g)
+  none-pages : (m : Machine) (wsize : ℕ) (next : Step) (new : Machine) (after : Shelf) → IsSaver m → flies_of m ≡ None → ((g : List ℕ) → cuts_of m ≡ Some g → OffIfMade g)
       → Takes wsize m sent turn came old next new after → T after.pages
   none-pages (machines.File m) wsize next new after own none off t = file-none m wsize next t.machine after own none off t.step
   none-pages (machines.Path m) wsize next new after own none off t = path-none m.arrived m wsize next t.machine after own none t.step
   none-pages (machines.Name m) wsize next new after own none off t = absurd own
 
   -- Those that are followed stay, where no WRITE of their file is answered and no size of it is set.
-  pub saver-pages : (m : Machine) (wsize : ℕ) (next : Next) (new : Machine) (after : Shelf) → IsSaver m → ((g : List ℕ) → flies_of m ≡ Some g → OffIfMade g) → ((g : List ℕ) → cuts_of m ≡ Some g → OffIfMade g)
+  pub saver-pages : (m : Machine) (wsize : ℕ) (next : Step) (new : Machine) (after : Shelf) → IsSaver m → ((g : List ℕ) → flies_of m ≡ Some g → OffIfMade g) → ((g : List ℕ) → cuts_of m ≡ Some g → OffIfMade g)
       → Takes wsize m sent turn came old next new after → T after.pages
   saver-pages m wsize next new after own flies cuts t = by (flies_of m) refl
     where

@@ -1,10 +1,10 @@
 -- Along a session of one lane pages that are followed stay, from where they were given.
-use Rattle.core_counts.proofs.Prelude.{◌≡◌, ◌<◌, ◌≤◌, ◌+◌, ◌⊎◌, inl, inr, ℕ, Bool, true, false, nat_eq, List, [], ◌∷◌, ◌++◌, length, Option, Some, None, slice_get, refl, sym, ap, subst, ◌∙◌, arith, append_assoc, eqb-true, eqb-false, cases_lt, All-nil, Attr, Stamp, stamp_of, Waiting, waiting_at, Pages, after_page, Answer, Entry, Began, Answered, Delivered, Call, Reply, Op, At, Heard, OneLane, At-grow, At-back, At-last, length_last, Next, Shelf, Mounted, Machine, machine_of, Starts, Lane, Purpose, Busy, Over, Setup, IsFresh, IsIdle, numbers_of, with_state, Stirs, counted, StartsLane, AnswersAt, View, turn_at, IsSetUp, Reaches, begins-unbegun, Known, lanes-under-way, idle-numbers, number_of, at-set, at-push, get-push, get-remove, skip, to-map, Rows, rows-stay, same-rows, silent-grow, ThenOf, set-other, SameCalls}
+use Rattle.core_counts.proofs.Prelude.{◌≡◌, ◌<◌, ◌≤◌, ◌+◌, ◌⊎◌, inl, inr, ℕ, Bool, true, false, nat_eq, List, [], ◌∷◌, ◌++◌, length, Option, Some, None, slice_get, refl, sym, ap, subst, ◌∙◌, arith, append_assoc, eqb-true, eqb-false, cases_lt, All-nil, Attr, Stamp, stamp_of, Waiting, waiting_at, Pages, after_page, Answer, Entry, Began, Answered, Delivered, Call, Reply, Op, At, Heard, OneLane, At-grow, At-back, At-last, length_last, Step, Shelf, Mounted, Machine, machine_of, Starts, Lane, Purpose, Busy, Over, Setup, IsFresh, IsIdle, numbers_of, with_state, Stirs, counted, StartsLane, AnswersAt, View, turn_at, IsSetUp, Reaches, begins-unbegun, Known, lanes-under-way, idle-numbers, number_of, at-set, at-push, get-push, get-remove, skip, to-map, Rows, rows-stay, same-rows, silent-grow, ThenOf, set-other, SameCalls}
 use Rattle.std.proofs.Common.{remove}
 use Rattle.claims.specs.Thrifty.{CameWithin, ChangesFile}
 use Rattle.core_facts.proofs.Lists.{skip-other}
 use Rattle.claims.specs.Shown.{ShowsAttr}
-use Rattle.client_shelf.specs.declared.next.Next.TheVariants as nexts
+use Rattle.client_shelf.specs.declared.step.Step.TheVariants as nexts
 use Rattle.core_facts.proofs.Owning.{reached-owned}
 use Rattle.core_session.proofs.current.FedMachines.{pages-starts, pages-resumes}
 use Rattle.core_counts.proofs.thrift.Calm.{Calm, Kind, quiet, putting, saver, Young, leads-calm}
@@ -125,7 +125,7 @@ module _ (m : Mounted) (setup : Setup) (q : Case m setup) where
 
   -- ---- steps of each kind
 
-  pub quiet-then : (b : ℕ) (v : View) → Young b v → (next : Next) (new : Machine) → ThenQuiet b next new → ThenOf (Kind b v) (λ answer. Unit {0}) next new
+  pub quiet-then : (b : ℕ) (v : View) → Young b v → (next : Step) (new : Machine) → ThenQuiet b next new → ThenOf (Kind b v) (λ answer. Unit {0}) next new
   quiet-then b v young (nexts.Send call) new k = quiet young k
   quiet-then b v young nexts.Wait new k = quiet young k
   quiet-then b v young (nexts.Done answer) new k = tt
@@ -134,13 +134,13 @@ module _ (m : Mounted) (setup : Setup) (q : Case m setup) where
   either b v young new (inl k) = putting young k
   either b v young new (inr k) = saver k
 
-  pub putting-then : (b : ℕ) (v : View) → Young b v → (next : Next) (new : Machine) → PutThen b next new
+  pub putting-then : (b : ℕ) (v : View) → Young b v → (next : Step) (new : Machine) → PutThen b next new
       → ThenOf (Kind b v) (λ answer. Unit {0}) next new
   putting-then b v young (nexts.Send call) new k = either b v young new k
   putting-then b v young nexts.Wait new k = either b v young new k
   putting-then b v young (nexts.Done answer) new k = tt
 
-  pub saver-then : (b : ℕ) (v : View) (next : Next) (new : Machine) → ThenOf IsSaver (λ answer. Unit {0}) next new → ThenOf (Kind b v) (λ answer. Unit {0}) next new
+  pub saver-then : (b : ℕ) (v : View) (next : Step) (new : Machine) → ThenOf IsSaver (λ answer. Unit {0}) next new → ThenOf (Kind b v) (λ answer. Unit {0}) next new
   saver-then b v (nexts.Send call) new k = saver k
   saver-then b v nexts.Wait new k = saver k
   saver-then b v (nexts.Done answer) new k = tt

@@ -1,5 +1,5 @@
 -- What an open, a read or an operation on names makes of the kept pages where its call was answered, and of its moment.
-use Rattle.core_counts.proofs.Prelude.{◌≡◌, ◌≤◌, ℕ, Bool, true, false, List, Option, Some, None, Result, Ok, Err, refl, sym, ap, subst, ◌∙◌, if◌then◌else◌, Attr, Stamp, Attrs, FileKept, Pages, known_of, after_page, Pending, Fault, Call, Reply, Next, Repeat, Shelf, Turn, WalkNext, Led, Opening, OpeningStep, OpeningNext, ReadFile, Phase, Reading, place_after, part, refusal, said_to, said_by, breaks_rule, got_by, FileMachine, Machine, NameMachine, Opener, PathMachine, file_of, Takes, kept-as, Both}
+use Rattle.core_counts.proofs.Prelude.{◌≡◌, ◌≤◌, ℕ, Bool, true, false, List, Option, Some, None, Result, Ok, Err, refl, sym, ap, subst, ◌∙◌, if◌then◌else◌, Attr, Stamp, Attrs, FileKept, Pages, known_of, after_page, Pending, Fault, Call, Reply, Step, Repeat, Shelf, Turn, WalkStep, Led, Opening, OpeningPhase, OpeningStep, ReadFile, Phase, Reading, place_after, part, refusal, said_to, said_by, breaks_rule, got_by, FileMachine, Machine, NameMachine, Opener, PathMachine, file_of, Takes, kept-as, Both}
 use Rattle.page_cache.specs.Pages.{opened}
 use Rattle.op_machines.specs.Openers.{placed}
 use Rattle.core_answers.proofs.pages.NamePages.{walk-takes-kept, name-takes-kept}
@@ -10,12 +10,12 @@ use Rattle.nfs_file_calls.specs.declared.owned.FileKept.TheVariants as kept
 use Rattle.world_model.specs.declared.answer.Fault.TheVariants as faults
 use Rattle.world_model.specs.declared.message.Call.TheVariants as calls
 use Rattle.world_model.specs.declared.message.Reply.TheVariants as replies
-use Rattle.name_ops.specs.declared.walk.WalkNext.TheVariants as walks
+use Rattle.name_ops.specs.declared.walk.WalkStep.TheVariants as walks
 use Rattle.name_ops.specs.Walking as walking
 use Rattle.file_ops.specs.declared.open_file.OpenFile.{OpenFile}
 use Rattle.file_ops.specs.declared.opening.Led.TheVariants as leads
-use Rattle.file_ops.specs.declared.opening.OpeningStep.TheVariants as opening_steps
-use Rattle.file_ops.specs.declared.opening.OpeningNext.TheVariants as openings
+use Rattle.file_ops.specs.declared.opening.OpeningPhase.TheVariants as opening_steps
+use Rattle.file_ops.specs.declared.opening.OpeningStep.TheVariants as openings
 use Rattle.file_ops.specs.declared.reading.Phase.TheVariants as phases
 use Rattle.file_ops.specs.Opening as opening
 use Rattle.file_ops.specs.PagesOpened.{opened_pages, PagesOpened}
@@ -65,12 +65,12 @@ module _ (T : Pages → Type 0) (shows : (file : List ℕ) (index : ℕ) (c : Pa
       as-pages (reading.gone room (reading.settled r c)).pages new.pages (ap (λ (s : reading.State). s.pages) is)
       (gone-pages T shows room (reading.settled r c) (settled-pages T shows r.phase r c t))
 
-  after-opened : (result : Result (Unit {0}) memory.Memory) (r : Reading) (c : Pages) (back : Pending) (next : Next) (new : reading.State)
+  after-opened : (result : Result (Unit {0}) memory.Memory) (r : Reading) (c : Pages) (back : Pending) (next : Step) (new : reading.State)
       → reading.AfterOpened result turn r c back next new → T c → T new.pages
   after-opened (Ok done) r c back next new a t = from-settled turn.room (record r { phase = phases.Pages }) c new a.1 t
   after-opened (Err no_memory) r c back next new a t = as-pages c new.pages (ap (λ (s : reading.State). s.pages) a.1) t
 
-  attrs-read : (told : Result Attr Fault) (again : Bool) (r : Reading) (c : Pages) (back : Pending) (next : Next) (new : reading.State) → r.moment ≤ b → got_by came ≡ told
+  attrs-read : (told : Result Attr Fault) (again : Bool) (r : Reading) (c : Pages) (back : Pending) (next : Step) (new : reading.State) → r.moment ≤ b → got_by came ≡ told
       → ((reply : Reply) → came ≡ Ok reply → IsOn r.file call) → reading.TakesAttrs again told sent turn r c back next new → T c → T new.pages
   attrs-read (Ok attr) again r c back next new low got on a t =
       after-opened a.result r a.later back next new a.goes (pages-opened a.result r.file attr r.moment c a.later low (got-is came attr got) (on (replies.File (kept.GetAttr attr)) (got-is came attr got)) a.opens t)
@@ -99,7 +99,7 @@ module _ (T : Pages → Type 0) (shows : (file : List ℕ) (index : ℕ) (c : Pa
   part-pages (Ok (replies.Mount k)) count r c is asked t = t
   part-pages (Err fault) count r c is asked t = t
 
-  heard-pages : (phase : Phase) (repeats : List Repeat) (r : Reading) (c : Pages) (back : Pending) (next : Next) (new : reading.State) → ((reply : Reply) → came ≡ Ok reply → PhaseAwaits phase r call)
+  heard-pages : (phase : Phase) (repeats : List Repeat) (r : Reading) (c : Pages) (back : Pending) (next : Step) (new : reading.State) → ((reply : Reply) → came ≡ Ok reply → PhaseAwaits phase r call)
       → reading.TakesPart (reading.heard phase came) sent turn repeats r c back next new → T c → T new.pages
   heard-pages phases.Attrs repeats r c back next new asked p t = as-pages c new.pages (ap (λ (s : reading.State). s.pages) p.1) t
   heard-pages phases.AskedAttrs repeats r c back next new asked p t = as-pages c new.pages (ap (λ (s : reading.State). s.pages) p.1) t
@@ -109,12 +109,12 @@ module _ (T : Pages → Type 0) (shows : (file : List ℕ) (index : ℕ) (c : Pa
       as-pages (reading.told sent turn (said_to count came) r c).pages new.pages (ap (λ (s : reading.State). s.pages) p.1) (part-pages came count r c refl asked t)
   heard-pages phases.Ended repeats r c back next new asked p t = as-pages c new.pages (ap (λ (s : reading.State). s.pages) p.1) t
 
-  takes-read : (waits : Bool) (repeats : List Repeat) (r : Reading) (c : Pages) (back : Pending) (next : Next) (new : reading.State) → r.moment ≤ b → ((reply : Reply) → came ≡ Ok reply → PhaseAwaits r.phase r call)
+  takes-read : (waits : Bool) (repeats : List Repeat) (r : Reading) (c : Pages) (back : Pending) (next : Step) (new : reading.State) → r.moment ≤ b → ((reply : Reply) → came ≡ Ok reply → PhaseAwaits r.phase r call)
       → ((reply : Reply) → came ≡ Ok reply → IsOn r.file call) → reading.TakesIf waits sent turn came repeats r c back next new → T c → T new.pages
   takes-read true repeats r c back next new low asked on p t = attrs-read (got_by came) _ r c back next new low refl on p t
   takes-read false repeats r c back next new low asked on p t = heard-pages r.phase repeats r c back next new asked p t
 
-  read-takes : (of : Option Reading) (repeats : List Repeat) (m : ReadFile) (c : Pages) (back : Pending) (next : Next) (new : ReadFile) (later : Pages) → ((r : Reading) → of ≡ Some r → r.moment ≤ b)
+  read-takes : (of : Option Reading) (repeats : List Repeat) (m : ReadFile) (c : Pages) (back : Pending) (next : Step) (new : ReadFile) (later : Pages) → ((r : Reading) → of ≡ Some r → r.moment ≤ b)
       → ((reply : Reply) → came ≡ Ok reply → ReadAwaits of call) → ((reply : Reply) → came ≡ Ok reply → ReadOn of call) → reads.TakesIn of sent turn came repeats m c back next new later → T c → T later
   read-takes None repeats m c back next new later low asked on p t = as-pages c later p.kept t
   read-takes (Some r) repeats m c back next new later low asked on p t =
@@ -127,9 +127,9 @@ module _ (T : Pages → Type 0) (shows : (file : List ℕ) (index : ℕ) (c : Pa
   file-opened (Err fault) file to old new f t u = as-pages old new f.2 u
 
   step-on : (o : Opening) (file : List ℕ) → OpeningOn o call → o.step ≡ opening_steps.Ask file → IsOn file call
-  step-on o file on is = subst (λ (s : OpeningStep). StepOn s o.dir call) is on
+  step-on o file on is = subst (λ (s : OpeningPhase). StepOn s o.dir call) is on
 
-  pub led-pages : (again : Bool) (o : Opening) (attrs : Attrs) (led : Led) (step : OpeningNext) (old new : Pages) → o.moment ≤ b → opening.led_on o turn.now came attrs old ≡ led
+  pub led-pages : (again : Bool) (o : Opening) (attrs : Attrs) (led : Led) (step : OpeningStep) (old new : Pages) → o.moment ≤ b → opening.led_on o turn.now came attrs old ≡ led
       → ((reply : Reply) → came ≡ Ok reply → OpeningOn o call) → opening.LedIf again o sent turn led step old new → T old → T new
   led-pages true o attrs led step old new low is on l t = as-pages old new l.1 t
   led-pages false o attrs (leads.Goes to) step old new low is on l t = as-pages old new l.1 t
@@ -146,20 +146,20 @@ module _ (T : Pages → Type 0) (shows : (file : List ℕ) (index : ℕ) (c : Pa
   led-pages false o attrs (leads.Knows file stamp) openings.Wait old new low is on l t = absurd l
   led-pages false o attrs (leads.Ends fault) step old new low is on l t = as-pages old new l.1 t
 
-  open-takes : (q : OpenFile) (old : Shelf) (next : Next) (new : FileMachine) (after : Shelf) → q.opening.moment ≤ b → ((reply : Reply) → came ≡ Ok reply → OpeningOn q.opening call)
+  open-takes : (q : OpenFile) (old : Shelf) (next : Step) (new : FileMachine) (after : Shelf) → q.opening.moment ≤ b → ((reply : Reply) → came ≡ Ok reply → OpeningOn q.opening call)
       → steps.OpenTakes q sent turn came old next new after → T old.pages → T after.pages
   open-takes q old next new after low on s t =
       led-pages (opening.opening_again q.opening sent turn came old.repeats) q.opening after.attrs (opening.led_on q.opening turn.now came after.attrs old.pages) s.steps.step old.pages
       after.pages low refl on s.steps.led t
 
-  pub follows-pages : (step : WalkNext) (wsize : ℕ) (m : PathMachine) (old : Shelf) (next : Next) (new : PathMachine) (after : Shelf)
+  pub follows-pages : (step : WalkStep) (wsize : ℕ) (m : PathMachine) (old : Shelf) (next : Step) (new : PathMachine) (after : Shelf)
       → paths.Follows step wsize m turn old next new after → T old.pages → T after.pages
   follows-pages (walks.Send other) wsize m old next new after f t = as-shelf T shows old after (kept-as old old after f.2 refl) t
   follows-pages walks.Wait wsize m old next new after f t = as-shelf T shows old after (kept-as old old after f.2 refl) t
   follows-pages (walks.At dir) wsize m old next new after f t = file-resumes T shows (file_of (placed dir m.opener)) wsize turn old next (file_of f.opener) after f.step t
   follows-pages (walks.Refused fault) wsize m old next new after f t = as-shelf T shows old after (kept-as old old after f.2 refl) t
 
-  path-takes : (arrived : Bool) (wsize : ℕ) (m : PathMachine) (q : OpenFile) (old : Shelf) (next : Next) (new : PathMachine) (after : Shelf) → m.opener ≡ openers.Open q → q.opening.moment ≤ b
+  path-takes : (arrived : Bool) (wsize : ℕ) (m : PathMachine) (q : OpenFile) (old : Shelf) (next : Step) (new : PathMachine) (after : Shelf) → m.opener ≡ openers.Open q → q.opening.moment ≤ b
       → ((reply : Reply) → came ≡ Ok reply → PathOn arrived m call) → paths.PathTakes arrived wsize m sent turn came old next new after → T old.pages → T after.pages
   path-takes true wsize m q old next new after opener low on p t =
       let asked : (reply : Reply) → came ≡ Ok reply → OpeningOn q.opening call = λ reply is. subst (λ (o : Opener). FileAsks (file_of o) call) opener (on reply is) in
@@ -173,7 +173,7 @@ module _ (T : Pages → Type 0) (shows : (file : List ℕ) (index : ℕ) (c : Pa
   some-reading : (a c : Reading) → Some a ≡ Some c → a ≡ c
   some-reading a c e = cc
 
-  pub quiet-takes : (machine : Machine) (wsize : ℕ) (old : Shelf) (next : Next) (new : Machine) (after : Shelf) → IsQuiet b machine → ((reply : Reply) → came ≡ Ok reply → Both machine call)
+  pub quiet-takes : (machine : Machine) (wsize : ℕ) (old : Shelf) (next : Step) (new : Machine) (after : Shelf) → IsQuiet b machine → ((reply : Reply) → came ≡ Ok reply → Both machine call)
       → Takes wsize machine sent turn came old next new after → T old.pages → T after.pages
   quiet-takes machine wsize old next new after (quiet_open nocto k low o) on t had =
       let s : Takes wsize (machines.Path o.m) sent turn came old next new after = subst (λ (z : Machine). Takes wsize z sent turn came old next new after) o.is t in

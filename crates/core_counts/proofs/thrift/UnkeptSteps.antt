@@ -1,5 +1,5 @@
 -- A read, step by step: the READ that it asks for meets no page that is kept.
-use Rattle.core_counts.proofs.Prelude.{◌≡◌, ◌<◌, ◌≤◌, ◌+◌, ◌-◌, ◌/◌, ◌%◌, ◌&&◌, ◌||◌, ◌==◌, inl, inr, not, ℕ, zero, suc, Bool, true, false, nat_eq, List, length, take, Option, Some, None, Result, Ok, Err, refl, sym, ap, subst, ◌∙◌, arith, if◌then◌else◌, nat_tests, length-take, All-weaker, Attr, Mode, FileKept, Opened, Pages, page_of, known_of, after_page, Pending, Fault, Reply, MeetsPage, Next, Repeat, Turn, Found, ReadFile, Phase, Reading, Bytes, place_after, with_more, next_page, part, refusal, said_to, said_by, breaks_rule, got_by}
+use Rattle.core_counts.proofs.Prelude.{◌≡◌, ◌<◌, ◌≤◌, ◌+◌, ◌-◌, ◌/◌, ◌%◌, ◌&&◌, ◌||◌, ◌==◌, inl, inr, not, ℕ, zero, suc, Bool, true, false, nat_eq, List, length, take, Option, Some, None, Result, Ok, Err, refl, sym, ap, subst, ◌∙◌, arith, if◌then◌else◌, nat_tests, length-take, All-weaker, Attr, Mode, FileKept, Opened, Pages, page_of, known_of, after_page, Pending, Fault, Reply, MeetsPage, Step, Repeat, Turn, Found, ReadFile, Phase, Reading, Bytes, place_after, with_more, next_page, part, refusal, said_to, said_by, breaks_rule, got_by}
 use Rattle.std.proofs.Common.{nat_lt}
 use Rattle.std.proofs.lemmas.List.{length-append}
 use Rattle.file_ops.specs.Base.{is_whole}
@@ -246,7 +246,7 @@ module _ (sent turn : Turn) (r : Reading) (c : Pages) (k : IsUnkept r c) where
   said-unkept (Ok (replies.Mount f)) n is = k
   said-unkept (Err fault) n is = k
 
-  heard-unkept : (p : Phase) (came : Result Reply Fault) (repeats : List Repeat) (back : Pending) (next : Next) (new : reading.State) → r.phase ≡ p
+  heard-unkept : (p : Phase) (came : Result Reply Fault) (repeats : List Repeat) (back : Pending) (next : Step) (new : reading.State) → r.phase ≡ p
       → reading.TakesPart (reading.heard p came) sent turn repeats r c back next new → StateUnkept new
   heard-unkept phases.Attrs came repeats back next new is t = state-as (record { reading = r; pages = c }) new t.1 k
   heard-unkept phases.AskedAttrs came repeats back next new is t = state-as (record { reading = r; pages = c }) new t.1 k
@@ -255,14 +255,14 @@ module _ (sent turn : Turn) (r : Reading) (c : Pages) (k : IsUnkept r c) where
   heard-unkept (phases.Asked n) came repeats back next new is t = state-as (reading.told sent turn (said_to n came) r c) new t.1 (said-unkept came n is)
   heard-unkept phases.Ended came repeats back next new is t = state-as (record { reading = r; pages = c }) new t.1 k
 
-  opened-unkept : (result : Result (Unit {0}) memory.Memory) (later : Pages) (back : Pending) (next : Next) (new : reading.State) → ((lacks : memory.Memory) → result ≡ Err lacks → later ≡ c)
+  opened-unkept : (result : Result (Unit {0}) memory.Memory) (later : Pages) (back : Pending) (next : Step) (new : reading.State) → ((lacks : memory.Memory) → result ≡ Err lacks → later ≡ c)
       → reading.AfterOpened result turn r later back next new → StateUnkept new
   opened-unkept (Ok done) later back next new same a =
       state-as (reading.gone turn.room (reading.settled (record r { phase = phases.Pages }) later)) new a.1
       (goes-unkept turn.room (record r { phase = phases.Pages }) later (record { at_page = k.at_page; phase = tt }))
   opened-unkept (Err lacks) later back next new same a = state-as (record { reading = r; pages = later }) new a.1 (subst (IsUnkept r) (sym (same lacks refl)) k)
 
-  attrs-unkept : (what : Result Attr Fault) (again : Bool) (back : Pending) (next : Next) (new : reading.State) → reading.TakesAttrs again what sent turn r c back next new → StateUnkept new
+  attrs-unkept : (what : Result Attr Fault) (again : Bool) (back : Pending) (next : Step) (new : reading.State) → reading.TakesAttrs again what sent turn r c back next new → StateUnkept new
   attrs-unkept (Ok attr) again back next new a = opened-unkept a.result a.later back next new (λ lacks is. none-opened a.result lacks is a.opens) a.goes
     where
       none-opened : (result : Result (Unit {0}) memory.Memory) (lacks : memory.Memory) → result ≡ Err lacks → PagesOpened r.file attr r.moment sent turn result c a.later → a.later ≡ c
@@ -270,7 +270,7 @@ module _ (sent turn : Turn) (r : Reading) (c : Pages) (k : IsUnkept r c) where
       none-opened (Err no_memory) lacks is o = o.1
   attrs-unkept (Err fault) again back next new a = state-as (record { reading = r; pages = c }) new a.1 k
 
-  takes-unkept : (waits : Bool) (came : Result Reply Fault) (repeats : List Repeat) (back : Pending) (next : Next) (new : reading.State)
+  takes-unkept : (waits : Bool) (came : Result Reply Fault) (repeats : List Repeat) (back : Pending) (next : Step) (new : reading.State)
       → reading.TakesIf waits sent turn came repeats r c back next new → StateUnkept new
   takes-unkept true came repeats back next new t = attrs-unkept (got_by came) _ back next new t
   takes-unkept false came repeats back next new t = heard-unkept r.phase came repeats back next new refl t
@@ -284,14 +284,14 @@ UnkeptIn (Some r) c = IsUnkept r c
 in-as : (to new : Option Reading) (was c : Pages) → new ≡ to → c ≡ was → UnkeptIn to was → UnkeptIn new c
 in-as to new was c is same k = subst (λ (o : Option Reading). UnkeptIn o c) (sym is) (subst (UnkeptIn to) (sym same) k)
 
-pub resumes-in : (of : Option Reading) (room : Bool) (m : ReadFile) (c : Pages) (back : Pending) (next : Next) (new : ReadFile) (later : Pages) → m.reading ≡ of → UnkeptIn m.reading c
+pub resumes-in : (of : Option Reading) (room : Bool) (m : ReadFile) (c : Pages) (back : Pending) (next : Step) (new : ReadFile) (later : Pages) → m.reading ≡ of → UnkeptIn m.reading c
     → reads.ResumesIn of room m c back next new later → UnkeptIn new.reading later
 resumes-in None room m c back next new later is k s = in-as m.reading new.reading c later (ap (λ (q : ReadFile). q.reading) s.machine) s.kept k
 resumes-in (Some r) room m c back next new later is k s =
     let to = reading.gone room (reading.settled r c) in
     in-as (Some to.reading) new.reading to.pages later (ap (λ (q : ReadFile). q.reading) s.machine) s.kept (goes-unkept room r c (subst (λ (o : Option Reading). UnkeptIn o c) is k))
 
-pub takes-in : (of : Option Reading) (sent turn : Turn) (came : Result Reply Fault) (repeats : List Repeat) (m : ReadFile) (c : Pages) (back : Pending) (next : Next) (new : ReadFile) (later : Pages)
+pub takes-in : (of : Option Reading) (sent turn : Turn) (came : Result Reply Fault) (repeats : List Repeat) (m : ReadFile) (c : Pages) (back : Pending) (next : Step) (new : ReadFile) (later : Pages)
     → m.reading ≡ of → UnkeptIn m.reading c → reads.TakesIn of sent turn came repeats m c back next new later → UnkeptIn new.reading later
 takes-in None sent turn came repeats m c back next new later is k t = in-as m.reading new.reading c later (ap (λ (q : ReadFile). q.reading) t.machine) t.kept k
 takes-in (Some r) sent turn came repeats m c back next new later is k t =
@@ -330,13 +330,13 @@ begins-at : (o : Option Opened) (moment : ℕ) (m : ReadFile) (back : Pending) (
 begins-at None moment m back result c b = ok-as (Err faults.Slot) result c b tt
 begins-at (Some o) moment m back result c b = begins-in o.mode moment m o.file back result c b
 
-starts-with : (result : Result Reading Fault) (room : Bool) (m : ReadFile) (c : Pages) (back : Pending) (next : Next) (new : ReadFile) (later : Pages) → m.reading ≡ None → OkUnkept result c
+starts-with : (result : Result Reading Fault) (room : Bool) (m : ReadFile) (c : Pages) (back : Pending) (next : Step) (new : ReadFile) (later : Pages) → m.reading ≡ None → OkUnkept result c
     → reads.StartsWith result room m c back next new later → UnkeptIn new.reading later
 starts-with (Err fault) room m c back next new later none k s = in-as None new.reading c later (ap (λ (q : ReadFile). q.reading) s.machine ∙ none) s.kept tt
 starts-with (Ok r) room m c back next new later none k s =
     let to = reading.gone room (reading.settled r c) in
     in-as (Some to.reading) new.reading to.pages later (ap (λ (q : ReadFile). q.reading) s.machine) s.kept (goes-unkept room r c k)
 
-pub starts-in : (o : Option Opened) (turn : Turn) (m : ReadFile) (c : Pages) (back : Pending) (next : Next) (new : ReadFile) (later : Pages) → m.reading ≡ None
+pub starts-in : (o : Option Opened) (turn : Turn) (m : ReadFile) (c : Pages) (back : Pending) (next : Step) (new : ReadFile) (later : Pages) → m.reading ≡ None
     → reads.Starts o turn m c back next new later → UnkeptIn new.reading later
 starts-in o turn m c back next new later none s = starts-with s.reading turn.room m c back next new later none (begins-at o (turn.moment - 1) m back s.reading c s.begins) s.goes

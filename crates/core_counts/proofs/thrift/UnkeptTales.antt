@@ -1,7 +1,7 @@
 -- Where all operations are of one lane, the READ for which a read waits meets no page that is kept.
-use Rattle.core_counts.proofs.Prelude.{◌≡◌, ◌⊎◌, inl, inr, ℕ, Bool, true, false, nat_eq, List, [], ◌∷◌, ◌++◌, length, Some, None, slice_get, slice_set, Result, Err, refl, sym, ap, subst, ◌∙◌, eqb-true, eqb-false, Pages, Answer, Fault, Entry, Began, Reply, Op, OneLane, At-grow, At-last, Next, Shelf, Turn, ReadFile, Mounted, FileMachine, Machine, machine_of, Starts, Resumes, Takes, Lane, State, Busy, Over, Setup, IsIdle, numbers_of, counted, IsRefused, View, turn_at, Reaches, begins-unbegun, taken_one, Known, lanes-under-way, idle-numbers, number_of, at-set, get-push, get-remove, skip, to-map, set-other}
+use Rattle.core_counts.proofs.Prelude.{◌≡◌, ◌⊎◌, inl, inr, ℕ, Bool, true, false, nat_eq, List, [], ◌∷◌, ◌++◌, length, Some, None, slice_get, slice_set, Result, Err, refl, sym, ap, subst, ◌∙◌, eqb-true, eqb-false, Pages, Answer, Fault, Entry, Began, Reply, Op, OneLane, At-grow, At-last, Step, Shelf, Turn, ReadFile, Mounted, FileMachine, Machine, machine_of, Starts, Resumes, Takes, Lane, State, Busy, Over, Setup, IsIdle, numbers_of, counted, IsRefused, View, turn_at, Reaches, begins-unbegun, taken_one, Known, lanes-under-way, idle-numbers, number_of, at-set, get-push, get-remove, skip, to-map, set-other}
 use Rattle.world_model.specs.declared.op.Op.TheVariants as ops
-use Rattle.client_shelf.specs.declared.next.Next.TheVariants as nexts
+use Rattle.client_shelf.specs.declared.step.Step.TheVariants as nexts
 use Rattle.op_machines.specs.declared.file_machine.FileMachine.TheVariants as files
 use Rattle.op_machines.specs.declared.machine.Machine.TheVariants as machines
 use Rattle.op_machines.specs.FileSteps as steps
@@ -35,7 +35,7 @@ machine-as to new c is k = subst (λ (m : Machine). MachineUnkept m c) (sym is) 
 abbrev NoneYet : Machine → Type 0
 NoneYet m = (k : ReadFile) → m ≡ machines.File (files.Read k) → k.reading ≡ None
 
-file-starts : (m : FileMachine) (wsize : ℕ) (turn : Turn) (old : Shelf) (next : Next) (new : FileMachine) (after : Shelf) → NoneYet (machines.File m) → steps.Starts wsize m turn old next new after
+file-starts : (m : FileMachine) (wsize : ℕ) (turn : Turn) (old : Shelf) (next : Step) (new : FileMachine) (after : Shelf) → NoneYet (machines.File m) → steps.Starts wsize m turn old next new after
     → FileUnkept new after.pages
 file-starts (files.Open m) wsize turn old next new after none s = file-as (files.Open _) new after.pages s.machine_is tt
 file-starts (files.Read m) wsize turn old next new after none s =
@@ -46,7 +46,7 @@ file-starts (files.Close m) wsize turn old next new after none s = file-as (file
 file-starts (files.Truncate m) wsize turn old next new after none s = file-as (files.Truncate _) new after.pages s.machine_is tt
 file-starts (files.Put m) wsize turn old next new after none s = file-as (files.Put _) new after.pages s.machine_is tt
 
-file-resumes : (m : FileMachine) (wsize : ℕ) (turn : Turn) (old : Shelf) (next : Next) (new : FileMachine) (after : Shelf) → FileUnkept m old.pages → steps.Resumes wsize m turn old next new after
+file-resumes : (m : FileMachine) (wsize : ℕ) (turn : Turn) (old : Shelf) (next : Step) (new : FileMachine) (after : Shelf) → FileUnkept m old.pages → steps.Resumes wsize m turn old next new after
     → FileUnkept new after.pages
 file-resumes (files.Open m) wsize turn old next new after k s = file-as (files.Open _) new after.pages s.machine_is tt
 file-resumes (files.Read m) wsize turn old next new after k s =
@@ -57,7 +57,7 @@ file-resumes (files.Close m) wsize turn old next new after k s = file-as (files.
 file-resumes (files.Truncate m) wsize turn old next new after k s = file-as (files.Truncate _) new after.pages s.machine_is tt
 file-resumes (files.Put m) wsize turn old next new after k s = file-as (files.Put s.machine) new after.pages s.machine_is tt
 
-file-takes : (m : FileMachine) (wsize : ℕ) (sent turn : Turn) (came : Result Reply Fault) (old : Shelf) (next : Next) (new : FileMachine) (after : Shelf) → FileUnkept m old.pages
+file-takes : (m : FileMachine) (wsize : ℕ) (sent turn : Turn) (came : Result Reply Fault) (old : Shelf) (next : Step) (new : FileMachine) (after : Shelf) → FileUnkept m old.pages
     → steps.Takes wsize m sent turn came old next new after → FileUnkept new after.pages
 file-takes (files.Open m) wsize sent turn came old next new after k s = file-as (files.Open _) new after.pages s.machine_is tt
 file-takes (files.Read m) wsize sent turn came old next new after k s =
@@ -68,20 +68,20 @@ file-takes (files.Close m) wsize sent turn came old next new after k s = file-as
 file-takes (files.Truncate m) wsize sent turn came old next new after k s = file-as (files.Truncate _) new after.pages s.machine_is tt
 file-takes (files.Put m) wsize sent turn came old next new after k s = file-as (files.Put s.machine) new after.pages s.machine_is tt
 
-all-starts : (m : Machine) (wsize : ℕ) (turn : Turn) (old : Shelf) (next : Next) (new : Machine) (after : Shelf) → NoneYet m → Starts wsize m turn old next new after → MachineUnkept new after.pages
+all-starts : (m : Machine) (wsize : ℕ) (turn : Turn) (old : Shelf) (next : Step) (new : Machine) (after : Shelf) → NoneYet m → Starts wsize m turn old next new after → MachineUnkept new after.pages
 all-starts (machines.File m) wsize turn old next new after none s =
     machine-as (machines.File s.machine) new after.pages s.machine_is (file-starts m wsize turn old next s.machine after none s.step)
 all-starts (machines.Path m) wsize turn old next new after none s = machine-as (machines.Path s.machine) new after.pages s.machine_is tt
 all-starts (machines.Name m) wsize turn old next new after none s = machine-as (machines.Name s.machine) new after.pages s.machine_is tt
 
-all-resumes : (m : Machine) (wsize : ℕ) (turn : Turn) (old : Shelf) (next : Next) (new : Machine) (after : Shelf) → MachineUnkept m old.pages → Resumes wsize m turn old next new after
+all-resumes : (m : Machine) (wsize : ℕ) (turn : Turn) (old : Shelf) (next : Step) (new : Machine) (after : Shelf) → MachineUnkept m old.pages → Resumes wsize m turn old next new after
     → MachineUnkept new after.pages
 all-resumes (machines.File m) wsize turn old next new after k s =
     machine-as (machines.File s.machine) new after.pages s.machine_is (file-resumes m wsize turn old next s.machine after k s.step)
 all-resumes (machines.Path m) wsize turn old next new after k s = machine-as (machines.Path s.machine) new after.pages s.machine_is tt
 all-resumes (machines.Name m) wsize turn old next new after k s = machine-as (machines.Name s.machine) new after.pages s.machine_is tt
 
-all-takes : (m : Machine) (wsize : ℕ) (sent turn : Turn) (came : Result Reply Fault) (old : Shelf) (next : Next) (new : Machine) (after : Shelf) → MachineUnkept m old.pages
+all-takes : (m : Machine) (wsize : ℕ) (sent turn : Turn) (came : Result Reply Fault) (old : Shelf) (next : Step) (new : Machine) (after : Shelf) → MachineUnkept m old.pages
     → Takes wsize m sent turn came old next new after → MachineUnkept new after.pages
 all-takes (machines.File m) wsize sent turn came old next new after k s =
     machine-as (machines.File s.machine) new after.pages s.machine_is (file-takes m wsize sent turn came old next s.machine after k s.step)
@@ -118,8 +118,8 @@ over-busy : (answer : Answer) (m : Machine) → Over answer ≡ Busy m → ⊥
 over-busy answer m e = cc
 
 -- what it comes to, where each of the steps leaves a machine so
-leading-unkept : (wsize : ℕ) (S : Next → Machine → Shelf → Type 0) (state : State) (after : Shelf) → Leading wsize S state after
-    → ((next : Next) (new : Machine) (shelf : Shelf) → S next new shelf → MachineUnkept new shelf.pages) → (machine : Machine) → state ≡ Busy machine → MachineUnkept machine after.pages
+leading-unkept : (wsize : ℕ) (S : Step → Machine → Shelf → Type 0) (state : State) (after : Shelf) → Leading wsize S state after
+    → ((next : Step) (new : Machine) (shelf : Shelf) → S next new shelf → MachineUnkept new shelf.pages) → (machine : Machine) → state ≡ Busy machine → MachineUnkept machine after.pages
 leading-unkept wsize S state after (settles (nexts.Send call) new s is) each machine busy =
     machine-as new machine after.pages (same-machine machine new (sym busy ∙ is)) (each (nexts.Send call) new after s)
 leading-unkept wsize S state after (settles nexts.Wait new s is) each machine busy = machine-as new machine after.pages (same-machine machine new (sym busy ∙ is)) (each nexts.Wait new after s)
@@ -129,7 +129,7 @@ leading-unkept wsize S state after (unmade call mid between sent turn fault next
     left : MachineUnkept new after.pages
     left = all-takes mid wsize sent turn (Err fault) between next new after (each (nexts.Send call) mid between s) t
 
-    by : (n : Next) → IsRefused new n state → MachineUnkept machine after.pages
+    by : (n : Step) → IsRefused new n state → MachineUnkept machine after.pages
     by (nexts.Send again) r = absurd r
     by nexts.Wait r = machine-as new machine after.pages (same-machine machine new (sym busy ∙ r)) left
     by (nexts.Done answer) r = absurd (over-busy answer machine (sym r ∙ busy))
@@ -161,9 +161,9 @@ AllUnkept v = (k number : ℕ) (machine : Machine) → slice_get v.lanes k ≡ S
 abbrev pub LaneUnkept : List Entry → View → Type 0
 LaneUnkept h v = OneLane h → AllUnkept v
 
-led-unkept : (setup : Setup) (h : List Entry) (old new : View) (at number : ℕ) (m : Machine) (S : Next → Machine → Shelf → Type 0) → Known setup h old → OneLane h
+led-unkept : (setup : Setup) (h : List Entry) (old new : View) (at number : ℕ) (m : Machine) (S : Step → Machine → Shelf → Type 0) → Known setup h old → OneLane h
     → slice_get old.lanes at ≡ Some (record { number = number; state = Busy m }) → Led old.wsize S old.lanes at number new
-    → ((next : Next) (n : Machine) (shelf : Shelf) → S next n shelf → MachineUnkept n shelf.pages) → AllUnkept new
+    → ((next : Step) (n : Machine) (shelf : Shelf) → S next n shelf → MachineUnkept n shelf.pages) → AllUnkept new
 led-unkept setup h old new at number m S known one there l each k n machine here = by (nat_eq k at) refl
   where
     set : slice_get (slice_set old.lanes at (record { number = number; state = l.state })) k ≡ Some (record { number = n; state = Busy machine })
@@ -180,8 +180,8 @@ led-unkept setup h old new at number m S known one there l each k n machine here
         let was = sym (set-other old.lanes at k (record { number = number; state = l.state }) off) ∙ set in
         absurd (off (only-one setup h old known one k at (record { number = n; state = Busy machine }) (record { number = number; state = Busy m }) was there))
 
-pushed-unkept : (setup : Setup) (h : List Entry) (old new : View) (lane line : ℕ) (op : Op) (S : Next → Machine → Shelf → Type 0) → Known setup h old → OneLane (h ++ Began lane line op ∷ [])
-    → IsIdle lane old.lanes → Pushed old.wsize S old.lanes lane new → ((next : Next) (n : Machine) (shelf : Shelf) → S next n shelf → MachineUnkept n shelf.pages) → AllUnkept new
+pushed-unkept : (setup : Setup) (h : List Entry) (old new : View) (lane line : ℕ) (op : Op) (S : Step → Machine → Shelf → Type 0) → Known setup h old → OneLane (h ++ Began lane line op ∷ [])
+    → IsIdle lane old.lanes → Pushed old.wsize S old.lanes lane new → ((next : Step) (n : Machine) (shelf : Shelf) → S next n shelf → MachineUnkept n shelf.pages) → AllUnkept new
 pushed-unkept setup h old new lane line op S known one idle p each k n machine here =
     by (get-push old.lanes (record { number = lane; state = p.state }) k (record { number = n; state = Busy machine }) (sym (ap (λ (ls : List Lane). slice_get ls k) p.lanes_are) ∙ here))
   where

@@ -17,8 +17,8 @@ use Rattle.world_model.specs.declared.op.Op.TheVariants as ops
 use Rattle.world_model.specs.Chains.{LastCookie, list_call, page_reply}
 use Rattle.world_model.specs.Operations.{UnderWay}
 use Rattle.file_ops.specs.declared.opening.Opening.{Opening}
-use Rattle.file_ops.specs.declared.opening.OpeningStep.{OpeningStep}
-use Rattle.file_ops.specs.declared.opening.OpeningStep.TheVariants.{Look, Make, Find, Ask}
+use Rattle.file_ops.specs.declared.opening.OpeningPhase.{OpeningPhase}
+use Rattle.file_ops.specs.declared.opening.OpeningPhase.TheVariants.{Look, Make, Find, Ask}
 use Rattle.file_ops.specs.declared.put_file.Putting.{Putting}
 use Rattle.file_ops.specs.declared.put_file.Putting.TheVariants.{Idle, Opens, Adds, Saves}
 use Rattle.name_ops.specs.declared.list_dir.ListDir.{ListDir}
@@ -43,7 +43,7 @@ use Rattle.core_counts.specs.coarse.FedWalks.{Leads}
 -- ---- files
 
 -- an open or a put that has found its file has this one
-abbrev pub StepHas : OpeningStep → List ℕ → Type 0
+abbrev pub StepHas : OpeningPhase → List ℕ → Type 0
 StepHas Look file = ⊥
 StepHas Make file = ⊥
 StepHas Find file = ⊥

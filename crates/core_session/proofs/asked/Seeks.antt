@@ -1,9 +1,9 @@
 -- The file that an operation saves to make room: it stays the same along the operation's steps, and where one is chosen, something of it is pending.
-use Rattle.core_session.proofs.Prelude.{◌≡◌, ◌⊎◌, ◌-◌, inl, inr, ℕ, Bool, true, false, List, Result, Ok, Err, refl, sym, ap, subst, ◌∙◌, Fault, Reply, Pending, Next, Shelf, Turn, left, is_first, OpeningNext, PutFile, Putting, Saving, WriteFile, Writing, is_full, file_to_write, joined, by-step, ends_as, WalkNext, FileMachine, Machine, Opener, PathMachine, file_of, slot_taken, begun_at, Starts, Resumes, Takes, EndsSo, takes-not}
+use Rattle.core_session.proofs.Prelude.{◌≡◌, ◌⊎◌, ◌-◌, inl, inr, ℕ, Bool, true, false, List, Result, Ok, Err, refl, sym, ap, subst, ◌∙◌, Fault, Reply, Pending, Step, Shelf, Turn, left, is_first, OpeningStep, PutFile, Putting, Saving, WriteFile, Writing, is_full, file_to_write, joined, by-step, ends_as, WalkStep, FileMachine, Machine, Opener, PathMachine, file_of, slot_taken, begun_at, Starts, Resumes, Takes, EndsSo, takes-not}
 use Rattle.op_machines.specs.Openers.{placed}
 use Rattle.world_model.specs.declared.answer.Answer.TheVariants as answers
-use Rattle.client_shelf.specs.declared.next.Next.TheVariants as nexts
-use Rattle.file_ops.specs.declared.opening.OpeningNext.TheVariants as openings
+use Rattle.client_shelf.specs.declared.step.Step.TheVariants as nexts
+use Rattle.file_ops.specs.declared.opening.OpeningStep.TheVariants as openings
 use Rattle.file_ops.specs.declared.put_file.Putting.TheVariants as puttings
 use Rattle.file_ops.specs.declared.write_file.Writing.TheVariants as writings
 use Rattle.file_ops.specs.Opening as opening
@@ -11,7 +11,7 @@ use Rattle.file_ops.specs.PutFile as puts
 use Rattle.file_ops.specs.Saves as saves
 use Rattle.file_ops.specs.Syncs as syncs
 use Rattle.file_ops.specs.WriteFile as writes
-use Rattle.name_ops.specs.declared.walk.WalkNext.TheVariants as walks
+use Rattle.name_ops.specs.declared.walk.WalkStep.TheVariants as walks
 use Rattle.name_ops.specs.Walking as walking
 use Rattle.op_machines.specs.declared.file_machine.FileMachine.TheVariants as files
 use Rattle.op_machines.specs.declared.machine.Machine.TheVariants as machines
@@ -62,7 +62,7 @@ module _ (N : List ℕ → Type 0) where
 
   -- ---- a write
 
-  leads-seeks : (next : Next) (state : Writing) (shelf : Shelf) (gives : Next) (new : Writing) (after : Shelf) → writes.Leads next state shelf gives new after → WriteSeeks state
+  leads-seeks : (next : Step) (state : Writing) (shelf : Shelf) (gives : Step) (new : Writing) (after : Shelf) → writes.Leads next state shelf gives new after → WriteSeeks state
       → WriteSeeks new
   leads-seeks next state shelf gives new after l s = subst WriteSeeks (sym l.keeps) s
 
@@ -73,14 +73,14 @@ module _ (N : List ℕ → Type 0) where
       ended (Ok nothing) = n
       ended (Err fault) = tt
 
-  if-seeks : (b : Bool) (wsize lane : ℕ) (file : List ℕ) (saving : Saving) (turn : Turn) (shelf : Shelf) (next : Next) (new : Writing) (after : Shelf) → N saving.file
+  if-seeks : (b : Bool) (wsize lane : ℕ) (file : List ℕ) (saving : Saving) (turn : Turn) (shelf : Shelf) (next : Step) (new : Writing) (after : Shelf) → N saving.file
       → writes.SavesIf b wsize lane file saving turn shelf next new after → WriteSeeks new
   if-seeks true wsize lane file saving turn shelf next new after n s =
       leads-seeks _ (writes.room_state s.told file s.saved) _ next new after s.leads
       (room-seeks s.told file s.saved (subst N (sym (goes-on saving.file wsize turn.xid turn.room false saving shelf.back s.told s.saved s.back refl s.goes).file) n))
   if-seeks false wsize lane file saving turn shelf next new after n s = leads-seeks nexts.Wait (writings.Room file saving) shelf next new after s n
 
-  writes-if : (b : Bool) (wsize lane : ℕ) (file : List ℕ) (offset : ℕ) (bytes : List ℕ) (turn : Turn) (shelf : Shelf) (next : Next) (new : Writing) (after : Shelf) → Gives shelf.back
+  writes-if : (b : Bool) (wsize lane : ℕ) (file : List ℕ) (offset : ℕ) (bytes : List ℕ) (turn : Turn) (shelf : Shelf) (next : Step) (new : Writing) (after : Shelf) → Gives shelf.back
       → writes.WritesIf b wsize lane file offset bytes turn shelf next new after → WriteSeeks new
   writes-if true wsize lane file offset bytes turn shelf next new after g (inl s) =
       if-seeks (is_first lane (joined lane s.of shelf).order) wsize lane file (saves.begun s.of shelf.seq) turn (joined lane s.of shelf) next new after
@@ -89,11 +89,11 @@ module _ (N : List ℕ → Type 0) where
   writes-if false wsize lane file offset bytes turn shelf next new after g (inl s) = subst WriteSeeks (sym s.leads.keeps) tt
   writes-if false wsize lane file offset bytes turn shelf next new after g (inr s) = subst WriteSeeks (sym s.keeps) tt
 
-  writes-seeks : (wsize lane : ℕ) (file : List ℕ) (offset : ℕ) (bytes : List ℕ) (turn : Turn) (shelf : Shelf) (next : Next) (new : Writing) (after : Shelf) → Gives shelf.back
+  writes-seeks : (wsize lane : ℕ) (file : List ℕ) (offset : ℕ) (bytes : List ℕ) (turn : Turn) (shelf : Shelf) (next : Step) (new : Writing) (after : Shelf) → Gives shelf.back
       → writes.Writes wsize lane file offset bytes turn shelf next new after → WriteSeeks new
   writes-seeks wsize lane file offset bytes turn shelf next new after g w = writes-if (is_full bytes shelf.back) wsize lane file offset bytes turn shelf next new after g w
 
-  write-starts : (wsize : ℕ) (m : WriteFile) (turn : Turn) (old : Shelf) (next : Next) (new : WriteFile) (after : Shelf) → Gives old.back
+  write-starts : (wsize : ℕ) (m : WriteFile) (turn : Turn) (old : Shelf) (next : Step) (new : WriteFile) (after : Shelf) → Gives old.back
       → writes.Starts wsize m turn old next new after → WriteSeeks new.state
   write-starts wsize m turn old next new after g s = by (file_to_write m.lane m.slot old.opens) s
     where
@@ -102,14 +102,14 @@ module _ (N : List ℕ → Type 0) where
       by (Ok file) (inl k) = writes-seeks wsize m.lane file m.offset (writes.text_bytes m.text) turn old next new.state after g k.writes
       by (Ok file) (inr k) = subst WriteSeeks (sym k.refuses.keeps) tt
 
-  write-resumes : (at : Writing) (wsize lane : ℕ) (turn : Turn) (old : Shelf) (next : Next) (new : Writing) (after : Shelf) → WriteSeeks at
+  write-resumes : (at : Writing) (wsize lane : ℕ) (turn : Turn) (old : Shelf) (next : Step) (new : Writing) (after : Shelf) → WriteSeeks at
       → writes.ResumesIn at wsize lane turn old next new after → WriteSeeks new
   write-resumes writings.Idle wsize lane turn old next new after k r = subst WriteSeeks (sym r.keeps) tt
   write-resumes (writings.Room file saving) wsize lane turn old next new after k r =
       if-seeks (is_first lane old.order) wsize lane file saving turn old next new after k r
 
   -- what follows a step of the save, which didn't end well, or after which N holds of all that is pending
-  follows-seeks : (told : _) (wsize : ℕ) (m : WriteFile) (file : List ℕ) (saved : Saving) (turn : Turn) (shelf : Shelf) (next : Next) (new : Writing) (after : Shelf)
+  follows-seeks : (told : _) (wsize : ℕ) (m : WriteFile) (file : List ℕ) (saved : Saving) (turn : Turn) (shelf : Shelf) (next : Step) (new : Writing) (after : Shelf)
       → N saved.file → EndsSo ⊥ (syncs.sync_next told) ⊎ Gives shelf.back → writes.Follows told wsize m file saved turn shelf next new after → WriteSeeks new
   follows-seeks told wsize m file saved turn shelf next new after n g f = by-step
       (λ t. EndsSo ⊥ (syncs.sync_next t) ⊎ Gives shelf.back → writes.Follows t wsize m file saved turn shelf next new after → WriteSeeks new)
@@ -127,7 +127,7 @@ module _ (N : List ℕ → Type 0) where
   gives-later wsize sent turn came repeats s back next new after later t g f some =
       g f (λ none. some (takes-empty f wsize sent turn came repeats s back next new after later t none))
 
-  write-takes : (at : Writing) (wsize : ℕ) (m : WriteFile) (sent turn : Turn) (came : Result Reply Fault) (old : Shelf) (next : Next) (new : Writing) (after : Shelf) → WriteSeeks at
+  write-takes : (at : Writing) (wsize : ℕ) (m : WriteFile) (sent turn : Turn) (came : Result Reply Fault) (old : Shelf) (next : Step) (new : Writing) (after : Shelf) → WriteSeeks at
       → IsErr came ⊎ Gives old.back → writes.TakesIn at wsize m sent turn came old next new after → WriteSeeks new
   write-takes writings.Idle wsize m sent turn came old next new after k g t = subst WriteSeeks (sym t.keeps) tt
   write-takes (writings.Room file saving) wsize m sent turn came old next new after k g t =
@@ -144,19 +144,19 @@ module _ (N : List ℕ → Type 0) where
   abbrev PutOf : PutFile → Type 0
   PutOf m = PutSeeks m.state m.write.state
 
-  put-follows : (gives_ : _) (lane : ℕ) (saving : Saving) (old : Shelf) (next : Next) (state : Putting) (after : Shelf) (write : Writing)
+  put-follows : (gives_ : _) (lane : ℕ) (saving : Saving) (old : Shelf) (next : Step) (state : Putting) (after : Shelf) (write : Writing)
       → puts.Follows gives_ lane saving old next state after → PutSeeks state write
   put-follows gives_ lane saving old next state after write f = by-step
       (λ g. puts.Follows g lane saving old next state after → PutSeeks state write)
       (λ call f. subst (λ (p : Putting). PutSeeks p write) (sym f.1) tt) (λ f. subst (λ (p : Putting). PutSeeks p write) (sym f.1) tt)
       (λ result f. subst (λ (p : Putting). PutSeeks p write) (sym f.state_is) tt) gives_ f
 
-  put-queues : (b : Bool) (wsize lane : ℕ) (turn : Turn) (saving : Saving) (old : Shelf) (next : Next) (state : Putting) (after : Shelf) (write : Writing)
+  put-queues : (b : Bool) (wsize lane : ℕ) (turn : Turn) (saving : Saving) (old : Shelf) (next : Step) (state : Putting) (after : Shelf) (write : Writing)
       → puts.QueuesIf b wsize lane turn saving old next state after → PutSeeks state write
   put-queues false wsize lane turn saving old next state after write q = subst (λ (p : Putting). PutSeeks p write) (sym q.state_is) tt
   put-queues true wsize lane turn saving old next state after write g = put-follows g.gives lane g.saved g.gone next state after write g.follows
 
-  put-wrote : (told : Next) (wsize lane : ℕ) (file : List ℕ) (turn : Turn) (old : Shelf) (next : Next) (state : Putting) (after : Shelf) (write : Writing) → WriteSeeks write
+  put-wrote : (told : Step) (wsize lane : ℕ) (file : List ℕ) (turn : Turn) (old : Shelf) (next : Step) (state : Putting) (after : Shelf) (write : Writing) → WriteSeeks write
       → puts.AfterWrite told wsize lane file turn old next state after → PutSeeks state write
   put-wrote (nexts.Send call) wsize lane file turn old next state after write k a = subst (λ (p : Putting). PutSeeks p write) (sym a.1) k
   put-wrote nexts.Wait wsize lane file turn old next state after write k a = subst (λ (p : Putting). PutSeeks p write) (sym a.1) k
@@ -164,15 +164,15 @@ module _ (N : List ℕ → Type 0) where
       put-queues (is_first lane (joined lane file old).order) wsize lane turn (saves.begun file old.seq) (joined lane file old) next state after write a
   put-wrote (nexts.Done (answers.Refused fault)) wsize lane file turn old next state after write k a = subst (λ (p : Putting). PutSeeks p write) (sym a.state_is) tt
 
-  put-writes : (wsize : ℕ) (m : PutFile) (file : List ℕ) (turn : Turn) (told : Next) (written : Writing) (mid : Shelf) (next : Next) (new : PutFile) (after : Shelf) → WriteSeeks written
+  put-writes : (wsize : ℕ) (m : PutFile) (file : List ℕ) (turn : Turn) (told : Step) (written : Writing) (mid : Shelf) (next : Step) (new : PutFile) (after : Shelf) → WriteSeeks written
       → puts.WritesOn wsize m file turn told written mid next new after → PutOf new
   put-writes wsize m file turn told written mid next new after k g =
       subst PutOf (sym g.machine_is) (put-wrote told wsize m.write.lane file turn mid next new.state after written k g.follows)
 
-  put-stays : (m : PutFile) (old : Shelf) (next : Next) (new : PutFile) (after : Shelf) → PutOf m → puts.Stays m old next new after → PutOf new
+  put-stays : (m : PutFile) (old : Shelf) (next : Step) (new : PutFile) (after : Shelf) → PutOf m → puts.Stays m old next new after → PutOf new
   put-stays m old next new after k s = subst PutOf (sym s.machine_is) k
 
-  put-resumes : (at : Putting) (wsize : ℕ) (m : PutFile) (turn : Turn) (old : Shelf) (next : Next) (new : PutFile) (after : Shelf) → m.state ≡ at → PutOf m
+  put-resumes : (at : Putting) (wsize : ℕ) (m : PutFile) (turn : Turn) (old : Shelf) (next : Step) (new : PutFile) (after : Shelf) → m.state ≡ at → PutOf m
       → puts.Resumes at wsize m turn old next new after → PutOf new
   put-resumes puttings.Idle wsize m turn old next new after is k r = put-stays m old next new after k r
   put-resumes puttings.Opens wsize m turn old next new after is k r = subst PutOf (sym r.1) k
@@ -183,7 +183,7 @@ module _ (N : List ℕ → Type 0) where
       subst PutOf (sym r.1) (put-queues (is_first m.write.lane old.order) wsize m.write.lane turn saving old next new.state after m.write.state r.0)
 
   -- a step of its opening, which hasn't found the file, or before which N holds of all that is pending
-  put-opened : (step : OpeningNext) (wsize : ℕ) (m : PutFile) (turn : Turn) (old : Shelf) (next : Next) (new : PutFile) (after : Shelf) → m.state ≡ puttings.Opens
+  put-opened : (step : OpeningStep) (wsize : ℕ) (m : PutFile) (turn : Turn) (old : Shelf) (next : Step) (new : PutFile) (after : Shelf) → m.state ≡ puttings.Opens
       → ((file : List ℕ) → step ≡ openings.Ended (Ok file) → ⊥) ⊎ Gives old.back → puts.AfterOpening step wsize m turn old next new after → PutOf new
   put-opened (openings.Send call) wsize m turn old next new after is g a = subst PutOf (sym a.1) (subst (λ (p : Putting). PutSeeks p m.write.state) (sym is) tt)
   put-opened openings.Wait wsize m turn old next new after is g a = subst PutOf (sym a.machine_is) (subst (λ (p : Putting). PutSeeks p m.write.state) (sym is) tt)
@@ -193,7 +193,7 @@ module _ (N : List ℕ → Type 0) where
       (writes-seeks wsize m.write.lane file m.write.offset (writes.made_bytes m.write.text) turn (puts.put_at m.write.lane file old) a.told a.written a.mid g a.writes) a.goes
   put-opened (openings.Ended (Err fault)) wsize m turn old next new after is g a = subst PutOf (sym a.1) tt
 
-  put-takes : (at : Putting) (wsize : ℕ) (m : PutFile) (sent turn : Turn) (came : Result Reply Fault) (old : Shelf) (next : Next) (new : PutFile) (after : Shelf) → m.state ≡ at → PutOf m
+  put-takes : (at : Putting) (wsize : ℕ) (m : PutFile) (sent turn : Turn) (came : Result Reply Fault) (old : Shelf) (next : Step) (new : PutFile) (after : Shelf) → m.state ≡ at → PutOf m
       → (t : puts.Takes at wsize m sent turn came old next new after) → (IsErr came × PutHas (λ f. ⊥) at wsize m sent turn came old next new after t) ⊎ Gives old.back → PutOf new
   put-takes puttings.Idle wsize m sent turn came old next new after is k t g = put-stays m old next new after k t
   put-takes puttings.Opens wsize m sent turn came old next new after is k t g =
@@ -214,7 +214,7 @@ module _ (N : List ℕ → Type 0) where
 
   -- ---- any operation on a file
 
-  file-starts : (m : FileMachine) (wsize : ℕ) (turn : Turn) (old : Shelf) (next : Next) (new : FileMachine) (after : Shelf) → Gives old.back → steps.Starts wsize m turn old next new after
+  file-starts : (m : FileMachine) (wsize : ℕ) (turn : Turn) (old : Shelf) (next : Step) (new : FileMachine) (after : Shelf) → Gives old.back → steps.Starts wsize m turn old next new after
       → FileSeeks new
   file-starts (files.Open m) wsize turn old next new after g s = subst FileSeeks (sym s.machine_is) tt
   file-starts (files.Read m) wsize turn old next new after g s = subst FileSeeks (sym s.machine_is) tt
@@ -224,7 +224,7 @@ module _ (N : List ℕ → Type 0) where
   file-starts (files.Truncate m) wsize turn old next new after g s = subst FileSeeks (sym s.machine_is) tt
   file-starts (files.Put m) wsize turn old next new after g s = subst FileSeeks (sym s.machine_is) tt
 
-  file-resumes : (m : FileMachine) (wsize : ℕ) (turn : Turn) (old : Shelf) (next : Next) (new : FileMachine) (after : Shelf) → FileSeeks m → steps.Resumes wsize m turn old next new after
+  file-resumes : (m : FileMachine) (wsize : ℕ) (turn : Turn) (old : Shelf) (next : Step) (new : FileMachine) (after : Shelf) → FileSeeks m → steps.Resumes wsize m turn old next new after
       → FileSeeks new
   file-resumes (files.Open m) wsize turn old next new after k s = subst FileSeeks (sym s.machine_is) tt
   file-resumes (files.Read m) wsize turn old next new after k s = subst FileSeeks (sym s.machine_is) tt
@@ -235,11 +235,11 @@ module _ (N : List ℕ → Type 0) where
   file-resumes (files.Put m) wsize turn old next new after k s = subst FileSeeks (sym s.machine_is) (put-resumes m.state wsize m turn old next s.machine after refl k s.step)
 
   -- what came to nothing, and opened no file; or N holds of all that is pending
-  abbrev FileKnown : (m : FileMachine) (wsize : ℕ) (sent turn : Turn) (came : Result Reply Fault) (old : Shelf) (next : Next) (new : FileMachine) (after : Shelf)
+  abbrev FileKnown : (m : FileMachine) (wsize : ℕ) (sent turn : Turn) (came : Result Reply Fault) (old : Shelf) (next : Step) (new : FileMachine) (after : Shelf)
       → steps.Takes wsize m sent turn came old next new after → Type 0
   FileKnown m wsize sent turn came old next new after t = (IsErr came × FileHas (λ f o b. ⊥) wsize m sent turn came old next new after t) ⊎ Gives old.back
 
-  file-takes : (m : FileMachine) (wsize : ℕ) (sent turn : Turn) (came : Result Reply Fault) (old : Shelf) (next : Next) (new : FileMachine) (after : Shelf) → FileSeeks m
+  file-takes : (m : FileMachine) (wsize : ℕ) (sent turn : Turn) (came : Result Reply Fault) (old : Shelf) (next : Step) (new : FileMachine) (after : Shelf) → FileSeeks m
       → (t : steps.Takes wsize m sent turn came old next new after) → FileKnown m wsize sent turn came old next new after t → FileSeeks new
   file-takes (files.Open m) wsize sent turn came old next new after k t g = subst FileSeeks (sym t.machine_is) tt
   file-takes (files.Read m) wsize sent turn came old next new after k t g = subst FileSeeks (sym t.machine_is) tt
@@ -269,7 +269,7 @@ module _ (N : List ℕ → Type 0) where
   on-way : (m new : PathMachine) → m.arrived ≡ false → new ≡ m → PathSeeks new.arrived new.opener
   on-way m new way is = subst (λ (n : PathMachine). PathSeeks n.arrived n.opener) (sym is) (subst (λ (b : Bool). PathSeeks b m.opener) (sym way) tt)
 
-  path-follows : (step : WalkNext) (wsize : ℕ) (m : PathMachine) (turn : Turn) (old : Shelf) (next : Next) (new : PathMachine) (after : Shelf) → m.arrived ≡ false
+  path-follows : (step : WalkStep) (wsize : ℕ) (m : PathMachine) (turn : Turn) (old : Shelf) (next : Step) (new : PathMachine) (after : Shelf) → m.arrived ≡ false
       → paths.Follows step wsize m turn old next new after → PathSeeks new.arrived new.opener
   path-follows (walks.Send call) wsize m turn old next new after way f = on-way m new way f.1
   path-follows walks.Wait wsize m turn old next new after way f = on-way m new way f.1
@@ -278,21 +278,21 @@ module _ (N : List ℕ → Type 0) where
       (file-resumes (file_of (placed dir m.opener)) wsize turn old next (file_of f.opener) after (placed-seeks dir m.opener) f.step)
   path-follows (walks.Refused fault) wsize m turn old next new after way f = on-way m new way f.1
 
-  path-resumes : (b : Bool) (wsize : ℕ) (m : PathMachine) (turn : Turn) (old : Shelf) (next : Next) (new : PathMachine) (after : Shelf) → m.arrived ≡ b → PathSeeks b m.opener
+  path-resumes : (b : Bool) (wsize : ℕ) (m : PathMachine) (turn : Turn) (old : Shelf) (next : Step) (new : PathMachine) (after : Shelf) → m.arrived ≡ b → PathSeeks b m.opener
       → paths.PathResumes b wsize m turn old next new after → PathSeeks new.arrived new.opener
   path-resumes true wsize m turn old next new after is k r =
       path-seeks m r.opener new is r.machine_is (file-resumes (file_of m.opener) wsize turn old next (file_of r.opener) after k r.step)
   path-resumes false wsize m turn old next new after is k r =
       path-follows (walking.go_next m.walk turn old) wsize (record m { walk = walking.go_after m.walk turn old }) turn (walking.go_shelf m.walk turn old) next new after is r
 
-  path-starts : (taken : Bool) (wsize : ℕ) (m : PathMachine) (turn : Turn) (old : Shelf) (next : Next) (new : PathMachine) (after : Shelf) → m.arrived ≡ false
+  path-starts : (taken : Bool) (wsize : ℕ) (m : PathMachine) (turn : Turn) (old : Shelf) (next : Step) (new : PathMachine) (after : Shelf) → m.arrived ≡ false
       → paths.StartsIf taken wsize m turn old next new after → PathSeeks new.arrived new.opener
   path-starts true wsize m turn old next new after way s = on-way m new way s.1
   path-starts false wsize m turn old next new after way s =
       path-resumes false wsize (record m { opener = begun_at (turn.moment - 1) m.opener }) turn old next new after way tt
       (subst (λ (b : Bool). paths.PathResumes b wsize (record m { opener = begun_at (turn.moment - 1) m.opener }) turn old next new after) way s)
 
-  path-takes : (b : Bool) (wsize : ℕ) (m : PathMachine) (sent turn : Turn) (came : Result Reply Fault) (old : Shelf) (next : Next) (new : PathMachine) (after : Shelf) → m.arrived ≡ b
+  path-takes : (b : Bool) (wsize : ℕ) (m : PathMachine) (sent turn : Turn) (came : Result Reply Fault) (old : Shelf) (next : Step) (new : PathMachine) (after : Shelf) → m.arrived ≡ b
       → PathSeeks b m.opener → (t : paths.PathTakes b wsize m sent turn came old next new after)
       → (IsErr came × PathHas (λ f o b. ⊥) b wsize m sent turn came old next new after t) ⊎ Gives old.back → PathSeeks new.arrived new.opener
   path-takes true wsize m sent turn came old next new after is k t g =
@@ -308,19 +308,19 @@ module _ (N : List ℕ → Type 0) where
   IsOnWay (machines.Path m) = m.arrived ≡ false
   IsOnWay (machines.Name m) = Unit {0}
 
-  pub all-starts : (m : Machine) (wsize : ℕ) (turn : Turn) (old : Shelf) (next : Next) (new : Machine) (after : Shelf) → IsOnWay m → Gives old.back → Starts wsize m turn old next new after
+  pub all-starts : (m : Machine) (wsize : ℕ) (turn : Turn) (old : Shelf) (next : Step) (new : Machine) (after : Shelf) → IsOnWay m → Gives old.back → Starts wsize m turn old next new after
       → Seeks new
   all-starts (machines.File m) wsize turn old next new after way g s = subst Seeks (sym s.machine_is) (file-starts m wsize turn old next s.machine after g s.step)
   all-starts (machines.Path m) wsize turn old next new after way g s =
       subst Seeks (sym s.machine_is) (path-starts (slot_taken m.opener old.opens) wsize m turn old next s.machine after way s.step)
   all-starts (machines.Name m) wsize turn old next new after way g s = subst Seeks (sym s.machine_is) tt
 
-  pub all-resumes : (m : Machine) (wsize : ℕ) (turn : Turn) (old : Shelf) (next : Next) (new : Machine) (after : Shelf) → Seeks m → Resumes wsize m turn old next new after → Seeks new
+  pub all-resumes : (m : Machine) (wsize : ℕ) (turn : Turn) (old : Shelf) (next : Step) (new : Machine) (after : Shelf) → Seeks m → Resumes wsize m turn old next new after → Seeks new
   all-resumes (machines.File m) wsize turn old next new after k s = subst Seeks (sym s.machine_is) (file-resumes m wsize turn old next s.machine after k s.step)
   all-resumes (machines.Path m) wsize turn old next new after k s = subst Seeks (sym s.machine_is) (path-resumes m.arrived wsize m turn old next s.machine after refl k s.step)
   all-resumes (machines.Name m) wsize turn old next new after k s = subst Seeks (sym s.machine_is) tt
 
-  pub all-takes : (m : Machine) (wsize : ℕ) (sent turn : Turn) (came : Result Reply Fault) (old : Shelf) (next : Next) (new : Machine) (after : Shelf) → Seeks m
+  pub all-takes : (m : Machine) (wsize : ℕ) (sent turn : Turn) (came : Result Reply Fault) (old : Shelf) (next : Step) (new : Machine) (after : Shelf) → Seeks m
       → (t : Takes wsize m sent turn came old next new after) → (IsErr came × TakesHas (λ f o b. ⊥) wsize m sent turn came old next new after t) ⊎ Gives old.back → Seeks new
   all-takes (machines.File m) wsize sent turn came old next new after k t g = subst Seeks (sym t.machine_is) (file-takes m wsize sent turn came old next t.machine after k t.step g)
   all-takes (machines.Path m) wsize sent turn came old next new after k t g =

@@ -1,11 +1,11 @@
 -- Of the file that an operation saves to make room something was pending, at a view of the core since the operation began.
-use Rattle.core_session.proofs.Prelude.{◌≡◌, ◌≤◌, ◌⊎◌, inl, inr, ℕ, List, [], ◌∷◌, ◌++◌, length, remove, Bool, true, false, Option, Some, None, MatchOption, position, slice_get, slice_set, Result, Err, refl, sym, ap, subst, ◌∙◌, arith, Fault, Entry, Reply, Op, UnderWay, said_of, Pending, of_file, Segments, Cell, covers, cell_at, newest_at, Next, Shelf, Turn, Mounted, Machine, machine_of, Lane, Purpose, State, Busy, Over, Setup, is_busy, with_state, IsRefused, Leads, Stirs, Moves, moves_none, moves_more, counted, StartsLane, BeginsIf, TakesAt, View, turn_at, unmade_turn, StepsTo, Reaches, begins, goes, loses, last_reading, Heard, dropped, replied, sent_now, FailedNow, goes_on, gives_up, failed_now, answered_now, taken_one, at-set, get-push, get-remove, skip, to-map, under-back, set-other, by-place, Began, Answered, Dialed, Sent, Executed, Foreign, Flushed, Reboot, Delivered, Failed, Clock, length_last, FilePending, Flown, nothing, fly_at, fly_in, flown_in, IsSound, IsOver, covered, flown-some, some-of, numbers_of, heard-lost, number_of, idle-numbers}
+use Rattle.core_session.proofs.Prelude.{◌≡◌, ◌≤◌, ◌⊎◌, inl, inr, ℕ, List, [], ◌∷◌, ◌++◌, length, remove, Bool, true, false, Option, Some, None, MatchOption, position, slice_get, slice_set, Result, Err, refl, sym, ap, subst, ◌∙◌, arith, Fault, Entry, Reply, Op, UnderWay, said_of, Pending, of_file, Segments, Cell, covers, cell_at, newest_at, Step, Shelf, Turn, Mounted, Machine, machine_of, Lane, Purpose, State, Busy, Over, Setup, is_busy, with_state, IsRefused, Leads, Stirs, Moves, moves_none, moves_more, counted, StartsLane, BeginsIf, TakesAt, View, turn_at, unmade_turn, StepsTo, Reaches, begins, goes, loses, last_reading, Heard, dropped, replied, sent_now, FailedNow, goes_on, gives_up, failed_now, answered_now, taken_one, at-set, get-push, get-remove, skip, to-map, under-back, set-other, by-place, Began, Answered, Dialed, Sent, Executed, Foreign, Flushed, Reboot, Delivered, Failed, Clock, length_last, FilePending, Flown, nothing, fly_at, fly_in, flown_in, IsSound, IsOver, covered, flown-some, some-of, numbers_of, heard-lost, number_of, idle-numbers}
 use Rattle.write_back.specs.Segments.{AreApart, cell_in}
 use Rattle.client_core.specs.Steps.{IsBusyAt, HearsOwn}
 use Rattle.core_facts.proofs.Cases.{heard}
 use Rattle.write_back.specs.Sound.{AreSent}
 use Rattle.world_model.specs.declared.op.Op.TheVariants as ops
-use Rattle.client_shelf.specs.declared.next.Next.TheVariants as nexts
+use Rattle.client_shelf.specs.declared.step.Step.TheVariants as nexts
 use Rattle.write_back.specs.Pieces.{Sent as SentPiece}
 use Rattle.core_session.proofs.order.Basis.{reached-basis}
 use Rattle.core_session.proofs.asked.Empty.{IsEmpty}
@@ -54,7 +54,7 @@ module _ (N : ℕ → List ℕ → Type 0) where
       (at-set lanes at (record { number = number; state = Busy machine }) (record { number = number; state = state }) there) own
       (λ k lane here apart. all k lane (sym (set-other lanes at k (record { number = number; state = state }) apart) ∙ here))
 
-  leads-seek : (old new : View) (at number : ℕ) (machine : Machine) (next : Next) → IsBusyAt old at number machine → Leads old at number machine next new → AllSeek old.lanes → AllSeek new.lanes
+  leads-seek : (old new : View) (at number : ℕ) (machine : Machine) (next : Step) → IsBusyAt old at number machine → Leads old at number machine next new → AllSeek old.lanes → AllSeek new.lanes
   leads-seek old new at number machine (nexts.Send call) there (inl made) all = subst (λ (v : View). AllSeek v.lanes) (sym made.is) all
   leads-seek old new at number machine (nexts.Send call) there (inr f) all =
       subst (λ (v : View). AllSeek v.lanes) (sym f.is) (set-seek old.lanes at number machine f.state there (state f.next f.leads) all)
@@ -63,7 +63,7 @@ module _ (N : ℕ → List ℕ → Type 0) where
       own = all-takes (N number) machine old.wsize (turn_at old) (unmade_turn old) (Err f.fault) old.shelf f.next f.after f.left (all at (record { number = number; state = Busy machine }) there)
           f.takes (inl ((f.fault, refl), unmade-has (λ g o b. ⊥) old.wsize (turn_at old) (unmade_turn old) f.fault machine old.shelf f.next f.after f.left f.takes))
 
-      state : (next : Next) → IsRefused f.after next f.state → StateSeeks number f.state
+      state : (next : Step) → IsRefused f.after next f.state → StateSeeks number f.state
       state (nexts.Send again) is = absurd is
       state nexts.Wait is = subst (StateSeeks number) (sym is) own
       state (nexts.Done answer) is = subst (StateSeeks number) (sym is) tt
@@ -71,7 +71,7 @@ module _ (N : ℕ → List ℕ → Type 0) where
   leads-seek old new at number machine (nexts.Done answer) there is all =
       subst (λ (v : View). AllSeek v.lanes) (sym is) (set-seek old.lanes at number machine (Over answer) there tt all)
 
-  steps-seek : (old new : View) (at number : ℕ) (machine after : Machine) (shelf : Shelf) (next : Next) → IsBusyAt old at number machine
+  steps-seek : (old new : View) (at number : ℕ) (machine after : Machine) (shelf : Shelf) (next : Step) → IsBusyAt old at number machine
       → Leads (with_state old at number (Busy after) shelf) at number after next new → Seeks (N number) after → AllSeek old.lanes → AllSeek new.lanes
   steps-seek old new at number machine after shelf next there leads own all =
       leads-seek (with_state old at number (Busy after) shelf) new at number after next

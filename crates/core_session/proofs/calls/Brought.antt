@@ -1,5 +1,5 @@
 -- What an operation may add, it has where it adds it.
-use Rattle.core_session.proofs.Prelude.{ℕ, List, Bool, true, false, Result, Fault, Reply, Next, Shelf, Turn, PutFile, Putting, WriteFile, Writing, FileMachine, Machine, PathMachine, file_of, Takes, RoomIs}
+use Rattle.core_session.proofs.Prelude.{ℕ, List, Bool, true, false, Result, Fault, Reply, Step, Shelf, Turn, PutFile, Putting, WriteFile, Writing, FileMachine, Machine, PathMachine, file_of, Takes, RoomIs}
 use Rattle.core_answers.proofs.writes.Backs.{PutIs, FileBrings}
 use Rattle.file_ops.specs.declared.put_file.Putting.TheVariants as putting
 use Rattle.file_ops.specs.declared.write_file.Writing.TheVariants as writing
@@ -15,12 +15,12 @@ use Rattle.core_session.proofs.order.Adds.{RoomHas, PutHas, FileHas, PathHas, Ta
 module _ (wsize : ℕ) (sent turn : Turn) (came : Result Reply Fault) where
   -- ---- from what it may add
 
-  room-brings : (B C : List ℕ → Type 0) → ((f : List ℕ) → B f → C f) → (at : Writing) (m : WriteFile) (old : Shelf) (next : Next) (state : Writing) (after : Shelf)
+  room-brings : (B C : List ℕ → Type 0) → ((f : List ℕ) → B f → C f) → (at : Writing) (m : WriteFile) (old : Shelf) (next : Step) (state : Writing) (after : Shelf)
       (t : writes.TakesIn at wsize m sent turn came old next state after) → RoomIs B at → RoomHas C at wsize m sent turn came old next state after t
   room-brings B C f writing.Idle m old next state after t r = tt
   room-brings B C f (writing.Room file saving) m old next state after t r = λ well. f file r
 
-  put-brings : (B : List ℕ → Type 0) (at : Putting) (m : PutFile) (old : Shelf) (next : Next) (new : PutFile) (after : Shelf) (t : puts.Takes at wsize m sent turn came old next new after)
+  put-brings : (B : List ℕ → Type 0) (at : Putting) (m : PutFile) (old : Shelf) (next : Step) (new : PutFile) (after : Shelf) (t : puts.Takes at wsize m sent turn came old next new after)
       → PutIs B at m.write.state → PutHas B at wsize m sent turn came old next new after t
   put-brings B putting.Idle m old next new after t r = tt
   put-brings B putting.Opens m old next new after t r = λ file is. r file
@@ -28,7 +28,7 @@ module _ (wsize : ℕ) (sent turn : Turn) (came : Result Reply Fault) where
   put-brings B (putting.Saves saving) m old next new after t r = tt
 
   module _ (A : List ℕ → ℕ → List ℕ → Type 0) where
-    file-brings : (m : FileMachine) (old : Shelf) (next : Next) (new : FileMachine) (after : Shelf) (t : steps.Takes wsize m sent turn came old next new after) → FileBrings A m
+    file-brings : (m : FileMachine) (old : Shelf) (next : Step) (new : FileMachine) (after : Shelf) (t : steps.Takes wsize m sent turn came old next new after) → FileBrings A m
         → FileHas A wsize m sent turn came old next new after t
     file-brings (files.Open m) old next new after t b = tt
     file-brings (files.Read m) old next new after t b = tt
@@ -39,12 +39,12 @@ module _ (wsize : ℕ) (sent turn : Turn) (came : Result Reply Fault) where
     file-brings (files.Truncate m) old next new after t b = tt
     file-brings (files.Put m) old next new after t b = put-brings (λ f. A f m.write.offset (writes.made_bytes m.write.text)) m.state m old next t.machine after t.step b
 
-    path-brings : (b : Bool) (m : PathMachine) (old : Shelf) (next : Next) (new : PathMachine) (after : Shelf) (t : paths.PathTakes b wsize m sent turn came old next new after)
+    path-brings : (b : Bool) (m : PathMachine) (old : Shelf) (next : Step) (new : PathMachine) (after : Shelf) (t : paths.PathTakes b wsize m sent turn came old next new after)
         → PathBrings A b m.opener → PathHas A b wsize m sent turn came old next new after t
     path-brings true m old next new after t b = file-brings (file_of m.opener) old next (file_of t.opener) after t.step b
     path-brings false m old next new after t b = tt
 
-    pub brings-has : (m : Machine) (old : Shelf) (next : Next) (new : Machine) (after : Shelf) (t : Takes wsize m sent turn came old next new after) → Brings A m
+    pub brings-has : (m : Machine) (old : Shelf) (next : Step) (new : Machine) (after : Shelf) (t : Takes wsize m sent turn came old next new after) → Brings A m
         → TakesHas A wsize m sent turn came old next new after t
     brings-has (machines.File m) old next new after t b = file-brings m old next t.machine after t.step b
     brings-has (machines.Path m) old next new after t b = path-brings m.arrived m old next t.machine after t.step b
@@ -53,13 +53,13 @@ module _ (wsize : ℕ) (sent turn : Turn) (came : Result Reply Fault) where
   -- ---- both
 
   module _ (A D E : List ℕ → ℕ → List ℕ → Type 0) (both : (f : List ℕ) (o : ℕ) (b : List ℕ) → A f o b → D f o b → E f o b) where
-    room-both : (X Y Z : List ℕ → Type 0) → ((f : List ℕ) → X f → Y f → Z f) → (at : Writing) (m : WriteFile) (old : Shelf) (next : Next) (state : Writing) (after : Shelf)
+    room-both : (X Y Z : List ℕ → Type 0) → ((f : List ℕ) → X f → Y f → Z f) → (at : Writing) (m : WriteFile) (old : Shelf) (next : Step) (state : Writing) (after : Shelf)
         (t : writes.TakesIn at wsize m sent turn came old next state after) → RoomHas X at wsize m sent turn came old next state after t → RoomHas Y at wsize m sent turn came old next state after t
         → RoomHas Z at wsize m sent turn came old next state after t
     room-both X Y Z f writing.Idle m old next state after t x y = tt
     room-both X Y Z f (writing.Room file saving) m old next state after t x y = λ well. f file (x well) (y well)
 
-    put-both : (X Y Z : List ℕ → Type 0) → ((f : List ℕ) → X f → Y f → Z f) → (at : Putting) (m : PutFile) (old : Shelf) (next : Next) (new : PutFile) (after : Shelf)
+    put-both : (X Y Z : List ℕ → Type 0) → ((f : List ℕ) → X f → Y f → Z f) → (at : Putting) (m : PutFile) (old : Shelf) (next : Step) (new : PutFile) (after : Shelf)
         (t : puts.Takes at wsize m sent turn came old next new after) → PutHas X at wsize m sent turn came old next new after t → PutHas Y at wsize m sent turn came old next new after t
         → PutHas Z at wsize m sent turn came old next new after t
     put-both X Y Z f putting.Idle m old next new after t x y = tt
@@ -67,7 +67,7 @@ module _ (wsize : ℕ) (sent turn : Turn) (came : Result Reply Fault) where
     put-both X Y Z f (putting.Adds file) m old next new after t x y = room-both X Y Z f m.write.state m.write old t.told t.written t.mid t.takes x y
     put-both X Y Z f (putting.Saves saving) m old next new after t x y = tt
 
-    file-both : (m : FileMachine) (old : Shelf) (next : Next) (new : FileMachine) (after : Shelf) (t : steps.Takes wsize m sent turn came old next new after)
+    file-both : (m : FileMachine) (old : Shelf) (next : Step) (new : FileMachine) (after : Shelf) (t : steps.Takes wsize m sent turn came old next new after)
         → FileHas A wsize m sent turn came old next new after t → FileHas D wsize m sent turn came old next new after t → FileHas E wsize m sent turn came old next new after t
     file-both (files.Open m) old next new after t x y = tt
     file-both (files.Read m) old next new after t x y = tt
@@ -79,12 +79,12 @@ module _ (wsize : ℕ) (sent turn : Turn) (came : Result Reply Fault) where
     file-both (files.Put m) old next new after t x y =
         put-both _ _ _ (λ f a d. both f m.write.offset (writes.made_bytes m.write.text) a d) m.state m old next t.machine after t.step x y
 
-    path-both : (b : Bool) (m : PathMachine) (old : Shelf) (next : Next) (new : PathMachine) (after : Shelf) (t : paths.PathTakes b wsize m sent turn came old next new after)
+    path-both : (b : Bool) (m : PathMachine) (old : Shelf) (next : Step) (new : PathMachine) (after : Shelf) (t : paths.PathTakes b wsize m sent turn came old next new after)
         → PathHas A b wsize m sent turn came old next new after t → PathHas D b wsize m sent turn came old next new after t → PathHas E b wsize m sent turn came old next new after t
     path-both true m old next new after t x y = file-both (file_of m.opener) old next (file_of t.opener) after t.step x y
     path-both false m old next new after t x y = tt
 
-    pub has-both : (m : Machine) (old : Shelf) (next : Next) (new : Machine) (after : Shelf) (t : Takes wsize m sent turn came old next new after)
+    pub has-both : (m : Machine) (old : Shelf) (next : Step) (new : Machine) (after : Shelf) (t : Takes wsize m sent turn came old next new after)
         → TakesHas A wsize m sent turn came old next new after t → TakesHas D wsize m sent turn came old next new after t → TakesHas E wsize m sent turn came old next new after t
     has-both (machines.File m) old next new after t x y = file-both m old next t.machine after t.step x y
     has-both (machines.Path m) old next new after t x y = path-both m.arrived m old next t.machine after t.step x y

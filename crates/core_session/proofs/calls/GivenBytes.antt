@@ -1,5 +1,5 @@
 -- Along a history each byte that is pending of a file is one that an operation writes there: of its slot's file, or of the one to which its path leads.
-use Rattle.core_session.proofs.Prelude.{◌≡◌, ◌≤◌, ◌+◌, ◌-◌, ◌⊎◌, inl, inr, ℕ, List, [], ◌∷◌, ◌++◌, length, Bool, true, false, Option, Some, None, Result, Ok, Err, position, slice_get, slice_set, replicate, refl, sym, ap, subst, ◌∙◌, arith, slice_index, if◌then◌else◌, le-ltb, eqb-true, slice_get-get_or, Mode, xid_at, Waiting, waiting_at, Opened, covers, Pending, of_file, nothing, low-of, high-of, Answer, Fault, Entry, Began, Answered, Delivered, Reply, Op, At, IsBusy, Modes, AnsweredBefore, UnderWay, IsOf, slot_of, At-grow, At-below, At-last, At-cases, length_last, said_of, Next, Shelf, Turn, file_to_write, Mounted, Machine, IsNamed, machine_of, Starts, Resumes, Takes, Lane, Purpose, State, Busy, Over, Setup, is_busy, IsOther, numbers_of, IsIdle, with_state, IsRefused, Leads, Stirs, counted, StartsLane, TakesAt, View, turn_at, unmade_turn, Reaches, HearsRecord, begins-unbegun, taken_one, may, held-begins, Given, is-given, Known, lanes-under-way, idle-numbers, number_of, LeadsTo, leads-from, at-set, at-push, at-position, get-push, get-remove, skip, to-map, IsHeld, held-grow, by-place, set-other, under-back, byte_from, byte_by, After, CarriesReply, any-saves}
+use Rattle.core_session.proofs.Prelude.{◌≡◌, ◌≤◌, ◌+◌, ◌-◌, ◌⊎◌, inl, inr, ℕ, List, [], ◌∷◌, ◌++◌, length, Bool, true, false, Option, Some, None, Result, Ok, Err, position, slice_get, slice_set, replicate, refl, sym, ap, subst, ◌∙◌, arith, slice_index, if◌then◌else◌, le-ltb, eqb-true, slice_get-get_or, Mode, xid_at, Waiting, waiting_at, Opened, covers, Pending, of_file, nothing, low-of, high-of, Answer, Fault, Entry, Began, Answered, Delivered, Reply, Op, At, IsBusy, Modes, AnsweredBefore, UnderWay, IsOf, slot_of, At-grow, At-below, At-last, At-cases, length_last, said_of, Step, Shelf, Turn, file_to_write, Mounted, Machine, IsNamed, machine_of, Starts, Resumes, Takes, Lane, Purpose, State, Busy, Over, Setup, is_busy, IsOther, numbers_of, IsIdle, with_state, IsRefused, Leads, Stirs, counted, StartsLane, TakesAt, View, turn_at, unmade_turn, Reaches, HearsRecord, begins-unbegun, taken_one, may, held-begins, Given, is-given, Known, lanes-under-way, idle-numbers, number_of, LeadsTo, leads-from, at-set, at-push, at-position, get-push, get-remove, skip, to-map, IsHeld, held-grow, by-place, set-other, under-back, byte_from, byte_by, After, CarriesReply, any-saves}
 use Rattle.file_ops.specs.Opens.{in_mode, of_open}
 use Rattle.core_facts.proofs.LaneMarks.{Rests}
 use Rattle.core_facts.proofs.SlotGrowth.{ended-back}
@@ -10,7 +10,7 @@ use Rattle.world_model.specs.declared.op.Op.TheVariants as ops
 use Rattle.world_model.specs.Leads as paths
 use Rattle.world_model.specs.Mounts as origins
 use Rattle.claims.specs.Rights.{can_write}
-use Rattle.client_shelf.specs.declared.next.Next.TheVariants as nexts
+use Rattle.client_shelf.specs.declared.step.Step.TheVariants as nexts
 use Rattle.file_ops.specs.Syncs as syncs
 use Rattle.core_facts.proofs.Marks.{answered-grow}
 use Rattle.core_answers.proofs.writes.AllBacks.{Brings, StartsWith}
@@ -193,7 +193,7 @@ module _ (modes_of : Modes) (m : Mounted) (h : List Entry) (lane line : ℕ) (ol
   store-gives : (op : Op) → IsStore op → (f : List ℕ) (offset : ℕ) (bytes : List ℕ) → MayGive m modes_of (Later op) (length h) op f offset bytes → Gives m modes_of (Later op) (length h) op f offset bytes
   store-gives op store f offset bytes k = record { may_be = k; leads = λ path at text is named. absurd (subst IsStore is store) }
 
-  pub begun-has : (op : Op) (next : Next) → StartsHas (Gives m modes_of (Later op) (length h) op) (machine_of m lane op) old.opens next
+  pub begun-has : (op : Op) (next : Step) → StartsHas (Gives m modes_of (Later op) (length h) op) (machine_of m lane op) old.opens next
   begun-has (ops.Write slot offset bytes) next = λ file found well.
       store-gives (ops.Write slot offset bytes) tt file offset bytes (begun-with (ops.Write slot offset bytes) file found)
   begun-has (ops.Fill slot offset count byte) next = λ file found well.
@@ -231,12 +231,12 @@ module _ (m : Mounted) (modes_of : Modes) (h : List Entry) where
     decides = λ file upto verf old new on p. on-file-given (Gave m modes_of h) old new file _ on (λ g. decided-given (Gave m modes_of h file) upto verf (of_file file old) g) p;
   }
 
-  back-after : (next : Next) (back : Pending) → Now back → After Now (λ call. Now) next back
+  back-after : (next : Step) (back : Pending) → Now back → After Now (λ call. Now) next back
   back-after (nexts.Send call) back p = p
   back-after nexts.Wait back p = p
   back-after (nexts.Done answer) back p = p
 
-  after-back : (next : Next) (back : Pending) → After Now (λ call. Now) next back → Now back
+  after-back : (next : Step) (back : Pending) → After Now (λ call. Now) next back → Now back
   after-back (nexts.Send call) back p = p
   after-back nexts.Wait back p = p
   after-back (nexts.Done answer) back p = p
@@ -265,18 +265,18 @@ module _ (m : Mounted) (modes_of : Modes) (h : List Entry) where
     takes = λ repeats s back next new after later t n p. back-after (syncs.sync_next next) after (takes-kept Now sent turn (kept sent.xid turn.xid) wsize came repeats s back next new after later t p);
   }
 
-  pub start-back : (wsize : ℕ) (turn : Turn) (lane line x : ℕ) (op : Op) → At h x (Began lane line op) → (machine : Machine) (old : Shelf) (next : Next) (new : Machine) (after : Shelf)
+  pub start-back : (wsize : ℕ) (turn : Turn) (lane line x : ℕ) (op : Op) → At h x (Began lane line op) → (machine : Machine) (old : Shelf) (next : Step) (new : Machine) (after : Shelf)
       → StartsHas (Gives m modes_of h x op) machine old.opens next → Starts wsize machine turn old next new after → Now old.back → Now after.back
   start-back wsize turn lane line x op began machine old next new after has s p =
       after-back next after.back
       (all-starts wsize turn (λ f o b n. Gives m modes_of h x op f o b) Now Now (λ call. Now) (bears wsize turn (Gives m modes_of h x op) (of-gives m modes_of h lane line x op began))
       machine old next new after has p s)
 
-  pub resume-back : (wsize : ℕ) (turn : Turn) (machine : Machine) (old : Shelf) (next : Next) (new : Machine) (after : Shelf) → Resumes wsize machine turn old next new after → Now old.back → Now after.back
+  pub resume-back : (wsize : ℕ) (turn : Turn) (machine : Machine) (old : Shelf) (next : Step) (new : Machine) (after : Shelf) → Resumes wsize machine turn old next new after → Now old.back → Now after.back
   resume-back wsize turn machine old next new after s p =
       after-back next after.back (all-resumes wsize turn Now (λ call. Now) (moves wsize turn) machine old next new after p s)
 
-  pub take-back : (wsize : ℕ) (sent turn : Turn) (came : Result Reply Fault) (lane line x : ℕ) (op : Op) → At h x (Began lane line op) → (machine : Machine) (old : Shelf) (next : Next) (new : Machine)
+  pub take-back : (wsize : ℕ) (sent turn : Turn) (came : Result Reply Fault) (lane line x : ℕ) (op : Op) → At h x (Began lane line op) → (machine : Machine) (old : Shelf) (next : Step) (new : Machine)
       (after : Shelf) (t : Takes wsize machine sent turn came old next new after) → TakesHas (Gives m modes_of h x op) wsize machine sent turn came old next new after t → Now old.back → Now after.back
   take-back wsize sent turn came lane line x op began machine old next new after t has p =
       after-back next after.back
@@ -284,7 +284,7 @@ module _ (m : Mounted) (modes_of : Modes) (h : List Entry) where
       sent came (λ s b. Unit {0}) (replies wsize sent turn came) machine old next new after t has (any-saves machine) p)
 
   -- a call that couldn't be made adds nothing
-  pub unmade-back : (wsize : ℕ) (sent turn : Turn) (fault : Fault) (machine : Machine) (old : Shelf) (next : Next) (new : Machine) (after : Shelf)
+  pub unmade-back : (wsize : ℕ) (sent turn : Turn) (fault : Fault) (machine : Machine) (old : Shelf) (next : Step) (new : Machine) (after : Shelf)
       → Takes wsize machine sent turn (Err fault) old next new after → Now old.back → Now after.back
   unmade-back wsize sent turn fault machine old next new after t p =
       after-back next after.back
@@ -326,7 +326,7 @@ module _ (m : Mounted) (modes_of : Modes) (same : m.nocto ≡ modes_of.nocto) (s
       (at-set lanes at (record { number = number; state = was }) (record { number = number; state = state }) there) own
       (λ k lane here apart. all k lane (sym (set-other lanes at k (record { number = number; state = state }) apart) ∙ here))
 
-  leads-bytes : (h : List Entry) (v new : View) (at number : ℕ) (machine : Machine) (next : Next) → slice_get v.lanes at ≡ Some (record { number = number; state = Busy machine })
+  leads-bytes : (h : List Entry) (v new : View) (at number : ℕ) (machine : Machine) (next : Step) → slice_get v.lanes at ≡ Some (record { number = number; state = Busy machine })
       → Bytes h v → Leads v at number machine next new → Bytes h new
   leads-bytes h v new at number machine (nexts.Send call) there b (inl k) = subst (Bytes h) (sym k.is) (record { back = b.back; lanes = b.lanes })
   leads-bytes h v new at number machine (nexts.Send call) there b (inr f) = subst (Bytes h) (sym f.is) (record {
@@ -339,7 +339,7 @@ module _ (m : Mounted) (modes_of : Modes) (same : m.nocto ≡ modes_of.nocto) (s
           takes-brings (MayGive m modes_of h x op) v.wsize machine (turn_at v) (unmade_turn v) (Err f.fault) v.shelf f.next f.after f.left
           (b.lanes at (record { number = number; state = Busy machine }) there x op u) f.takes
 
-      by : (next : Next) (state : State) → IsRefused f.after next state → LaneMay h (record { number = number; state = Busy f.after }) → LaneMay h (record { number = number; state = state })
+      by : (next : Step) (state : State) → IsRefused f.after next state → LaneMay h (record { number = number; state = Busy f.after }) → LaneMay h (record { number = number; state = state })
       by (nexts.Send again) state is k = absurd is
       by nexts.Wait state is k = subst (λ (s : State). LaneMay h (record { number = number; state = s })) (sym is) k
       by (nexts.Done answer) state is k = subst (λ (s : State). LaneMay h (record { number = number; state = s })) (sym is) (λ x op u. tt)
@@ -421,7 +421,7 @@ module _ (m : Mounted) (modes_of : Modes) (same : m.nocto ≡ modes_of.nocto) (s
     Then = h ++ Delivered rec ∷ []
 
     -- where it adds its bytes it has them, and its file
-    abbrev Has : Op → (wsize : ℕ) (sent turn : Turn) (next : Next) (new : Machine) (after : Shelf)
+    abbrev Has : Op → (wsize : ℕ) (sent turn : Turn) (next : Step) (new : Machine) (after : Shelf)
         → Takes wsize machine sent turn (said_of call.purpose.proc rec) old.shelf next new after → Type 0
     Has op wsize sent turn next new after t = TakesHas (Gives m modes_of Then x op) wsize machine sent turn (said_of call.purpose.proc rec) old.shelf next new after t
 
@@ -429,7 +429,7 @@ module _ (m : Mounted) (modes_of : Modes) (same : m.nocto ≡ modes_of.nocto) (s
         → MayGive m modes_of Then x op f o b → Gives m modes_of Then x op f o b
     gives-of op none f o b k = record { may_be = k; leads = λ path offset text is well. absurd (none path offset text is well) }
 
-    plain-has : (op : Op) (wsize : ℕ) (sent turn : Turn) (next : Next) (new : Machine) (after : Shelf) (t : Takes wsize machine sent turn (said_of call.purpose.proc rec) old.shelf next new after)
+    plain-has : (op : Op) (wsize : ℕ) (sent turn : Turn) (next : Step) (new : Machine) (after : Shelf) (t : Takes wsize machine sent turn (said_of call.purpose.proc rec) old.shelf next new after)
         → ((path : List (List ℕ)) (offset : ℕ) (text : List ℕ) → op ≡ ops.Put path offset text → IsNamed path → ⊥) → Brings (MayGive m modes_of Then x op) machine → Has op wsize sent turn next new after t
     plain-has op wsize sent turn next new after t none b =
         brings-has wsize sent turn (said_of call.purpose.proc rec) (Gives m modes_of Then x op) machine old.shelf next new after t
@@ -442,7 +442,7 @@ module _ (m : Mounted) (modes_of : Modes) (same : m.nocto ≡ modes_of.nocto) (s
     put-is : (path other : List (List ℕ)) (offset at : ℕ) (text bytes : List ℕ) → ops.Put path offset text ≡ ops.Put other at bytes → path ≡ other
     put-is path other offset at text bytes e = cc
 
-    put-has : (path : List (List ℕ)) (offset : ℕ) (text : List ℕ) → UnderWay h call.purpose.lane x (length h) (ops.Put path offset text) → IsNamed path → (wsize : ℕ) (sent turn : Turn) (next : Next)
+    put-has : (path : List (List ℕ)) (offset : ℕ) (text : List ℕ) → UnderWay h call.purpose.lane x (length h) (ops.Put path offset text) → IsNamed path → (wsize : ℕ) (sent turn : Turn) (next : Step)
         (new : Machine) (after : Shelf) (t : Takes wsize machine sent turn (said_of call.purpose.proc rec) old.shelf next new after) → Brings (MayGive m modes_of Then x (ops.Put path offset text)) machine
         → Has (ops.Put path offset text) wsize sent turn next new after t
     put-has path offset text u well wsize sent turn next new after t b =
@@ -455,7 +455,7 @@ module _ (m : Mounted) (modes_of : Modes) (same : m.nocto ≡ modes_of.nocto) (s
     nameless : (offset at : ℕ) (text bytes : List ℕ) (path : List (List ℕ)) → ops.Put [] offset text ≡ ops.Put path at bytes → IsNamed path → ⊥
     nameless offset at text bytes path is well = let none : 1 ≤ length path = well in let same = ap (λ (p : List (List ℕ)). length p) (put-is [] path offset at text bytes is) in omega (arith, none, same)
 
-    pub has-all : (op : Op) → UnderWay h call.purpose.lane x (length h) op → (wsize : ℕ) (sent turn : Turn) (next : Next) (new : Machine) (after : Shelf)
+    pub has-all : (op : Op) → UnderWay h call.purpose.lane x (length h) op → (wsize : ℕ) (sent turn : Turn) (next : Step) (new : Machine) (after : Shelf)
         (t : Takes wsize machine sent turn (said_of call.purpose.proc rec) old.shelf next new after) → Brings (MayGive m modes_of Then x op) machine → Has op wsize sent turn next new after t
     has-all (ops.Put [] offset text) u wsize sent turn next new after t b = plain-has (ops.Put [] offset text) wsize sent turn next new after t (λ path at bytes is. nameless offset at text bytes path is) b
     has-all (ops.Put (name ∷ path) offset text) u wsize sent turn next new after t b = put-has (name ∷ path) offset text u (omega arith) wsize sent turn next new after t b

@@ -1,10 +1,10 @@
 -- A remove looks for a hidden name, and takes one, only for a file that was open when it looked its name up.
-use Rattle.core_session.proofs.Prelude.{◌≡◌, ℕ, Bool, true, false, List, Option, Some, None, Result, Ok, Err, refl, sym, ap, subst, ◌∙◌, Opens, IsOpen, Fault, Reply, Op, Next, Shelf, Turn, Deed, Look, Seek, Move, RemoveFile, WalkNext, found_by, look_again, Mounted, Machine, NameMachine, machine_of, Starts, Resumes, Takes}
+use Rattle.core_session.proofs.Prelude.{◌≡◌, ℕ, Bool, true, false, List, Option, Some, None, Result, Ok, Err, refl, sym, ap, subst, ◌∙◌, Opens, IsOpen, Fault, Reply, Op, Step, Shelf, Turn, Deed, Look, Seek, Move, RemoveFile, WalkStep, found_by, look_again, Mounted, Machine, NameMachine, machine_of, Starts, Resumes, Takes}
 use Rattle.name_ops.specs.declared.remove_file.Deed.TheVariants.{Remove}
 use Rattle.std.specs.Prelude.{MatchBool}
 use Rattle.silly_rename.specs.Plans.{plan_of}
 use Rattle.world_model.specs.declared.op.Op.TheVariants as ops
-use Rattle.name_ops.specs.declared.walk.WalkNext.TheVariants as walks
+use Rattle.name_ops.specs.declared.walk.WalkStep.TheVariants as walks
 use Rattle.name_ops.specs.RemoveFile as removals
 use Rattle.name_ops.specs.Walking as walking
 use Rattle.op_machines.specs.declared.machine.Machine.TheVariants as machines
@@ -48,19 +48,19 @@ module _ (B : List ℕ → Type 0) where
   first-hides true = tt
   first-hides false = tt
 
-  follows : (step : WalkNext) (room : Bool) (m : RemoveFile) (opens : Opens) (next : Next) (new : RemoveFile) → removals.Follows step room m opens next new → SomeHides m.deed → SomeHides new.deed
+  follows : (step : WalkStep) (room : Bool) (m : RemoveFile) (opens : Opens) (next : Step) (new : RemoveFile) → removals.Follows step room m opens next new → SomeHides m.deed → SomeHides new.deed
   follows (walks.Send call) room m opens next new f k = hides-as m new f.1 k
   follows walks.Wait room m opens next new f k = hides-as m new f.1 k
   follows (walks.At dir) room m opens next new f k = hides-as (removals.asked_after m (removals.first_deed f.any) room) new f.machine_is (first-hides f.any)
   follows (walks.Refused fault) room m opens next new f k = hides-as m new f.1 k
 
-  goes : (deed : Option Deed) (m : RemoveFile) (turn : Turn) (old : Shelf) (next : Next) (new : RemoveFile) (after : Shelf) → m.deed ≡ deed → removals.Goes deed m turn old next new after
+  goes : (deed : Option Deed) (m : RemoveFile) (turn : Turn) (old : Shelf) (next : Step) (new : RemoveFile) (after : Shelf) → m.deed ≡ deed → removals.Goes deed m turn old next new after
       → SomeHides m.deed → SomeHides new.deed
   goes (Some deed) m turn old next new after is g k = hides-as (removals.asked_after m deed turn.room) new g.machine_is (subst SomeHides is k)
   goes None m turn old next new after is g k =
       follows (walking.go_next m.walk turn old) turn.room (record m { walk = walking.go_after m.walk turn old }) old.opens next new g.follows k
 
-  resumes : (asked : Bool) (m : RemoveFile) (turn : Turn) (old : Shelf) (next : Next) (new : RemoveFile) (after : Shelf) → removals.Resumes asked m turn old next new after
+  resumes : (asked : Bool) (m : RemoveFile) (turn : Turn) (old : Shelf) (next : Step) (new : RemoveFile) (after : Shelf) → removals.Resumes asked m turn old next new after
       → SomeHides m.deed → SomeHides new.deed
   resumes true m turn old next new after r k = hides-as m new r.machine_is k
   resumes false m turn old next new after r k = goes m.deed m turn old next new after refl r k
@@ -68,7 +68,7 @@ module _ (B : List ℕ → Type 0) where
   name-as : (to new : NameMachine) → new ≡ to → NameHides to → NameHides new
   name-as to new is k = subst NameHides (sym is) k
 
-  name-goes : (m : NameMachine) (turn : Turn) (old : Shelf) (next : Next) (new : NameMachine) (after : Shelf) → steps.NameGoes m turn old next new after → NameHides m → NameHides new
+  name-goes : (m : NameMachine) (turn : Turn) (old : Shelf) (next : Step) (new : NameMachine) (after : Shelf) → steps.NameGoes m turn old next new after → NameHides m → NameHides new
   name-goes (names.Change m) turn old next new after g k = name-as _ new g.machine_is tt
   name-goes (names.Stat m) turn old next new after g k = name-as _ new g.machine_is tt
   name-goes (names.Access m) turn old next new after g k = name-as _ new g.machine_is tt
@@ -82,12 +82,12 @@ module _ (B : List ℕ → Type 0) where
   machine-as : (to new : Machine) → new ≡ to → Hides to → Hides new
   machine-as to new is k = subst Hides (sym is) k
 
-  pub starts-hides : (wsize : ℕ) (m : Machine) (turn : Turn) (old : Shelf) (next : Next) (new : Machine) (after : Shelf) → Starts wsize m turn old next new after → Hides m → Hides new
+  pub starts-hides : (wsize : ℕ) (m : Machine) (turn : Turn) (old : Shelf) (next : Step) (new : Machine) (after : Shelf) → Starts wsize m turn old next new after → Hides m → Hides new
   starts-hides wsize (machines.File m) turn old next new after s k = machine-as (machines.File s.machine) new s.machine_is tt
   starts-hides wsize (machines.Path m) turn old next new after s k = machine-as (machines.Path s.machine) new s.machine_is tt
   starts-hides wsize (machines.Name m) turn old next new after s k = machine-as (machines.Name s.machine) new s.machine_is (name-goes m turn old next s.machine after s.step k)
 
-  pub resumes-hides : (wsize : ℕ) (m : Machine) (turn : Turn) (old : Shelf) (next : Next) (new : Machine) (after : Shelf) → Resumes wsize m turn old next new after → Hides m → Hides new
+  pub resumes-hides : (wsize : ℕ) (m : Machine) (turn : Turn) (old : Shelf) (next : Step) (new : Machine) (after : Shelf) → Resumes wsize m turn old next new after → Hides m → Hides new
   resumes-hides wsize (machines.File m) turn old next new after s k = machine-as (machines.File s.machine) new s.machine_is tt
   resumes-hides wsize (machines.Path m) turn old next new after s k = machine-as (machines.Path s.machine) new s.machine_is tt
   resumes-hides wsize (machines.Name m) turn old next new after s k = machine-as (machines.Name s.machine) new s.machine_is (name-goes m turn old next s.machine after s.step k)
@@ -122,7 +122,7 @@ module _ (B : List ℕ → Type 0) where
   deed-hides true file counter held = held refl
   deed-hides false file counter held = tt
 
-  plans : (is_open : Bool) (file : List ℕ) (m : RemoveFile) (room : Bool) (old : Shelf) (next : Next) (new : RemoveFile) (after : Shelf) → (is_open ≡ true → B file)
+  plans : (is_open : Bool) (file : List ℕ) (m : RemoveFile) (room : Bool) (old : Shelf) (next : Step) (new : RemoveFile) (after : Shelf) → (is_open ≡ true → B file)
       → removals.Plans is_open file m room old next new after → SomeHides new.deed
   plans is_open file m room old next new after held p =
       hides-as (removals.asked_after m (removals.deed_of file (plan_of is_open old.counter)) room) new p.machine_is (deed-hides is_open file old.counter held)
@@ -131,7 +131,7 @@ module _ (B : List ℕ → Type 0) where
   told-open true opens file told is = told
   told-open false opens file told is = absurd (cc)
 
-  looked : (again : Bool) (told : Result (List ℕ) Fault) (m : RemoveFile) (room : Bool) (old : Shelf) (next : Next) (new : RemoveFile) (after : Shelf)
+  looked : (again : Bool) (told : Result (List ℕ) Fault) (m : RemoveFile) (room : Bool) (old : Shelf) (next : Step) (new : RemoveFile) (after : Shelf)
       → ((file : List ℕ) → told ≡ Ok file → IsOpen old.opens file → B file) → removals.FollowsLook again told m room old next new after → SomeHides m.deed → SomeHides new.deed
   looked true told m room old next new after held f k = hides-as m new f.machine_is k
   looked false (Ok file) m room old next new after held f k =
@@ -142,7 +142,7 @@ module _ (B : List ℕ → Type 0) where
   missed true file to m room new held is k = hides-as (removals.asked_after m (Move file to) room) new is held
   missed false file to m room new held is k = hides-as m new is k
 
-  sought : (again : Bool) (told : Result (List ℕ) Fault) (file to : List ℕ) (m : RemoveFile) (room : Bool) (old : Shelf) (next : Next) (new : RemoveFile) (after : Shelf) → B file
+  sought : (again : Bool) (told : Result (List ℕ) Fault) (file to : List ℕ) (m : RemoveFile) (room : Bool) (old : Shelf) (next : Step) (new : RemoveFile) (after : Shelf) → B file
       → removals.FollowsSeek again told file to m room old next new after → SomeHides m.deed → SomeHides new.deed
   sought true told file to m room old next new after held f k = hides-as m new f.machine_is k
   sought false (Ok found) file to m room old next new after held f k = plans true file m room old next new after (λ is. held) f
@@ -151,7 +151,7 @@ module _ (B : List ℕ → Type 0) where
   opens-same : (came : Result Reply Fault) (old heard : Shelf) → heard.opens ≡ old.opens → FoundOpen came old.opens → FoundOpen came heard.opens
   opens-same came old heard is found file f there = found file f (subst (λ (o : Opens). IsOpen o file) is there)
 
-  deed-takes : (deed : Deed) (m : RemoveFile) (sent turn : Turn) (came : Result Reply Fault) (old : Shelf) (next : Next) (new : RemoveFile) (after : Shelf) → m.deed ≡ Some deed
+  deed-takes : (deed : Deed) (m : RemoveFile) (sent turn : Turn) (came : Result Reply Fault) (old : Shelf) (next : Step) (new : RemoveFile) (after : Shelf) → m.deed ≡ Some deed
       → FoundOpen came old.opens → removals.TakesDeed deed m sent turn came old next new after → SomeHides m.deed → SomeHides new.deed
   deed-takes Look m sent turn came old next new after is found t k =
       looked (look_again sent turn came old) (found_by came) m turn.room t.heard next new after
@@ -161,19 +161,19 @@ module _ (B : List ℕ → Type 0) where
   deed-takes (Move file to) m sent turn came old next new after is found t k = hides-as m new t.0 k
   deed-takes Remove m sent turn came old next new after is found t k = hides-as m new t.0 k
 
-  takes-if : (asked : Bool) (deed : Deed) (m : RemoveFile) (sent turn : Turn) (came : Result Reply Fault) (old : Shelf) (next : Next) (new : RemoveFile) (after : Shelf) → m.deed ≡ Some deed
+  takes-if : (asked : Bool) (deed : Deed) (m : RemoveFile) (sent turn : Turn) (came : Result Reply Fault) (old : Shelf) (next : Step) (new : RemoveFile) (after : Shelf) → m.deed ≡ Some deed
       → FoundOpen came old.opens → removals.TakesIf asked deed m sent turn came old next new after → SomeHides m.deed → SomeHides new.deed
   takes-if true deed m sent turn came old next new after is found t k = deed-takes deed m sent turn came old next new after is found t k
   takes-if false deed m sent turn came old next new after is found t k = hides-as m new t.machine_is k
 
-  takes : (deed : Option Deed) (m : RemoveFile) (sent turn : Turn) (came : Result Reply Fault) (old : Shelf) (next : Next) (new : RemoveFile) (after : Shelf) → m.deed ≡ deed
+  takes : (deed : Option Deed) (m : RemoveFile) (sent turn : Turn) (came : Result Reply Fault) (old : Shelf) (next : Step) (new : RemoveFile) (after : Shelf) → m.deed ≡ deed
       → FoundOpen came old.opens → removals.Takes deed m sent turn came old next new after → SomeHides m.deed → SomeHides new.deed
   takes (Some deed) m sent turn came old next new after is found t k = takes-if m.asked deed m sent turn came old next new after is found t k
   takes None m sent turn came old next new after is found t k =
       follows t.step turn.room t.walked after.opens next new t.follows
       (subst SomeHides (sym (ap (λ (w : RemoveFile). w.deed) t.walked_is ∙ is)) tt)
 
-  name-takes : (m : NameMachine) (sent turn : Turn) (came : Result Reply Fault) (old : Shelf) (next : Next) (new : NameMachine) (after : Shelf) → FoundOpen came old.opens
+  name-takes : (m : NameMachine) (sent turn : Turn) (came : Result Reply Fault) (old : Shelf) (next : Step) (new : NameMachine) (after : Shelf) → FoundOpen came old.opens
       → steps.NameTakes m sent turn came old next new after → NameHides m → NameHides new
   name-takes (names.Change m) sent turn came old next new after found t k = name-as _ new t.machine_is tt
   name-takes (names.Stat m) sent turn came old next new after found t k = name-as _ new t.machine_is tt
@@ -186,7 +186,7 @@ module _ (B : List ℕ → Type 0) where
   name-takes (names.SymLink m) sent turn came old next new after found t k = name-as _ new t.machine_is tt
   name-takes (names.List m) sent turn came old next new after found t k = name-as _ new t.machine_is tt
 
-  pub takes-hides : (wsize : ℕ) (m : Machine) (sent turn : Turn) (came : Result Reply Fault) (old : Shelf) (next : Next) (new : Machine) (after : Shelf) → FoundOpen came old.opens
+  pub takes-hides : (wsize : ℕ) (m : Machine) (sent turn : Turn) (came : Result Reply Fault) (old : Shelf) (next : Step) (new : Machine) (after : Shelf) → FoundOpen came old.opens
       → Takes wsize m sent turn came old next new after → Hides m → Hides new
   takes-hides wsize (machines.File m) sent turn came old next new after found t k = machine-as (machines.File t.machine) new t.machine_is tt
   takes-hides wsize (machines.Path m) sent turn came old next new after found t k = machine-as (machines.Path t.machine) new t.machine_is tt

@@ -1,6 +1,6 @@
 -- While a remove looks for a hidden name, or takes one, a slot held the file since it began.
-use Rattle.core_session.proofs.Prelude.{◌≡◌, ◌≢◌, ◌≤◌, ◌⊎◌, inl, inr, ℕ, List, [], ◌∷◌, ◌++◌, length, false, Some, None, Err, slice_get, slice_set, refl, sym, ap, subst, ◌∙◌, arith, Waiting, Answer, Entry, Began, Answered, Delivered, Op, HeldOpen, UnderWay, Terms, length_last, said_of, Next, Mounted, Machine, machine_of, Lane, Purpose, State, Busy, Over, Setup, IsOther, numbers_of, with_state, IsRefused, Leads, Stirs, counted, StartsLane, TakesAt, View, turn_at, unmade_turn, Reaches, HearsRecord, begins-unbegun, taken_one, always-later, Known, idle-numbers, number_of, at-set, at-push, get-push, get-remove, skip, to-map, IsHeld, held-grow, by-place, set-other, under-back}
-use Rattle.client_shelf.specs.declared.next.Next.TheVariants as nexts
+use Rattle.core_session.proofs.Prelude.{◌≡◌, ◌≢◌, ◌≤◌, ◌⊎◌, inl, inr, ℕ, List, [], ◌∷◌, ◌++◌, length, false, Some, None, Err, slice_get, slice_set, refl, sym, ap, subst, ◌∙◌, arith, Waiting, Answer, Entry, Began, Answered, Delivered, Op, HeldOpen, UnderWay, Terms, length_last, said_of, Step, Mounted, Machine, machine_of, Lane, Purpose, State, Busy, Over, Setup, IsOther, numbers_of, with_state, IsRefused, Leads, Stirs, counted, StartsLane, TakesAt, View, turn_at, unmade_turn, Reaches, HearsRecord, begins-unbegun, taken_one, always-later, Known, idle-numbers, number_of, at-set, at-push, get-push, get-remove, skip, to-map, IsHeld, held-grow, by-place, set-other, under-back}
+use Rattle.client_shelf.specs.declared.step.Step.TheVariants as nexts
 use Rattle.core_session.proofs.saves.HearingAlong.{KeepsHearing, reached-hearing}
 use Rattle.core_session.proofs.calls.Hiding.{Hides, starts-hides, resumes-hides, takes-hides, begun-hides, hides-map}
 use Rattle.core_session.proofs.calls.TableHeld.{open-held}
@@ -75,7 +75,7 @@ module _ (m : Mounted) (terms : Terms) (same : m.nocto ≡ terms.modes.nocto) (s
       (at-set lanes at (record { number = number; state = was }) (record { number = number; state = state }) there) own
       (λ k lane here apart. all k lane (sym (set-other lanes at k (record { number = number; state = state }) apart) ∙ here))
 
-  leads-hides : (h : List Entry) (v new : View) (at number : ℕ) (machine : Machine) (next : Next) → slice_get v.lanes at ≡ Some (record { number = number; state = Busy machine })
+  leads-hides : (h : List Entry) (v new : View) (at number : ℕ) (machine : Machine) (next : Step) → slice_get v.lanes at ≡ Some (record { number = number; state = Busy machine })
       → LanesHide h v.lanes → Leads v at number machine next new → LanesHide h new.lanes
   leads-hides h v new at number machine (nexts.Send call) there all (inl k) = subst (λ (w : View). LanesHide h w.lanes) (sym k.is) all
   leads-hides h v new at number machine (nexts.Send call) there all (inr f) =
@@ -86,7 +86,7 @@ module _ (m : Mounted) (terms : Terms) (same : m.nocto ≡ terms.modes.nocto) (s
           takes-hides (Held h x) v.wsize machine (turn_at v) (unmade_turn v) (Err f.fault) v.shelf f.next f.after f.left (λ file is. absurd (cc)) f.takes
           (all at (record { number = number; state = Busy machine }) there x op u)
 
-      by : (next : Next) (state : State) → IsRefused f.after next state → Own h number f.after → LaneHides h (record { number = number; state = state })
+      by : (next : Step) (state : State) → IsRefused f.after next state → Own h number f.after → LaneHides h (record { number = number; state = state })
       by (nexts.Send again) state is k = absurd is
       by nexts.Wait state is k = subst (λ (s : State). LaneHides h (record { number = number; state = s })) (sym is) k
       by (nexts.Done answer) state is k = subst (λ (s : State). LaneHides h (record { number = number; state = s })) (sym is) (λ x op u. tt)

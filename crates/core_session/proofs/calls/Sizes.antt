@@ -1,5 +1,5 @@
 -- Each piece in flight has no more bytes than the session's size of WRITE.
-use Rattle.core_session.proofs.Prelude.{◌≡◌, ◌≢◌, ◌≤◌, ◌⊎◌, inl, inr, ℕ, Bool, true, false, nat_eq, length, List, [], ◌∷◌, ◌++◌, Option, Some, None, Result, Err, sym, ap, subst, ◌∙◌, arith, if◌then◌else◌, Waiting, Fault, Entry, Reply, Op, FilePending, nothing, piece_under, with_sent, at_xid, landed, landed_part, with_cut, with_xid, Pending, of_file, OnFile, with_bytes, same-or, decided, said_of, Next, Shelf, Turn, Mounted, Machine, machine_of, Starts, Resumes, Takes, Purpose, Busy, Setup, with_state, Leads, Stirs, counted, StartsLane, TakesAt, View, turn_at, unmade_turn, StepsTo, Reaches, begins, goes, loses, last_reading, begins-unbegun, Heard, dropped, replied, sent_now, FailedNow, goes_on, gives_up, failed_now, answered_now, taken_one, Known, Stays, After, CarriesReply, any-saves}
+use Rattle.core_session.proofs.Prelude.{◌≡◌, ◌≢◌, ◌≤◌, ◌⊎◌, inl, inr, ℕ, Bool, true, false, nat_eq, length, List, [], ◌∷◌, ◌++◌, Option, Some, None, Result, Err, sym, ap, subst, ◌∙◌, arith, if◌then◌else◌, Waiting, Fault, Entry, Reply, Op, FilePending, nothing, piece_under, with_sent, at_xid, landed, landed_part, with_cut, with_xid, Pending, of_file, OnFile, with_bytes, same-or, decided, said_of, Step, Shelf, Turn, Mounted, Machine, machine_of, Starts, Resumes, Takes, Purpose, Busy, Setup, with_state, Leads, Stirs, counted, StartsLane, TakesAt, View, turn_at, unmade_turn, StepsTo, Reaches, begins, goes, loses, last_reading, begins-unbegun, Heard, dropped, replied, sent_now, FailedNow, goes_on, gives_up, failed_now, answered_now, taken_one, Known, Stays, After, CarriesReply, any-saves}
 use Rattle.std.specs.Prelude.{⊤}
 use Rattle.write_back.specs.Pieces.{Sent, without, renumbered}
 use Rattle.write_back.specs.Landing.{at_piece}
@@ -8,7 +8,7 @@ use Rattle.core_facts.proofs.Walks.{begins-stay, hears-for-stay}
 use Rattle.core_answers.proofs.writes.Backs.{Carries}
 use Rattle.core_answers.proofs.writes.Mapped.{any-asks, any-brings, any-starts}
 use Rattle.world_model.specs.declared.entry.Entry.TheVariants as entries
-use Rattle.client_shelf.specs.declared.next.Next.TheVariants as nexts
+use Rattle.client_shelf.specs.declared.step.Step.TheVariants as nexts
 use Rattle.file_ops.specs.Syncs as syncs
 use Rattle.core_answers.proofs.writes.AllBacks.{all-starts, all-resumes, all-takes}
 use Rattle.core_session.proofs.saves.HearingAlong.{KeepsHearing, reached-hearing}
@@ -127,12 +127,12 @@ module _ (most : ℕ) where
   module _ (wsize : ℕ) (small : wsize ≤ most) where
     -- ---- steps of operations
 
-    short-after : (next : Next) (back : Pending) → Short back → After Short (λ call. Short) next back
+    short-after : (next : Step) (back : Pending) → Short back → After Short (λ call. Short) next back
     short-after (nexts.Send call) back p = p
     short-after nexts.Wait back p = p
     short-after (nexts.Done answer) back p = p
 
-    after-short : (next : Next) (back : Pending) → After Short (λ call. Short) next back → Short back
+    after-short : (next : Step) (back : Pending) → After Short (λ call. Short) next back → Short back
     after-short (nexts.Send call) back p = p
     after-short nexts.Wait back p = p
     after-short (nexts.Done answer) back p = p
@@ -155,17 +155,17 @@ module _ (most : ℕ) where
       takes = λ repeats s back next new after later t n p. short-after (syncs.sync_next next) after (takes-kept Short wsize sent turn (kept wsize sent.xid turn.xid small) came repeats s back next new after later t p);
     }
 
-    start-step : (turn : Turn) (machine : Machine) (old : Shelf) (next : Next) (new : Machine) (after : Shelf) → Starts wsize machine turn old next new after → Short old.back → Short after.back
+    start-step : (turn : Turn) (machine : Machine) (old : Shelf) (next : Step) (new : Machine) (after : Shelf) → Starts wsize machine turn old next new after → Short old.back → Short after.back
     start-step turn machine old next new after s p =
         after-short next after.back
         (all-starts wsize turn (λ f o b n. Unit {0}) (λ c. Unit {0}) (λ call o. tt) Short (λ call. Short) (carries turn) machine old next new after (any-asks next new) (any-starts machine old.opens) p s)
 
-    resume-step : (turn : Turn) (machine : Machine) (old : Shelf) (next : Next) (new : Machine) (after : Shelf) → Resumes wsize machine turn old next new after → Short old.back → Short after.back
+    resume-step : (turn : Turn) (machine : Machine) (old : Shelf) (next : Step) (new : Machine) (after : Shelf) → Resumes wsize machine turn old next new after → Short old.back → Short after.back
     resume-step turn machine old next new after s p =
         after-short next after.back
         (all-resumes wsize turn (λ f o b n. Unit {0}) (λ c. Unit {0}) (λ call o. tt) Short (λ call. Short) (carries turn) machine old next new after (any-asks next new) p s)
 
-    take-step : (sent turn : Turn) (came : Result Reply Fault) (machine : Machine) (old : Shelf) (next : Next) (new : Machine) (after : Shelf) → Takes wsize machine sent turn came old next new after
+    take-step : (sent turn : Turn) (came : Result Reply Fault) (machine : Machine) (old : Shelf) (next : Step) (new : Machine) (after : Shelf) → Takes wsize machine sent turn came old next new after
         → Short old.back → Short after.back
     take-step sent turn came machine old next new after s p =
         after-short next after.back
@@ -183,7 +183,7 @@ module _ (setup : Setup) where
   least : (v : View) → v.wsize ≡ setup.wsize → v.wsize ≤ setup.wsize
   least v is = omega (arith, is)
 
-  leads-sizes : (v new : View) (at number : ℕ) (machine : Machine) (next : Next) → Sizes v → Leads v at number machine next new → Sizes new
+  leads-sizes : (v new : View) (at number : ℕ) (machine : Machine) (next : Step) → Sizes v → Leads v at number machine next new → Sizes new
   leads-sizes v new at number machine (nexts.Send call) s (inl m) = subst Sizes (sym m.is) (record { size = s.size; short = s.short })
   leads-sizes v new at number machine (nexts.Send call) s (inr f) = subst Sizes (sym f.is) (record {
     size = s.size;

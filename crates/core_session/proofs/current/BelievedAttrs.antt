@@ -1,5 +1,5 @@
 -- Attributes that are believed in a step were shown by a reply, to a call that was first sent at a time which isn't long before.
-use Rattle.core_session.proofs.Prelude.{◌≡◌, ◌<◌, ◌+◌, ℕ, Bool, true, false, List, ◌∷◌, [], ◌++◌, length, Option, Some, None, Result, refl, subst, arith, if◌then◌else◌, nat_tests, Attr, looked, Fault, Entry, Call, Reply, Next, Shelf, Turn, machine_of, Takes, Mounted, Machine, Setup, View, Reaches, IsAnswered, LastAtMost}
+use Rattle.core_session.proofs.Prelude.{◌≡◌, ◌<◌, ◌+◌, ℕ, Bool, true, false, List, ◌∷◌, [], ◌++◌, length, Option, Some, None, Result, refl, subst, arith, if◌then◌else◌, nat_tests, Attr, looked, Fault, Entry, Call, Reply, Step, Shelf, Turn, machine_of, Takes, Mounted, Machine, Setup, View, Reaches, IsAnswered, LastAtMost}
 use Rattle.std.proofs.Common.{nat_lt}
 use Rattle.attr_cache.specs.Attrs.{Attrs, kept_of, is_fresh}
 use Rattle.core_answers.specs.bonds.Kept.{HadShown}
@@ -50,7 +50,7 @@ believed-of h most now file attr c (Some kept) is good e = by (is_fresh now kept
 
 -- those that are kept after what came of a call was taken
 pub believed-taken : (m : Mounted) (setup : Setup) (most : ℕ) → LastAtMost setup.lives most → (h : List Entry) (e : Entry) (v : View) → Reaches (machine_of m) setup h v
-    → (machine : Machine) (call : Call) (wsize : ℕ) (sent turn : Turn) (came : Result Reply Fault) (next : Next) (new : Machine) (after : Shelf) → Asks machine call
+    → (machine : Machine) (call : Call) (wsize : ℕ) (sent turn : Turn) (came : Result Reply Fault) (next : Step) (new : Machine) (after : Shelf) → Asks machine call
     → IsTold (h ++ e ∷ []) call sent.now came → Takes wsize machine sent turn came v.shelf next new after → (now : ℕ) (file : List ℕ) (attr : Attr) → looked file now after.attrs ≡ Some attr
     → IsBelieved (h ++ e ∷ []) most now file attr
 believed-taken m setup most lasts h e v r machine call wsize sent turn came next new after on told t now file attr is =

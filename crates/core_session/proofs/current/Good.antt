@@ -1,5 +1,5 @@
 -- Of each open that went well, and of each open and read that is under way: its moment, and what is known of its file since it began.
-use Rattle.core_session.proofs.Prelude.{◌≡◌, ◌≢◌, ◌<◌, ◌≤◌, ◌+◌, ◌-◌, ◌⊎◌, inl, inr, ℕ, List, [], ◌∷◌, ◌++◌, length, take, remove, Bool, true, false, nat_eq, Some, None, option_map, position, slice_get, slice_set, Option, Result, Ok, Err, refl, sym, ap, subst, ◌∙◌, arith, eqb-true, cases_lt, Attr, Stamp, Wcc, stamp_of, looked, xid_at, Waiting, next_xid, made_call, waiting_at, without, at_made, others_made, others_taken, gone, Pages, after_page, Pending, Answer, Fault, Entry, Began, Answered, Delivered, Clock, Call, Reply, Op, At, SpellsReply, proc_of, Modes, Ended, UnderWay, LastReply, of_object, Finds, At-below, At-grow, length_last, said_of, Next, Shelf, Reading, opened_pages, Mounted, Machine, machine_of, Starts, Lane, Purpose, State, Busy, Over, Setup, IsFresh, is_busy, IsIdle, numbers_of, with_state, record_of, Makes, IsRefused, Leads, Stirs, counted, StartsLane, TakesAt, AnswersAt, View, turn_at, unmade_turn, IsSetUp, HearsRecord, Reaches, IsMade, IsUnsent, IsOutstanding, begins-unbegun, taken_one, Known, reached-kept, idle-numbers, number_of, at-set, at-push, at-position, get-push, get-remove, skip, to-map, Rows, rows-stay, same-rows, silent-grow, rows-grow, taken-quiet, not-sent, taken-rows, ThenOf, Always, set-other, by-place, under-back, LastAtMost, IsOn, ReadOn, IsSentAs, Both, both-asks, SameCalls, IsAged, IsSeen, shown, WasRegular}
+use Rattle.core_session.proofs.Prelude.{◌≡◌, ◌≢◌, ◌<◌, ◌≤◌, ◌+◌, ◌-◌, ◌⊎◌, inl, inr, ℕ, List, [], ◌∷◌, ◌++◌, length, take, remove, Bool, true, false, nat_eq, Some, None, option_map, position, slice_get, slice_set, Option, Result, Ok, Err, refl, sym, ap, subst, ◌∙◌, arith, eqb-true, cases_lt, Attr, Stamp, Wcc, stamp_of, looked, xid_at, Waiting, next_xid, made_call, waiting_at, without, at_made, others_made, others_taken, gone, Pages, after_page, Pending, Answer, Fault, Entry, Began, Answered, Delivered, Clock, Call, Reply, Op, At, SpellsReply, proc_of, Modes, Ended, UnderWay, LastReply, of_object, Finds, At-below, At-grow, length_last, said_of, Step, Shelf, Reading, opened_pages, Mounted, Machine, machine_of, Starts, Lane, Purpose, State, Busy, Over, Setup, IsFresh, is_busy, IsIdle, numbers_of, with_state, record_of, Makes, IsRefused, Leads, Stirs, counted, StartsLane, TakesAt, AnswersAt, View, turn_at, unmade_turn, IsSetUp, HearsRecord, Reaches, IsMade, IsUnsent, IsOutstanding, begins-unbegun, taken_one, Known, reached-kept, idle-numbers, number_of, at-set, at-push, at-position, get-push, get-remove, skip, to-map, Rows, rows-stay, same-rows, silent-grow, rows-grow, taken-quiet, not-sent, taken-rows, ThenOf, Always, set-other, by-place, under-back, LastAtMost, IsOn, ReadOn, IsSentAs, Both, both-asks, SameCalls, IsAged, IsSeen, shown, WasRegular}
 use Rattle.rpc_retry.specs.Held.{Held}
 use Rattle.page_cache.specs.Pages.{opened}
 use Rattle.claims.specs.Slots.{Opens}
@@ -16,7 +16,7 @@ use Rattle.world_model.specs.declared.message.Call.TheVariants as calls
 use Rattle.world_model.specs.declared.message.Reply.TheVariants as replies
 use Rattle.world_model.specs.declared.op.Op.TheVariants as ops
 use Rattle.claims.specs.Slots as slots
-use Rattle.client_shelf.specs.declared.next.Next.TheVariants as nexts
+use Rattle.client_shelf.specs.declared.step.Step.TheVariants as nexts
 use Rattle.file_ops.specs.OpenFile as opens
 use Rattle.core_facts.proofs.Flown.{Flown, keeps-flown}
 use Rattle.core_facts.proofs.LastReplies.{last-back}
@@ -93,7 +93,7 @@ Story modes h v x reading (Busy machine) = ReadIn (AskedSo h v x) machine
 Story modes h v x reading (Over answer) = Unit {0}
 Story modes h v x neither state = Unit {0}
 
-abbrev pub Then : Modes → List Entry → View → ℕ → Kind → Next → Machine → Type 0
+abbrev pub Then : Modes → List Entry → View → ℕ → Kind → Step → Machine → Type 0
 Then modes h v x b next new = ThenOf (λ m. Story modes h v x b (Busy m)) (λ a. Story modes h v x b (Over a)) next new
 
 abbrev pub AllOpened : Modes → List Entry → View → Type 0
@@ -144,7 +144,7 @@ module _ (noac : Bool) (modes : Modes) where
   story-same : (h : List Entry) (old new : View) → Carries h old h new → (x : ℕ) (b : Kind) (state : State) → Story modes h old x b state → Story modes h new x b state
   story-same h old new c x b state s = story-carried h old h new c x b state (λ answer is f finds. finds) s
 
-  then-same : (h : List Entry) (old new : View) → Carries h old h new → (x : ℕ) (b : Kind) (next : Next) (machine : Machine) → Then modes h old x b next machine → Then modes h new x b next machine
+  then-same : (h : List Entry) (old new : View) → Carries h old h new → (x : ℕ) (b : Kind) (next : Step) (machine : Machine) → Then modes h old x b next machine → Then modes h new x b next machine
   then-same h old new c x b (nexts.Send call) machine s = story-same h old new c x b (Busy machine) s
   then-same h old new c x b nexts.Wait machine s = story-same h old new c x b (Busy machine) s
   then-same h old new c x b (nexts.Done answer) machine s = story-same h old new c x b (Over answer) s
@@ -163,7 +163,7 @@ module _ (noac : Bool) (modes : Modes) where
   grown h e v = record { moment = λ o k m. moment-grows h e v o k m; marked = λ f o k m s. marked-grows h e o f k v.shelf.pages s; regular = λ f r. regular-grows h e f r; aged = λ z o s a. aged-grows z h e o s a }
 
   -- where nothing is said
-  none-said : (h : List Entry) (v : View) (x : ℕ) (next : Next) (machine : Machine) → Then modes h v x neither next machine
+  none-said : (h : List Entry) (v : View) (x : ℕ) (next : Step) (machine : Machine) → Then modes h v x neither next machine
   none-said h v x (nexts.Send call) machine = tt
   none-said h v x nexts.Wait machine = tt
   none-said h v x (nexts.Done answer) machine = tt
@@ -181,23 +181,23 @@ module _ (noac : Bool) (modes : Modes) where
         marked = λ far. subst (λ (k : ℕ). SinceIn g x n.file k new.shelf.pages) (sym same.moment) (subst (λ (f : List ℕ). SinceIn g x f r.moment new.shelf.pages) (sym same.file) (now.marked (same.far far)));
       }
 
-  then-reading : (h : List Entry) (v : View) (x : ℕ) (next : Next) (machine : Machine) → ThenRead (AskedSo h v x) next machine → Then modes h v x reading next machine
+  then-reading : (h : List Entry) (v : View) (x : ℕ) (next : Step) (machine : Machine) → ThenRead (AskedSo h v x) next machine → Then modes h v x reading next machine
   then-reading h v x (nexts.Send call) machine s = s
   then-reading h v x nexts.Wait machine s = s
   then-reading h v x (nexts.Done answer) machine s = tt
 
-  went-on : (h : List Entry) (v : View) (x k : ℕ) (next : Next) (machine : Machine) → IsMoment h v x k → marks.GoesOn modes.nocto k next machine → Then modes h v x opening next machine
+  went-on : (h : List Entry) (v : View) (x k : ℕ) (next : Step) (machine : Machine) → IsMoment h v x k → marks.GoesOn modes.nocto k next machine → Then modes h v x opening next machine
   went-on h v x k (nexts.Send call) machine m g = record { k = k; moment = m; is = g }
   went-on h v x k nexts.Wait machine m g = record { k = k; moment = m; is = g }
   went-on h v x k (nexts.Done answer) machine m g = refusal-said h v x answer g
 
-  well-said : (h : List Entry) (v : View) (x : ℕ) (next : Next) (machine : Machine) → next ≡ opens.well → OpenedSo modes h v x → Then modes h v x opening next machine
-  well-said h v x next machine is s = subst (λ (n : Next). Then modes h v x opening n machine) (sym is) s
+  well-said : (h : List Entry) (v : View) (x : ℕ) (next : Step) (machine : Machine) → next ≡ opens.well → OpenedSo modes h v x → Then modes h v x opening next machine
+  well-said h v x next machine is s = subst (λ (n : Step). Then modes h v x opening n machine) (sym is) s
 
   -- ---- what a step leads to
 
   -- The machine of the lane at a place made a step, and what that leads to is still to come.
-  record Owing (h : List Entry) (v : View) (at number : ℕ) (machine : Machine) (next : Next) : Type 0 where
+  record Owing (h : List Entry) (v : View) (at number : ℕ) (machine : Machine) (next : Step) : Type 0 where
     there : slice_get v.lanes at ≡ Some (record { number = number; state = Busy machine })
     timely : AllTimely v
     opened : AllOpened modes h v
@@ -205,7 +205,7 @@ module _ (noac : Bool) (modes : Modes) where
     told : (x : ℕ) (op : Op) → UnderWay h number x (length h) op → Then modes h v x (kind_of noac op) next machine
 
   -- the lane at the place comes to another state, over a view that carries all on
-  set-good : (h : List Entry) (v new : View) (at number : ℕ) (machine : Machine) (next : Next) (state : State) → Owing h v at number machine next
+  set-good : (h : List Entry) (v new : View) (at number : ℕ) (machine : Machine) (next : Step) (state : State) → Owing h v at number machine next
       → new.lanes ≡ slice_set v.lanes at (record { number = number; state = state }) → Carries h v h new → AllTimely new
       → ((x : ℕ) (op : Op) → UnderWay h number x (length h) op → Story modes h new x (kind_of noac op) state) → Good noac modes h new
   set-good h v new at number machine next state o lanes c timely own = record {
@@ -221,7 +221,7 @@ module _ (noac : Bool) (modes : Modes) where
       now = record { number = number; state = state }
 
   -- it stays as it is
-  stay-good : (h : List Entry) (v new : View) (at number : ℕ) (machine : Machine) (next : Next) → Owing h v at number machine next → new.lanes ≡ v.lanes → Carries h v h new → AllTimely new
+  stay-good : (h : List Entry) (v new : View) (at number : ℕ) (machine : Machine) (next : Step) → Owing h v at number machine next → new.lanes ≡ v.lanes → Carries h v h new → AllTimely new
       → ((x : ℕ) (op : Op) → UnderWay h number x (length h) op → Story modes h new x (kind_of noac op) (Busy machine)) → Good noac modes h new
   stay-good h v new at number machine next o lanes c timely own = record {
     timely = timely;
@@ -302,12 +302,12 @@ module _ (noac : Bool) (modes : Modes) where
       err-told x reading s = then-reading h refused-view x f.next f.after (refused-read x s)
       err-told x opening s = refused-open x s
 
-      state-told : (next : Next) (state : State) → IsRefused f.after next state → (x : ℕ) (b : Kind) → Then modes h refused-view x b next f.after → Story modes h refused-view x b state
+      state-told : (next : Step) (state : State) → IsRefused f.after next state → (x : ℕ) (b : Kind) → Then modes h refused-view x b next f.after → Story modes h refused-view x b state
       state-told (nexts.Send again) state is x b t = absurd is
       state-told nexts.Wait state is x b t = subst (Story modes h refused-view x b) (sym is) t
       state-told (nexts.Done answer) state is x b t = subst (Story modes h refused-view x b) (sym is) t
 
-    leads-good : (h : List Entry) (v new : View) (at number : ℕ) (machine : Machine) (next : Next) → Rows setup h v → Owing h v at number machine next → Leads v at number machine next new
+    leads-good : (h : List Entry) (v new : View) (at number : ℕ) (machine : Machine) (next : Step) → Rows setup h v → Owing h v at number machine next → Leads v at number machine next new
         → Good noac modes h new
     leads-good h v new at number machine (nexts.Send call) r o (inl m) =
         let g = made-goes setup h v number call new m r in
@@ -412,7 +412,7 @@ shown-some h n ms (inr s) = let low = s.2 in omega (arith, low)
 
 -- ---- the call of a lane
 
-no-story : (next : Next) (new : Machine) → ThenOf (λ k. Unit {0}) (λ a. Unit {0}) next new
+no-story : (next : Step) (new : Machine) → ThenOf (λ k. Unit {0}) (λ a. Unit {0}) next new
 no-story (nexts.Send call) new = tt
 no-story nexts.Wait new = tt
 no-story (nexts.Done answer) new = tt

@@ -1,5 +1,5 @@
 -- What an open makes of its own moment, and which pages it leaves where it goes well.
-use Rattle.core_session.proofs.Prelude.{◌≡◌, ◌-◌, ◌==◌, ◌&&◌, inl, inr, ℕ, Bool, true, false, List, Option, Some, None, Result, Ok, Err, refl, sym, ap, subst, ◌∙◌, if◌then◌else◌, eqb-true, Attr, Mode, Stamp, Wcc, stamp_of, Opened, Place, Opens, Pages, known_of, Answer, Fault, Call, Reply, Next, Shelf, Turn, looked, OpenFile, Led, Opening, OpeningNext, made_by, got_by, OpeningStep, opened_pages, WalkNext, Machine, Opener, PathMachine, file_of, slot_taken, begun_at, Starts, Resumes, Takes, ThenOf, IsOn}
+use Rattle.core_session.proofs.Prelude.{◌≡◌, ◌-◌, ◌==◌, ◌&&◌, inl, inr, ℕ, Bool, true, false, List, Option, Some, None, Result, Ok, Err, refl, sym, ap, subst, ◌∙◌, if◌then◌else◌, eqb-true, Attr, Mode, Stamp, Wcc, stamp_of, Opened, Place, Opens, Pages, known_of, Answer, Fault, Call, Reply, Step, Shelf, Turn, looked, OpenFile, Led, Opening, OpeningStep, made_by, got_by, OpeningPhase, opened_pages, WalkStep, Machine, Opener, PathMachine, file_of, slot_taken, begun_at, Starts, Resumes, Takes, ThenOf, IsOn}
 use Rattle.nfs_types.specs.Stamps.{same_stamp}
 use Rattle.page_cache.specs.Pages.{opened}
 use Rattle.attr_cache.specs.Attrs.{Attrs}
@@ -12,13 +12,13 @@ use Rattle.page_cache.proofs.States.{same_stamp-is}
 use Rattle.world_model.specs.declared.answer.Answer.TheVariants as answers
 use Rattle.world_model.specs.declared.answer.Fault.TheVariants as faults
 use Rattle.world_model.specs.declared.message.Reply.TheVariants as replies
-use Rattle.client_shelf.specs.declared.next.Next.TheVariants as nexts
+use Rattle.client_shelf.specs.declared.step.Step.TheVariants as nexts
 use Rattle.file_ops.specs.declared.opening.Led.TheVariants as leads
-use Rattle.file_ops.specs.declared.opening.OpeningNext.TheVariants as openings
-use Rattle.file_ops.specs.declared.opening.OpeningStep.TheVariants as opening_steps
+use Rattle.file_ops.specs.declared.opening.OpeningStep.TheVariants as openings
+use Rattle.file_ops.specs.declared.opening.OpeningPhase.TheVariants as opening_steps
 use Rattle.file_ops.specs.OpenFile as opens
 use Rattle.file_ops.specs.Opening as opening
-use Rattle.name_ops.specs.declared.walk.WalkNext.TheVariants as walks
+use Rattle.name_ops.specs.declared.walk.WalkStep.TheVariants as walks
 use Rattle.name_ops.specs.Walking as walking
 use Rattle.op_machines.specs.declared.file_machine.FileMachine.TheVariants as files
 use Rattle.op_machines.specs.declared.machine.Machine.TheVariants as machines
@@ -43,7 +43,7 @@ IsRefusal (answers.Done value) = ⊥
 IsRefusal (answers.Refused fault) = Unit {0}
 
 -- the step ends with a refusal, or the open goes on
-abbrev pub GoesOn : Bool → ℕ → Next → Machine → Type 0
+abbrev pub GoesOn : Bool → ℕ → Step → Machine → Type 0
 GoesOn nocto k next new = ThenOf (IsOpening nocto k) IsRefusal next new
 
 -- ---- what is believed
@@ -53,13 +53,13 @@ pub data Gives (came : Result Reply Fault) (file : List ℕ) : Type 0 where
   by_lookup : (attr dir : Option Attr) → came ≡ Ok (replies.Dir (found.Lookup file attr dir)) → Gives came file
   by_create : (attr : Option Attr) (wcc : Wcc) → came ≡ Ok (replies.Dir (found.Create (Some file) attr wcc)) → Gives came file
 
-goes-is : (a b : OpeningStep) → leads.Goes a ≡ leads.Goes b → a ≡ b
+goes-is : (a b : OpeningPhase) → leads.Goes a ≡ leads.Goes b → a ≡ b
 goes-is a b e = cc
 
-no-ends : (fault : Fault) (step : OpeningStep) → leads.Ends fault ≡ leads.Goes step → ⊥
+no-ends : (fault : Fault) (step : OpeningPhase) → leads.Ends fault ≡ leads.Goes step → ⊥
 no-ends fault step e = cc
 
-no-opens : (file : List ℕ) (attr : Attr) (step : OpeningStep) → leads.Opens file attr ≡ leads.Goes step → ⊥
+no-opens : (file : List ℕ) (attr : Attr) (step : OpeningPhase) → leads.Opens file attr ≡ leads.Goes step → ⊥
 no-opens file attr step e = cc
 
 ask-is : (a b : List ℕ) → opening_steps.Ask a ≡ opening_steps.Ask b → a ≡ b
@@ -102,15 +102,15 @@ look-asks : (b : Bool) (came : Result Reply Fault) (f : List ℕ) → (if b then
 look-asks true came f e = absurd (no-make f (goes-is opening_steps.Make (opening_steps.Ask f) e))
 look-asks false came f e = found-asks came (found_by came) f refl e
 
-kind-goes : (b : Bool) (file : List ℕ) (attr : Attr) (step : OpeningStep) → (if b then leads.Opens file attr else leads.Ends faults.Kind) ≡ leads.Goes step → ⊥
+kind-goes : (b : Bool) (file : List ℕ) (attr : Attr) (step : OpeningPhase) → (if b then leads.Opens file attr else leads.Ends faults.Kind) ≡ leads.Goes step → ⊥
 kind-goes true file attr step e = no-opens file attr step e
 kind-goes false file attr step e = no-ends faults.Kind step e
 
-got-goes : (r : Result Attr Fault) (file : List ℕ) (step : OpeningStep) → opening.got file r ≡ leads.Goes step → ⊥
+got-goes : (r : Result Attr Fault) (file : List ℕ) (step : OpeningPhase) → opening.got file r ≡ leads.Goes step → ⊥
 got-goes (Ok attr) file step e = kind-goes (attr.kind == 1) file attr step e
 got-goes (Err fault) file step e = no-ends fault step e
 
-told-asks : (mode : Mode) (step : OpeningStep) (came : Result Reply Fault) (f : List ℕ) → opening.led_to mode step came ≡ leads.Goes (opening_steps.Ask f) → Gives came f
+told-asks : (mode : Mode) (step : OpeningPhase) (came : Result Reply Fault) (f : List ℕ) → opening.led_to mode step came ≡ leads.Goes (opening_steps.Ask f) → Gives came f
 told-asks mode opening_steps.Look came f e = look-asks (opening.makes mode came) came f e
 told-asks mode opening_steps.Make came f e = made-asks came (made_by came) f refl e
 told-asks mode opening_steps.Find came f e = found-asks came (found_by came) f refl e
@@ -129,7 +129,7 @@ module _ (now : ℕ) (attrs : Attrs) (c : Pages) where
   knows-is : (a b : List ℕ) (s t : Stamp) → leads.Knows a s ≡ leads.Knows b t → (a ≡ b) × (s ≡ t)
   knows-is a b s t e = (cc, cc)
 
-  no-knows : (step : OpeningStep) (file : List ℕ) (s : Stamp) → leads.Goes step ≡ leads.Knows file s → ⊥
+  no-knows : (step : OpeningPhase) (file : List ℕ) (s : Stamp) → leads.Goes step ≡ leads.Knows file s → ⊥
   no-knows step file s e = cc
 
   both-are : (a b : Bool) → (a && b) ≡ true → (a ≡ true) × (b ≡ true)
@@ -157,7 +157,7 @@ module _ (now : ℕ) (attrs : Attrs) (c : Pages) where
             stamp_is = same_stamp-is (stamp_of a) s two.1 ∙ k.1;
           }
 
-  led-known : (led : Led) (mode : Mode) (step : OpeningStep) (came : Result Reply Fault) (file : List ℕ) (stamp : Stamp) → opening.led_to mode step came ≡ led
+  led-known : (led : Led) (mode : Mode) (step : OpeningPhase) (came : Result Reply Fault) (file : List ℕ) (stamp : Stamp) → opening.led_to mode step came ≡ led
       → opening.known_led led now attrs c ≡ leads.Knows file stamp → Believes true came now attrs file stamp
   led-known (leads.Goes (opening_steps.Ask f)) mode step came file stamp is e = at-known came f (looked f now attrs) (known_of f c) file stamp (told-asks mode step came f is) refl e
   led-known (leads.Goes opening_steps.Look) mode step came file stamp is e = absurd (no-knows opening_steps.Look file stamp e)
@@ -167,7 +167,7 @@ module _ (now : ℕ) (attrs : Attrs) (c : Pages) where
   led-known (leads.Knows f s) mode step came file stamp is e = absurd (told-knows now attrs c mode step came file stamp (is ∙ e))
   led-known (leads.Ends fault) mode step came file stamp is e = absurd (told-knows now attrs c mode step came file stamp (is ∙ e))
 
-  by-known : (nocto : Bool) (mode : Mode) (step : OpeningStep) (came : Result Reply Fault) (file : List ℕ) (stamp : Stamp)
+  by-known : (nocto : Bool) (mode : Mode) (step : OpeningPhase) (came : Result Reply Fault) (file : List ℕ) (stamp : Stamp)
       → opening.known_by nocto (opening.led_to mode step came) now attrs c ≡ leads.Knows file stamp → Believes nocto came now attrs file stamp
   by-known true mode step came file stamp e = led-known (opening.led_to mode step came) mode step came file stamp refl e
   by-known false mode step came file stamp e = absurd (told-knows now attrs c mode step came file stamp e)
@@ -208,14 +208,14 @@ module _ (nocto : Bool) (k : ℕ) where
   as-machine m o q p new is at opener moment asks =
       record { m = p; q = q; is = is; opener = ap (λ (z : PathMachine). z.opener) at ∙ opener; moment = moment; asks = asks }
 
-  goes-by : (next to : Next) (new : Machine) → next ≡ to → GoesOn nocto k to new → GoesOn nocto k next new
-  goes-by next to new is g = subst (λ (n : Next). GoesOn nocto k n new) (sym is) g
+  goes-by : (next to : Step) (new : Machine) → next ≡ to → GoesOn nocto k to new → GoesOn nocto k next new
+  goes-by next to new is g = subst (λ (n : Step). GoesOn nocto k n new) (sym is) g
 
-  go-next : (b : Bool) (call : Call) (next : Next) (new : Machine) → next ≡ opens.goes_as (if b then openings.Wait else openings.Send call) → IsOpening nocto k new → GoesOn nocto k next new
+  go-next : (b : Bool) (call : Call) (next : Step) (new : Machine) → next ≡ opens.goes_as (if b then openings.Wait else openings.Send call) → IsOpening nocto k new → GoesOn nocto k next new
   go-next true call next new is o = goes-by next nexts.Wait new is o
   go-next false call next new is o = goes-by next (nexts.Send call) new is o
 
-  then-resumes : (wsize : ℕ) (m : PathMachine) (q : OpenFile) (turn : Turn) (old : Shelf) (next : Next) (p : PathMachine) (new : Machine) (after : Shelf) → m.opener ≡ openers.Open q
+  then-resumes : (wsize : ℕ) (m : PathMachine) (q : OpenFile) (turn : Turn) (old : Shelf) (next : Step) (p : PathMachine) (new : Machine) (after : Shelf) → m.opener ≡ openers.Open q
       → q.opening.moment ≡ k → q.opening.nocto ≡ nocto → new ≡ machines.Path p → paths.ThenResumes wsize m turn old next p after → GoesOn nocto k next new
   then-resumes wsize m q turn old next p new after opener moment asks is t =
       let s : steps.OpenResumes q turn old next (file_of t.opener) after = subst (λ (o : Opener). steps.Resumes wsize (file_of o) turn old next (file_of t.opener) after) opener t.step in
@@ -223,7 +223,7 @@ module _ (nocto : Bool) (k : ℕ) where
       go-next (opening.waits q.opening turn) (opening.call_of q.opening q.opening.step) next new s.next_is
       (as-machine m t.opener (opens.gone q turn) p new is t.machine_is (opener-is t.opener (opens.gone q turn) s.machine_is) (same.moment ∙ moment) (same.nocto ∙ asks))
 
-  follows : (step : WalkNext) (wsize : ℕ) (m : PathMachine) (q : OpenFile) (turn : Turn) (old : Shelf) (next : Next) (p : PathMachine) (new : Machine) (after : Shelf) → m.opener ≡ openers.Open q
+  follows : (step : WalkStep) (wsize : ℕ) (m : PathMachine) (q : OpenFile) (turn : Turn) (old : Shelf) (next : Step) (p : PathMachine) (new : Machine) (after : Shelf) → m.opener ≡ openers.Open q
       → q.opening.moment ≡ k → q.opening.nocto ≡ nocto → new ≡ machines.Path p → paths.Follows step wsize m turn old next p after → GoesOn nocto k next new
   follows (walks.Send call) wsize m q turn old next p new after opener moment asks is f =
       goes-by next (nexts.Send call) new f.0 (record { m = p; q = q; is = is; opener = ap (λ (z : PathMachine). z.opener) f.1 ∙ opener; moment = moment; asks = asks })
@@ -234,13 +234,13 @@ module _ (nocto : Bool) (k : ℕ) where
       (ap (placed dir) opener) moment asks is f
   follows (walks.Refused fault) wsize m q turn old next p new after opener moment asks is f = goes-by next (nexts.Done (answers.Refused fault)) new f.0 tt
 
-  path-resumes : (b : Bool) (wsize : ℕ) (m : PathMachine) (q : OpenFile) (turn : Turn) (old : Shelf) (next : Next) (p : PathMachine) (new : Machine) (after : Shelf) → m.opener ≡ openers.Open q
+  path-resumes : (b : Bool) (wsize : ℕ) (m : PathMachine) (q : OpenFile) (turn : Turn) (old : Shelf) (next : Step) (p : PathMachine) (new : Machine) (after : Shelf) → m.opener ≡ openers.Open q
       → q.opening.moment ≡ k → q.opening.nocto ≡ nocto → new ≡ machines.Path p → paths.PathResumes b wsize m turn old next p after → GoesOn nocto k next new
   path-resumes true wsize m q turn old next p new after opener moment asks is r = then-resumes wsize m q turn old next p new after opener moment asks is r
   path-resumes false wsize m q turn old next p new after opener moment asks is r =
       follows (walking.go_next m.walk turn old) wsize (record m { walk = walking.go_after m.walk turn old }) q turn (walking.go_shelf m.walk turn old) next p new after opener moment asks is r
 
-  pub opening-resumes : (machine : Machine) (wsize : ℕ) (turn : Turn) (old : Shelf) (next : Next) (new : Machine) (after : Shelf) → IsOpening nocto k machine → Resumes wsize machine turn old next new after
+  pub opening-resumes : (machine : Machine) (wsize : ℕ) (turn : Turn) (old : Shelf) (next : Step) (new : Machine) (after : Shelf) → IsOpening nocto k machine → Resumes wsize machine turn old next new after
       → GoesOn nocto k next new
   opening-resumes machine wsize turn old next new after o r =
       let s : Resumes wsize (machines.Path o.m) turn old next new after = subst (λ (z : Machine). Resumes wsize z turn old next new after) o.is r in
@@ -248,14 +248,14 @@ module _ (nocto : Bool) (k : ℕ) where
 
   -- ---- the first step
 
-  starts-if : (taken : Bool) (wsize : ℕ) (m : PathMachine) (q : OpenFile) (turn : Turn) (old : Shelf) (next : Next) (p : PathMachine) (new : Machine) (after : Shelf) → m.opener ≡ openers.Open q
+  starts-if : (taken : Bool) (wsize : ℕ) (m : PathMachine) (q : OpenFile) (turn : Turn) (old : Shelf) (next : Step) (p : PathMachine) (new : Machine) (after : Shelf) → m.opener ≡ openers.Open q
       → turn.moment - 1 ≡ k → q.opening.nocto ≡ nocto → new ≡ machines.Path p → paths.StartsIf taken wsize m turn old next p after → GoesOn nocto k next new
   starts-if true wsize m q turn old next p new after opener moment asks is s = goes-by next (nexts.Done (answers.Refused faults.Slot)) new s.0 tt
   starts-if false wsize m q turn old next p new after opener moment asks is s =
       path-resumes m.arrived wsize (record m { opener = begun_at (turn.moment - 1) m.opener }) (record q { opening = record q.opening { moment = turn.moment - 1 } }) turn old next p new after
       (ap (begun_at (turn.moment - 1)) opener) moment asks is s
 
-  pub opening-starts : (m : PathMachine) (q : OpenFile) (wsize : ℕ) (turn : Turn) (old : Shelf) (next : Next) (new : Machine) (after : Shelf) → m.opener ≡ openers.Open q → turn.moment - 1 ≡ k
+  pub opening-starts : (m : PathMachine) (q : OpenFile) (wsize : ℕ) (turn : Turn) (old : Shelf) (next : Step) (new : Machine) (after : Shelf) → m.opener ≡ openers.Open q → turn.moment - 1 ≡ k
       → q.opening.nocto ≡ nocto → Starts wsize (machines.Path m) turn old next new after → GoesOn nocto k next new
   opening-starts m q wsize turn old next new after opener moment asks s =
       starts-if (slot_taken m.opener old.opens) wsize m q turn old next s.machine new after opener moment asks s.machine_is s.step
@@ -264,7 +264,7 @@ module _ (nocto : Bool) (k : ℕ) where
 
   -- It goes on, or ends with a refusal; or it goes well with the reply to GETATTR of its file, with which its pages were opened; or, where it may, with the
   -- file that a LOOKUP or CREATE gave, of which attributes are believed that show the known stamp.
-  pub data Took (call : Call) (came : Result Reply Fault) (sent turn : Turn) (attrs : Attrs) (old : Pages) (next : Next) (new : Machine) (later : Pages) : Type 0 where
+  pub data Took (call : Call) (came : Result Reply Fault) (sent turn : Turn) (attrs : Attrs) (old : Pages) (next : Step) (new : Machine) (later : Pages) : Type 0 where
     took_on : GoesOn nocto k next new → Took call came sent turn attrs old next new later
     took_well : (file : List ℕ) (attr : Attr) → next ≡ opens.well → came ≡ Ok (replies.File (kept.GetAttr attr)) → IsOn file call → attr.kind ≡ 1 → later ≡ opened_pages file attr k sent turn old
         → Took call came sent turn attrs old next new later
@@ -291,7 +291,7 @@ module _ (nocto : Bool) (k : ℕ) where
     opened-as false o attrs (leads.Opens f attr) file old later moment asks on is l =
         let told = by-opens turn.now attrs old o.nocto (opening.told_led o came) f attr is in
         let by = told-opens o.mode o.step came f attr told in
-        let asked : IsOn f call = subst (λ (s : OpeningStep). StepOn s o.dir call) by.asks (on (replies.File (kept.GetAttr attr)) by.got) in
+        let asked : IsOn f call = subst (λ (s : OpeningPhase). StepOn s o.dir call) by.asks (on (replies.File (kept.GetAttr attr)) by.got) in
         ends_asked attr by.got (subst (λ (g : List ℕ). IsOn g call) (sym l.0) asked) by.kind
         (l.1 ∙ ap (λ (n : ℕ). opened_pages f attr n sent turn old) moment ∙ ap (λ (g : List ℕ). opened_pages g attr k sent turn old) (sym l.0))
     opened-as false o attrs (leads.Knows f stamp) file old later moment asks on is l =
@@ -301,11 +301,11 @@ module _ (nocto : Bool) (k : ℕ) where
     opened-as false o attrs (leads.Ends fault) file old later moment asks on is l = absurd (let no_way : openings.Ended (Ok file) ≡ openings.Ended (Err fault) = l.0 in cc)
 
     module _ (again : Bool) (q : OpenFile) (attrs : Attrs) (pages later : Pages) (moment : q.opening.moment ≡ k) (asks : q.opening.nocto ≡ nocto) (on : (reply : Reply) → came ≡ Ok reply → OpeningOn q.opening call) where
-      ended : (file : List ℕ) (next : Next) (new : Machine) → next ≡ opens.well → Ends attrs file pages later → Took call came sent turn attrs pages next new later
+      ended : (file : List ℕ) (next : Step) (new : Machine) → next ≡ opens.well → Ends attrs file pages later → Took call came sent turn attrs pages next new later
       ended file next new well (ends_asked attr came_ on_ kind is) = took_well file attr well came_ on_ kind is
       ended file next new well (ends_known stamp attr may gives looked_ kind stamp_is is) = took_known file stamp attr well may gives looked_ kind stamp_is is
 
-      puts : (file : List ℕ) (other : Option Opened) (place : Place) (of : Opened) (next : Next) (old opened : Opens) (new : Machine)
+      puts : (file : List ℕ) (other : Option Opened) (place : Place) (of : Opened) (next : Step) (old opened : Opens) (new : Machine)
           → opening.LedIf again q.opening sent turn (opening.led_on q.opening turn.now came attrs pages) (openings.Ended (Ok file)) pages later
           → opens.PutsOver other place of next old opened → Took call came sent turn attrs pages next new later
       puts file (Some other) place of next old opened new l p = took_on (goes-by next (opens.refused faults.Slot) new p.0 tt)
@@ -313,7 +313,7 @@ module _ (nocto : Bool) (k : ℕ) where
           ended file next new p.0 (opened-as again q.opening attrs (opening.led_on q.opening turn.now came attrs pages) file pages later moment asks on refl l)
       puts file None place of next old opened new l (inr p) = took_on (goes-by next (opens.refused faults.Memory) new p.0 tt)
 
-      open-follows : (step : OpeningNext) (next : Next) (old opened : Opens) (new : Machine)
+      open-follows : (step : OpeningStep) (next : Step) (old opened : Opens) (new : Machine)
           → opening.LedIf again q.opening sent turn (opening.led_on q.opening turn.now came attrs pages) step pages later → opens.Follows q step next old opened → IsOpening nocto k new
           → Took call came sent turn attrs pages next new later
       open-follows (openings.Send asked) next old opened new l f o = took_on (goes-by next (nexts.Send asked) new f.0 o)
@@ -321,7 +321,7 @@ module _ (nocto : Bool) (k : ℕ) where
       open-follows (openings.Ended (Ok file)) next old opened new l f o = puts file (finite.get old (opens.place_of q)) (opens.place_of q) (opens.opened_of q.opening file) next old opened new l f
       open-follows (openings.Ended (Err fault)) next old opened new l f o = took_on (goes-by next (opens.refused fault) new f.0 tt)
 
-    path-takes : (b : Bool) (wsize : ℕ) (m : PathMachine) (q : OpenFile) (old : Shelf) (next : Next) (p : PathMachine) (new : Machine) (after : Shelf) → m.opener ≡ openers.Open q
+    path-takes : (b : Bool) (wsize : ℕ) (m : PathMachine) (q : OpenFile) (old : Shelf) (next : Step) (p : PathMachine) (new : Machine) (after : Shelf) → m.opener ≡ openers.Open q
         → q.opening.moment ≡ k → q.opening.nocto ≡ nocto → ((reply : Reply) → came ≡ Ok reply → PathOn b m call) → new ≡ machines.Path p → paths.PathTakes b wsize m sent turn came old next p after
         → Took call came sent turn after.attrs old.pages next new after.pages
     path-takes true wsize m q old next p new after opener moment asks on is t =
@@ -335,7 +335,7 @@ module _ (nocto : Bool) (k : ℕ) where
     path-takes false wsize m q old next p new after opener moment asks on is t =
         took_on (follows t.step wsize t.walked q turn t.heard next p new after (ap (λ (z : PathMachine). z.opener) t.walked_is ∙ opener) moment asks is t.follows)
 
-    pub opening-takes : (machine : Machine) (wsize : ℕ) (old : Shelf) (next : Next) (new : Machine) (after : Shelf) → IsOpening nocto k machine → ((reply : Reply) → came ≡ Ok reply → Asks machine call)
+    pub opening-takes : (machine : Machine) (wsize : ℕ) (old : Shelf) (next : Step) (new : Machine) (after : Shelf) → IsOpening nocto k machine → ((reply : Reply) → came ≡ Ok reply → Asks machine call)
         → Takes wsize machine sent turn came old next new after → Took call came sent turn after.attrs old.pages next new after.pages
     opening-takes machine wsize old next new after o on t =
         let s : Takes wsize (machines.Path o.m) sent turn came old next new after = subst (λ (z : Machine). Takes wsize z sent turn came old next new after) o.is t in

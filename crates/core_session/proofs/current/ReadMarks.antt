@@ -1,5 +1,5 @@
 -- What a read makes of its own moment, and which pages it leaves where it has asked for its file's attributes.
-use Rattle.core_session.proofs.Prelude.{◌≡◌, ◌-◌, inl, inr, ℕ, Bool, true, false, ◌&&◌, List, Option, Some, None, Result, Ok, Err, refl, sym, ap, subst, ◌∙◌, if◌then◌else◌, Attr, Mode, Opened, Pages, after_page, Pending, Fault, Reply, Next, Repeat, Shelf, Turn, ReadFile, Phase, Reading, PagesOpened, opened_pages, part, refusal, got_by, machine_of, Mounted, FileMachine, Machine, Starts, Resumes, Takes, ThenOf}
+use Rattle.core_session.proofs.Prelude.{◌≡◌, ◌-◌, inl, inr, ℕ, Bool, true, false, ◌&&◌, List, Option, Some, None, Result, Ok, Err, refl, sym, ap, subst, ◌∙◌, if◌then◌else◌, Attr, Mode, Opened, Pages, after_page, Pending, Fault, Reply, Step, Repeat, Shelf, Turn, ReadFile, Phase, Reading, PagesOpened, opened_pages, part, refusal, got_by, machine_of, Mounted, FileMachine, Machine, Starts, Resumes, Takes, ThenOf}
 use Rattle.file_ops.specs.ReadReply.{Said}
 use Rattle.std.specs.FinMap as finite
 use Rattle.xdr_codec.specs.declared.blob.Memory as memory
@@ -8,7 +8,7 @@ use Rattle.nfs_file_calls.specs.declared.owned.FileKept.TheVariants as kept
 use Rattle.world_model.specs.declared.answer.Fault.TheVariants as faults
 use Rattle.world_model.specs.declared.message.Reply.TheVariants as replies
 use Rattle.world_model.specs.declared.op.Op.TheVariants as ops
-use Rattle.client_shelf.specs.declared.next.Next.TheVariants as nexts
+use Rattle.client_shelf.specs.declared.step.Step.TheVariants as nexts
 use Rattle.file_ops.specs.declared.reading.Phase.TheVariants as phases
 use Rattle.file_ops.specs.ReadFile as reads
 use Rattle.file_ops.specs.Reading as reading
@@ -90,10 +90,10 @@ pub record ReadIn (P : Reading → Type 0) (machine : Machine) : Type 0 where
   pub reading : m.reading ≡ Some r
   pub told : P r
 
-abbrev pub ThenRead : (Reading → Type 0) → Next → Machine → Type 0
+abbrev pub ThenRead : (Reading → Type 0) → Step → Machine → Type 0
 ThenRead P next new = ThenOf (ReadIn P) (λ a. Unit {0}) next new
 
-then-read : (P : Reading → Type 0) (next : Next) (new : Machine) → ReadIn P new → ThenRead P next new
+then-read : (P : Reading → Type 0) (next : Step) (new : Machine) → ReadIn P new → ThenRead P next new
 then-read P (nexts.Send call) new r = r
 then-read P nexts.Wait new r = r
 then-read P (nexts.Done answer) new r = tt
@@ -105,14 +105,14 @@ module _ (P Q : Reading → Type 0) (goes : (r n : Reading) → IsSame r n → P
   read-as : (m k : ReadFile) (n : Reading) (f : FileMachine) (new : Machine) → new ≡ machines.File f → f ≡ files.Read k → k ≡ record m { reading = Some n } → Q n → ReadIn Q new
   read-as m k n f new is at same q = record { m = k; is = is ∙ ap machines.File at; r = n; reading = ap (λ (z : ReadFile). z.reading) same; told = q }
 
-  resumes-in : (o : Option Reading) (r : Reading) (m k : ReadFile) (room : Bool) (c later : Pages) (back : Pending) (next : Next) (f : FileMachine) (new : Machine) → o ≡ Some r → P r
+  resumes-in : (o : Option Reading) (r : Reading) (m k : ReadFile) (room : Bool) (c later : Pages) (back : Pending) (next : Step) (f : FileMachine) (new : Machine) → o ≡ Some r → P r
       → new ≡ machines.File f → f ≡ files.Read k → reads.ResumesIn o room m c back next k later → ReadIn Q new
   resumes-in None r m k room c later back next f new there p is at g = absurd (let no_way : None ≡ Some r = there in cc)
   resumes-in (Some q) r m k room c later back next f new there p is at g =
       read-as m k (reading.gone room (reading.settled q c)).reading f new is at g.machine
       (goes q (reading.gone room (reading.settled q c)).reading (went-same room q c) (subst P (sym (some-reading q r there)) p))
 
-  pub reading-resumes : (machine : Machine) (wsize : ℕ) (turn : Turn) (old : Shelf) (next : Next) (new : Machine) (after : Shelf) → ReadIn P machine
+  pub reading-resumes : (machine : Machine) (wsize : ℕ) (turn : Turn) (old : Shelf) (next : Step) (new : Machine) (after : Shelf) → ReadIn P machine
       → Resumes wsize machine turn old next new after → ThenRead Q next new
   reading-resumes machine wsize turn old next new after k r =
       let moved : Resumes wsize (machines.File (files.Read k.m)) turn old next new after = subst (λ (n : Machine). Resumes wsize n turn old next new after) k.is r in
@@ -124,7 +124,7 @@ module _ (P Q : Reading → Type 0) (goes : (r n : Reading) → IsSame r n → P
   module _ (came : Result Reply Fault) (sent turn : Turn) (old after : Pages)
       (asked : (r n : Reading) (attr : Attr) → came ≡ Ok (replies.File (kept.GetAttr attr)) → n.moment ≡ r.moment → n.file ≡ r.file
       → ((T : Pages → Type 0) → ((file : List ℕ) (index : ℕ) (c : Pages) → T c → T (after_page file index c)) → T (opened_pages r.file attr r.moment sent turn old) → T after) → P r → Q n) where
-    after-opened : (result : Result (Unit {0}) memory.Memory) (attr : Attr) (r : Reading) (c : Pages) (back : Pending) (next : Next) (new : reading.State)
+    after-opened : (result : Result (Unit {0}) memory.Memory) (attr : Attr) (r : Reading) (c : Pages) (back : Pending) (next : Step) (new : reading.State)
         → came ≡ Ok (replies.File (kept.GetAttr attr)) → PagesOpened r.file attr r.moment sent turn result old c → reading.AfterOpened result turn r c back next new → after ≡ new.pages → P r → Q new.reading
     after-opened (Ok done) attr r c back next new is opens o kept_ p =
         let to = reading.settled (record r { phase = phases.Pages }) c in
@@ -136,7 +136,7 @@ module _ (P Q : Reading → Type 0) (goes : (r n : Reading) → IsSame r n → P
         (gone-pages T shows turn.room to (settled-pages T shows phases.Pages (record r { phase = phases.Pages }) c (subst T (sym opens) had)))) p
     after-opened (Err no_memory) attr r c back next new is opens o kept_ p = subst Q (sym (ap (λ (s : reading.State). s.reading) o.1)) (goes r r (same-read r) p)
 
-    attrs-read : (told : Result Attr Fault) (again : Bool) (r : Reading) (back : Pending) (next : Next) (new : reading.State) → got_by came ≡ told
+    attrs-read : (told : Result Attr Fault) (again : Bool) (r : Reading) (back : Pending) (next : Step) (new : reading.State) → got_by came ≡ told
         → reading.TakesAttrs again told sent turn r old back next new → after ≡ new.pages → P r → Q new.reading
     attrs-read (Ok attr) again r back next new got t kept_ p = after-opened t.result attr r t.later back next new (got-is came attr got) t.opens t.goes kept_ p
     attrs-read (Err fault) again r back next new got t kept_ p = subst Q (sym (ap (λ (s : reading.State). s.reading) t.1)) (goes r r (same-read r) p)
@@ -153,7 +153,7 @@ module _ (P Q : Reading → Type 0) (goes : (r n : Reading) → IsSame r n → P
     stays-read : (r : Reading) (new : reading.State) → new ≡ record { reading = r; pages = old } → P r → Q new.reading
     stays-read r new is p = subst Q (sym (ap (λ (s : reading.State). s.reading) is)) (goes r r (same-read r) p)
 
-    heard-read : (phase : Phase) (repeats : List Repeat) (r : Reading) (back : Pending) (next : Next) (new : reading.State) → r.phase ≡ phase
+    heard-read : (phase : Phase) (repeats : List Repeat) (r : Reading) (back : Pending) (next : Step) (new : reading.State) → r.phase ≡ phase
         → reading.TakesPart (reading.heard phase came) sent turn repeats r old back next new → P r → Q new.reading
     heard-read phases.Attrs repeats r back next new at t p = stays-read r new t.1 p
     heard-read phases.AskedAttrs repeats r back next new at t p = stays-read r new t.1 p
@@ -162,19 +162,19 @@ module _ (P Q : Reading → Type 0) (goes : (r n : Reading) → IsSame r n → P
     heard-read (phases.Asked count) repeats r back next new at t p = said-read _ r new (ap past at) t.1 p
     heard-read phases.Ended repeats r back next new at t p = stays-read r new t.1 p
 
-    takes-if : (waits : Bool) (repeats : List Repeat) (r : Reading) (back : Pending) (next : Next) (new : reading.State) → reading.TakesIf waits sent turn came repeats r old back next new
+    takes-if : (waits : Bool) (repeats : List Repeat) (r : Reading) (back : Pending) (next : Step) (new : reading.State) → reading.TakesIf waits sent turn came repeats r old back next new
         → after ≡ new.pages → P r → Q new.reading
     takes-if true repeats r back next new t kept_ p = attrs-read (got_by came) _ r back next new refl t kept_ p
     takes-if false repeats r back next new t kept_ p = heard-read r.phase repeats r back next new refl t p
 
-    takes-in : (o : Option Reading) (r : Reading) (m k : ReadFile) (repeats : List Repeat) (back : Pending) (next : Next) (f : FileMachine) (new : Machine) → o ≡ Some r → P r
+    takes-in : (o : Option Reading) (r : Reading) (m k : ReadFile) (repeats : List Repeat) (back : Pending) (next : Step) (f : FileMachine) (new : Machine) → o ≡ Some r → P r
         → new ≡ machines.File f → f ≡ files.Read k → reads.TakesIn o sent turn came repeats m old back next k after → ReadIn Q new
     takes-in None r m k repeats back next f new there p is at t = absurd (let no_way : None ≡ Some r = there in cc)
     takes-in (Some q) r m k repeats back next f new there p is at t =
         read-as m k t.state.reading f new is at t.machine
         (takes-if (reading.waits_attrs q.phase) repeats q back next t.state t.step t.kept (subst P (sym (some-reading q r there)) p))
 
-  pub reading-takes : (came : Result Reply Fault) (sent turn : Turn) (machine : Machine) (wsize : ℕ) (old : Shelf) (next : Next) (new : Machine) (after : Shelf)
+  pub reading-takes : (came : Result Reply Fault) (sent turn : Turn) (machine : Machine) (wsize : ℕ) (old : Shelf) (next : Step) (new : Machine) (after : Shelf)
       → ((r n : Reading) (attr : Attr) → came ≡ Ok (replies.File (kept.GetAttr attr)) → n.moment ≡ r.moment → n.file ≡ r.file
       → ((T : Pages → Type 0) → ((file : List ℕ) (index : ℕ) (c : Pages) → T c → T (after_page file index c)) → T (opened_pages r.file attr r.moment sent turn old.pages) → T after.pages) → P r → Q n)
       → ReadIn P machine → Takes wsize machine sent turn came old next new after → ThenRead Q next new
@@ -215,9 +215,9 @@ begun-at None moment m back r b = absurd (no-refusal r faults.Slot b)
 begun-at (Some o) moment m back r b = begun-in o.mode moment m o.file back r b
 
 module _ (Q : Reading → Type 0) (moment : ℕ) (begun : (r : Reading) → r.moment ≡ moment → (past r.phase ≡ true → ⊥) → Q r) where
-  starts-with : (o : Option Opened) (begun_ : Result Reading Fault) (room : Bool) (m k : ReadFile) (c later : Pages) (back : Pending) (next : Next) (f : FileMachine) (new : Machine) → m.noac ≡ true
+  starts-with : (o : Option Opened) (begun_ : Result Reading Fault) (room : Bool) (m k : ReadFile) (c later : Pages) (back : Pending) (next : Step) (f : FileMachine) (new : Machine) → m.noac ≡ true
       → new ≡ machines.File f → f ≡ files.Read k → reads.Begins (reads.begun_at o moment m back) begun_ → reads.StartsWith begun_ room m c back next k later → ThenRead Q next new
-  starts-with o (Err fault) room m k c later back next f new noac is at b s = subst (λ (n : Next). ThenRead Q n new) (sym s.step) tt
+  starts-with o (Err fault) room m k c later back next f new noac is at b s = subst (λ (n : Step). ThenRead Q n new) (sym s.step) tt
   starts-with o (Ok r) room m k c later back next f new noac is at b s =
       let made = begun-at o moment m back r b in
       let to = reading.gone room (reading.settled r c) in
@@ -232,7 +232,7 @@ module _ (Q : Reading → Type 0) (moment : ℕ) (begun : (r : Reading) → r.mo
         told = begun to.reading (same.moment ∙ made.0) (λ far. no-true (sym first ∙ same.far far));
       })
 
-  pub reading-starts : (mounted : Mounted) (lane slot offset count wsize : ℕ) (turn : Turn) (old : Shelf) (next : Next) (new : Machine) (after : Shelf) → mounted.noac ≡ true → turn.moment - 1 ≡ moment
+  pub reading-starts : (mounted : Mounted) (lane slot offset count wsize : ℕ) (turn : Turn) (old : Shelf) (next : Step) (new : Machine) (after : Shelf) → mounted.noac ≡ true → turn.moment - 1 ≡ moment
       → Starts wsize (machine_of mounted lane (ops.Read slot offset count)) turn old next new after → ThenRead Q next new
   reading-starts mounted lane slot offset count wsize turn old next new after noac at s =
       starts-with _ s.step.step.reading turn.room _ s.step.machine old.pages after.pages old.back next s.machine new noac s.machine_is s.step.machine_is

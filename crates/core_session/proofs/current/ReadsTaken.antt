@@ -1,5 +1,5 @@
 -- What a read answers, along a history, and since when the server showed so.
-use Rattle.core_session.proofs.Prelude.{◌≡◌, ◌≤◌, ◌+◌, ◌-◌, ◌⊎◌, inl, inr, ℕ, Bool, true, false, List, [], ◌∷◌, ◌++◌, length, Option, Some, None, Result, Ok, Err, refl, sym, ap, subst, ◌∙◌, append_assoc, arith, Attr, stamp_of, of_object, IsAnswered, LastAtMost, Mode, Opened, Stamp, Pages, known_of, Pending, Fault, Entry, Began, Call, Reply, Op, Modes, Ended, IsOf, Terms, At-grow, At-below, Next, Shelf, Turn, ReadFile, Repeat, Phase, Reading, place_after, nothing_of, opened_pages, machine_of, Mounted, FileMachine, Machine, Starts, Resumes, Takes, State, Busy, Over, Setup, View, GoesWith, may, Held, Given, is-given, held-begins, always-later, IsHeld, held-grow, ThenOf, answered-last, RecentThen, IsFound, in_page, in_reply, IsEnd, by_known, by_page, by_reply, IsAged, IsSeen, SeenFrom, shown, WasRegular, ReadOn, IsOn, ReadAwaits, Both, both-asks, Good, quiet-good, page-grows, from-start, HasPassed, RunsIn}
+use Rattle.core_session.proofs.Prelude.{◌≡◌, ◌≤◌, ◌+◌, ◌-◌, ◌⊎◌, inl, inr, ℕ, Bool, true, false, List, [], ◌∷◌, ◌++◌, length, Option, Some, None, Result, Ok, Err, refl, sym, ap, subst, ◌∙◌, append_assoc, arith, Attr, stamp_of, of_object, IsAnswered, LastAtMost, Mode, Opened, Stamp, Pages, known_of, Pending, Fault, Entry, Began, Call, Reply, Op, Modes, Ended, IsOf, Terms, At-grow, At-below, Step, Shelf, Turn, ReadFile, Repeat, Phase, Reading, place_after, nothing_of, opened_pages, machine_of, Mounted, FileMachine, Machine, Starts, Resumes, Takes, State, Busy, Over, Setup, View, GoesWith, may, Held, Given, is-given, held-begins, always-later, IsHeld, held-grow, ThenOf, answered-last, RecentThen, IsFound, in_page, in_reply, IsEnd, by_known, by_page, by_reply, IsAged, IsSeen, SeenFrom, shown, WasRegular, ReadOn, IsOn, ReadAwaits, Both, both-asks, Good, quiet-good, page-grows, from-start, HasPassed, RunsIn}
 use Rattle.file_ops.specs.Base.{Bytes}
 use Rattle.core_session.specs.current.Read.{WasPast, IsShown, own, served, empty, PassedThen, ReadShown}
 use Rattle.core_answers.proofs.pages.PageCalls.{PageAwaits, PartAwaits}
@@ -15,7 +15,7 @@ use Rattle.world_model.specs.declared.answer.Fault.TheVariants as faults
 use Rattle.world_model.specs.declared.answer.Value.TheVariants as values
 use Rattle.world_model.specs.declared.message.Reply.TheVariants as replies
 use Rattle.world_model.specs.declared.op.Op.TheVariants as ops
-use Rattle.client_shelf.specs.declared.next.Next.TheVariants as nexts
+use Rattle.client_shelf.specs.declared.step.Step.TheVariants as nexts
 use Rattle.file_ops.specs.declared.reading.Phase.TheVariants as phases
 use Rattle.file_ops.specs.ReadFile as reads
 use Rattle.file_ops.specs.Reading as reading
@@ -309,10 +309,10 @@ module _ (mo : ℕ → Op → Machine) (setup : Setup) (modes_ : Modes) where
   abbrev pub Story : List Entry → ℕ → Op → State → Type 0
   Story h x op state = (slot offset count : ℕ) → op ≡ ops.Read slot offset count → StateOf h x op offset count state
 
-  abbrev ThenState : List Entry → ℕ → Op → ℕ → ℕ → Next → Machine → Type 0
+  abbrev ThenState : List Entry → ℕ → Op → ℕ → ℕ → Step → Machine → Type 0
   ThenState h x op offset count next new = ThenOf (IsReading h x op offset count) (Answered mo setup modes_ (All setup modes_) (each-sound setup modes_) h x op offset count) next new
 
-  then-story : (h : List Entry) (x : ℕ) (op : Op) (next : Next) (new : Machine) → ((slot offset count : ℕ) → op ≡ ops.Read slot offset count → ThenState h x op offset count next new)
+  then-story : (h : List Entry) (x : ℕ) (op : Op) (next : Step) (new : Machine) → ((slot offset count : ℕ) → op ≡ ops.Read slot offset count → ThenState h x op offset count next new)
       → ThenOf (λ k. Story h x op (Busy k)) (λ a. Story h x op (Over a)) next new
   then-story h x op (nexts.Send call) new g = λ slot offset count is. g slot offset count is
   then-story h x op nexts.Wait new g = λ slot offset count is. g slot offset count is
@@ -325,17 +325,17 @@ module _ (mo : ℕ → Op → Machine) (setup : Setup) (modes_ : Modes) where
 
   module _ (h : List Entry) (x : ℕ) (op : Op) (offset count : ℕ) where
     -- a step of the reading, as one of the machine
-    as-machine : (next : Next) (m k : ReadFile) (r : Reading) (new : Machine) → new ≡ machines.File (files.Read k) → k ≡ record m { reading = Some r }
+    as-machine : (next : Step) (m k : ReadFile) (r : Reading) (new : Machine) → new ≡ machines.File (files.Read k) → k ≡ record m { reading = Some r }
         → ThenOf (ReadAt mo setup modes_ (All setup modes_) (each-sound setup modes_) h x op offset count) (Answered mo setup modes_ (All setup modes_) (each-sound setup modes_) h x op offset count) next r → ThenState h x op offset count next new
     as-machine (nexts.Send call) m k r new is same a = record { m = k; is = is; r = r; reading = ap (λ (z : ReadFile). z.reading) same; at = a }
     as-machine nexts.Wait m k r new is same a = record { m = k; is = is; r = r; reading = ap (λ (z : ReadFile). z.reading) same; at = a }
     as-machine (nexts.Done answer) m k r new is same a = a
 
-    as-file : (next : Next) (m : ReadFile) (r : Reading) (k : ReadFile) (f : FileMachine) (new : Machine) → new ≡ machines.File f → f ≡ files.Read k → k ≡ record m { reading = Some r }
+    as-file : (next : Step) (m : ReadFile) (r : Reading) (k : ReadFile) (f : FileMachine) (new : Machine) → new ≡ machines.File f → f ≡ files.Read k → k ≡ record m { reading = Some r }
         → ThenOf (ReadAt mo setup modes_ (All setup modes_) (each-sound setup modes_) h x op offset count) (Answered mo setup modes_ (All setup modes_) (each-sound setup modes_) h x op offset count) next r → ThenState h x op offset count next new
     as-file next m r k f new is at same a = as-machine next m k r new (is ∙ ap machines.File at) same a
 
-    goes-from : (room : Bool) (m : ReadFile) (shelf : Shelf) (r : Reading) (next : Next) (k : ReadFile) (later : Pages) (f : FileMachine) (new : Machine) → new ≡ machines.File f
+    goes-from : (room : Bool) (m : ReadFile) (shelf : Shelf) (r : Reading) (next : Step) (k : ReadFile) (later : Pages) (f : FileMachine) (new : Machine) → new ≡ machines.File f
         → f ≡ files.Read k → ReadAt mo setup modes_ (All setup modes_) (each-sound setup modes_) h x op offset count r → (past r.phase ≡ true → GoodFor setup.pages modes_ h x r.file shelf.pages)
         → HasPassed mo setup (All setup modes_) h x shelf → reads.GoesFrom room m shelf.back (reading.settled r shelf.pages) next k later → ThenState h x op offset count next new
     goes-from room m shelf r next k later f new is at a good passed g =
@@ -343,7 +343,7 @@ module _ (mo : ℕ → Op → Machine) (setup : Setup) (modes_ : Modes) where
         (from-settled mo setup modes_ (All setup modes_) (each-sound setup modes_) h x op offset count room shelf.back r shelf.pages next (reading.gone room (reading.settled r shelf.pages)) a
         good (record { shelf = shelf; passed = passed; same = refl }) g.step refl)
 
-    resumes-in : (o : Option Reading) (m : ReadFile) (r : Reading) (room : Bool) (shelf : Shelf) (next : Next) (k : ReadFile) (later : Pages) (f : FileMachine) (new : Machine)
+    resumes-in : (o : Option Reading) (m : ReadFile) (r : Reading) (room : Bool) (shelf : Shelf) (next : Step) (k : ReadFile) (later : Pages) (f : FileMachine) (new : Machine)
         → o ≡ Some r → new ≡ machines.File f → f ≡ files.Read k → ReadAt mo setup modes_ (All setup modes_) (each-sound setup modes_) h x op offset count r
         → (past r.phase ≡ true → GoodFor setup.pages modes_ h x r.file shelf.pages) → HasPassed mo setup (All setup modes_) h x shelf → reads.ResumesIn o room m shelf.pages shelf.back next k later → ThenState h x op offset count next new
     resumes-in None m r room shelf next k later f new there is at a good passed s = absurd (let no_way : None ≡ Some r = there in cc)
@@ -352,7 +352,7 @@ module _ (mo : ℕ → Op → Machine) (setup : Setup) (modes_ : Modes) where
         goes-from room m shelf q next k later f new is at (subst (ReadAt mo setup modes_ (All setup modes_) (each-sound setup modes_) h x op offset count) same a)
         (subst (λ (z : Reading). past z.phase ≡ true → GoodFor setup.pages modes_ h x z.file shelf.pages) same good) passed s
 
-    takes-in : (o : Option Reading) (m : ReadFile) (r : Reading) (call : Call) (sent turn : Turn) (came : Result Reply Fault) (repeats : List Repeat) (shelf : Shelf) (next : Next) (k : ReadFile)
+    takes-in : (o : Option Reading) (m : ReadFile) (r : Reading) (call : Call) (sent turn : Turn) (came : Result Reply Fault) (repeats : List Repeat) (shelf : Shelf) (next : Step) (k : ReadFile)
         (later : Pages) (f : FileMachine) (new : Machine) → o ≡ Some r → new ≡ machines.File f → f ≡ files.Read k → ReadAt mo setup modes_ (All setup modes_) (each-sound setup modes_) h x op offset count r → Good setup.pages h shelf.pages
         → PartAwaits r call → IsOn r.file call → (told : (reply : Reply) → came ≡ Ok reply → WasTaken mo setup (All setup modes_) h x call sent turn shelf reply)
         → ((reply : Reply) → (got : came ≡ Ok reply) → modes_.noac ≡ true → marked.AskedSo (told reply got).passed.before (told reply got).passed.view x r) → reads.TakesIn o sent turn came repeats m shelf.pages shelf.back next k later → ThenState h x op offset count next new
@@ -468,7 +468,7 @@ module _ (mo : ℕ → Op → Machine) (setup : Setup) (modes_ : Modes) where
         first true = (0, refl)
         first false = (0, refl)
 
-    starts-with : (begun : Result Reading Fault) (rsize : ℕ) (noac : Bool) → noac ≡ modes_.noac → (turn : Turn) (next : Next) (k : ReadFile) (after_ : Pages) (f : FileMachine) (new : Machine) → new ≡ machines.File f
+    starts-with : (begun : Result Reading Fault) (rsize : ℕ) (noac : Bool) → noac ≡ modes_.noac → (turn : Turn) (next : Step) (k : ReadFile) (after_ : Pages) (f : FileMachine) (new : Machine) → new ≡ machines.File f
         → f ≡ files.Read k → (p : HasPassed mo setup (All setup modes_) later (length h) old) → p.before ≡ h → Good setup.pages later old.pages
         → reads.Begins (reads.begun_at (finite.get old.opens (lane, slot)) (turn.moment - 1)
         (record { lane = lane; slot = slot; offset = offset; count = count; rsize = rsize; noac = noac; reading = None }) old.back) begun
@@ -492,7 +492,7 @@ module _ (mounted : Mounted) (modes_ : Modes) (same_noac : mounted.noac ≡ mode
   abbrev mo : ℕ → Op → Machine
   mo = machine_of mounted
 
-  starts-read : (h : List Entry) (lane line slot offset count wsize : ℕ) (turn : Turn) (old : Shelf) (next : Next) (new : Machine) (after : Shelf) → Given modes_ h lane old
+  starts-read : (h : List Entry) (lane line slot offset count wsize : ℕ) (turn : Turn) (old : Shelf) (next : Step) (new : Machine) (after : Shelf) → Given modes_ h lane old
       → (p : HasPassed mo setup (All setup modes_) (h ++ Began lane line (ops.Read slot offset count) ∷ []) (length h) old) → p.before ≡ h → Good setup.pages (h ++ Began lane line (ops.Read slot offset count) ∷ []) old.pages
       → Starts wsize (machine_of mounted lane (ops.Read slot offset count)) turn old next new after
       → ThenState mo setup modes_ (h ++ Began lane line (ops.Read slot offset count) ∷ []) (length h) (ops.Read slot offset count) offset count next new

@@ -14,8 +14,8 @@ use Rattle.world_model.specs.declared.answer.Fault.TheVariants as faults
 use Rattle.world_model.specs.declared.message.Call.TheVariants as calls
 use Rattle.file_ops.specs.declared.close_file.Closing.TheVariants as closing
 use Rattle.file_ops.specs.declared.opening.Led.TheVariants as leads
-use Rattle.file_ops.specs.declared.opening.OpeningStep.{OpeningStep}
-use Rattle.file_ops.specs.declared.opening.OpeningStep.TheVariants as opening_steps
+use Rattle.file_ops.specs.declared.opening.OpeningPhase.{OpeningPhase}
+use Rattle.file_ops.specs.declared.opening.OpeningPhase.TheVariants as opening_steps
 use Rattle.file_ops.specs.declared.put_file.Putting.TheVariants as putting
 use Rattle.file_ops.specs.declared.sync_file.Syncing.TheVariants as syncing
 use Rattle.file_ops.specs.declared.write_file.Writing.TheVariants as writing
@@ -40,7 +40,7 @@ any-own = record { memory = tt }
 abbrev pub look_up : List ℕ → List ℕ → Call
 look_up dir name = calls.Dir (dirs.Lookup dir name)
 
-look-call : (o : Opening) (step : OpeningStep) → opening.looks step ≡ true → opening.call_of o step ≡ look_up o.dir o.name
+look-call : (o : Opening) (step : OpeningPhase) → opening.looks step ≡ true → opening.call_of o step ≡ look_up o.dir o.name
 look-call o opening_steps.Look is = refl
 look-call o opening_steps.Make is = absurd (cc)
 look-call o opening_steps.Find is = refl

@@ -1,6 +1,6 @@
 -- Which faults a step of an operation gives: want of memory, those of its slot, those that it keeps, and what it makes of what came of its call where that isn't made
 -- again. A save that sends no bytes wasn't refused.
-use Rattle.core_session.proofs.Prelude.{◌≡◌, ◌-◌, ◌⊎◌, inl, inr, ℕ, Bool, true, false, List, Option, Some, None, Result, refl, sym, ap, subst, ◌∙◌, Mode, Opened, OpenFile, Fault, Call, Reply, Op, Pending, Next, Repeat, fails_busy, goes_again, Shelf, Turn, Walk, WalkNext, found_by, look_again, Closing, Putting, Saving, Syncing, Writing, file_to_write, file_at, Mounted, FileMachine, Machine, Opener, PathMachine, machine_of, last_of, file_of, slot_taken, begun_at, Starts, Resumes, Takes, FineOption, FineNext, fine-as, CallFaults, FitsWalk, FitsOpening}
+use Rattle.core_session.proofs.Prelude.{◌≡◌, ◌-◌, ◌⊎◌, inl, inr, ℕ, Bool, true, false, List, Option, Some, None, Result, refl, sym, ap, subst, ◌∙◌, Mode, Opened, OpenFile, Fault, Call, Reply, Op, Pending, Step, Repeat, fails_busy, goes_again, Shelf, Turn, Walk, WalkStep, found_by, look_again, Closing, Putting, Saving, Syncing, Writing, file_to_write, file_at, Mounted, FileMachine, Machine, Opener, PathMachine, machine_of, last_of, file_of, slot_taken, begun_at, Starts, Resumes, Takes, FineOption, FineNext, fine-as, CallFaults, FitsWalk, FitsOpening}
 use Rattle.std.specs.Prelude.{if◌then◌else◌}
 use Rattle.op_machines.specs.Openers.{placed}
 use Rattle.core_answers.proofs.refusals.FitNames.{FineWalk, FitsName, go-fine, walk-took, name-goes, name-takes}
@@ -9,8 +9,8 @@ use Rattle.std.specs.FinMap as finite
 use Rattle.nfs_types.specs.declared.mode.Mode.TheVariants as modes
 use Rattle.world_model.specs.declared.answer.Fault.TheVariants as faults
 use Rattle.world_model.specs.declared.op.Op.TheVariants as ops
-use Rattle.client_shelf.specs.declared.next.Next.TheVariants as nexts
-use Rattle.name_ops.specs.declared.walk.WalkNext.TheVariants as walks
+use Rattle.client_shelf.specs.declared.step.Step.TheVariants as nexts
+use Rattle.name_ops.specs.declared.walk.WalkStep.TheVariants as walks
 use Rattle.name_ops.specs.Walking as walking
 use Rattle.file_ops.specs.declared.close_file.Closing.TheVariants as closing
 use Rattle.file_ops.specs.declared.put_file.Putting.TheVariants as putting
@@ -32,11 +32,11 @@ use Rattle.core_session.proofs.delays.SaveSteps.{FineSave}
 use Rattle.core_session.proofs.delays.WriteSteps.{FineWriting, FitsWrite, write-resumes, write-takes}
 
 -- A call is asked for, or X.
-abbrev pub SendsOr : Next → Type 0 → Type 0
+abbrev pub SendsOr : Step → Type 0 → Type 0
 SendsOr next X = ((call : Call) × (next ≡ nexts.Send call)) ⊎ X
 
 module _ (P : Fault → Type 0) (own : CallFaults P) (times : Times) where
-  sends-or : (next : Next) (X : Type 0) → (X → FineNext P next) → SendsOr next X → FineNext P next
+  sends-or : (next : Step) (X : Type 0) → (X → FineNext P next) → SendsOr next X → FineNext P next
   sends-or next X f (inl s) = fine-as P (nexts.Send s.0) next s.1 tt
   sends-or next X f (inr x) = f x
 
@@ -52,10 +52,10 @@ module _ (P : Fault → Type 0) (own : CallFaults P) (times : Times) where
   FineFile (files.Truncate m) = Unit {0}
   FineFile (files.Put m) = FinePut P own times m
 
-  abbrev FileStep : Next → FileMachine → Type 0
+  abbrev FileStep : Step → FileMachine → Type 0
   FileStep next new = FineNext P next × FineFile new
 
-  file-as : (to : FileMachine) (next : Next) (new : FileMachine) → new ≡ to → FileStep next to → FileStep next new
+  file-as : (to : FileMachine) (next : Step) (new : FileMachine) → new ≡ to → FileStep next to → FileStep next new
   file-as to next new is f = (f.0, subst FineFile (sym is) f.1)
 
   -- where the slot of an operation refuses it as it begins
@@ -88,7 +88,7 @@ module _ (P : Fault → Type 0) (own : CallFaults P) (times : Times) where
   start-looked true m turn o = o
   start-looked false m turn o = go-looked times (begun m turn).opening turn o
 
-  file-starts : (m : FileMachine) (wsize : ℕ) (turn : Turn) (old : Shelf) (next : Next) (new : FileMachine) (after : Shelf) → FileBegins m old → FineFile m
+  file-starts : (m : FileMachine) (wsize : ℕ) (turn : Turn) (old : Shelf) (next : Step) (new : FileMachine) (after : Shelf) → FileBegins m old → FineFile m
       → steps.Starts wsize m turn old next new after → FileStep next new
   file-starts (files.Open m) wsize turn old next new after place f s = file-as (files.Open _) next new s.machine_is (open-starts P own (is_taken m old.opens) m turn next place s.next_is, start-looked (is_taken m old.opens) m turn f)
   file-starts (files.Read m) wsize turn old next new after place f s =
@@ -104,7 +104,7 @@ module _ (P : Fault → Type 0) (own : CallFaults P) (times : Times) where
       file-as (files.Truncate _) next new s.machine_is (truncate-starts P own (found_file m old) m turn old next (of-open P own (finite.get old.opens (m.lane, m.slot)) place.0 place.1) s.next_is, tt)
   file-starts (files.Put m) wsize turn old next new after place f s = file-as (files.Put _) next new s.machine_is (put-starts P own times m turn next s.next_is, (f.0, tt, go-looked times (opening_at turn m) turn f.2))
 
-  file-resumes : (m : FileMachine) (wsize : ℕ) (turn : Turn) (old : Shelf) (next : Next) (new : FileMachine) (after : Shelf) → FineFile m
+  file-resumes : (m : FileMachine) (wsize : ℕ) (turn : Turn) (old : Shelf) (next : Step) (new : FileMachine) (after : Shelf) → FineFile m
       → steps.Resumes wsize m turn old next new after → FileStep next new
   file-resumes (files.Open m) wsize turn old next new after f s =
       file-as (files.Open _) next new s.machine_is (fine-as P _ next s.next_is (opening-next P own (go_next m.opening turn) (go-opening P own m.opening turn)), go-looked times m.opening turn f)
@@ -121,7 +121,7 @@ module _ (P : Fault → Type 0) (own : CallFaults P) (times : Times) where
       file-as (files.Put s.machine) next new s.machine_is (put-resumes P own times m.state wsize m turn old next s.machine after f.0 f.1 f.2 refl s.step)
 
   -- what it makes of what came of its call
-  abbrev pub FitsFile : Next → Turn → Turn → Result Reply Fault → List Repeat → FileMachine → Pending → Type 0
+  abbrev pub FitsFile : Step → Turn → Turn → Result Reply Fault → List Repeat → FileMachine → Pending → Type 0
   FitsFile next sent turn came repeats (files.Open m) back = SendsOr next (FitsOpening P own m.opening came)
   FitsFile next sent turn came repeats (files.Read m) back = SendsOr next (FitsRead P own m.reading came)
   FitsFile next sent turn came repeats (files.Write m) back = FitsWrite P own times sent turn came repeats m.state back
@@ -130,7 +130,7 @@ module _ (P : Fault → Type 0) (own : CallFaults P) (times : Times) where
   FitsFile next sent turn came repeats (files.Truncate m) back = SendsOr next (FitsCut P own m.state came)
   FitsFile next sent turn came repeats (files.Put m) back = FitsPut P own times sent turn came repeats m.state m back
 
-  file-takes : (m : FileMachine) (wsize : ℕ) (sent turn : Turn) (came : Result Reply Fault) (old : Shelf) (next : Next) (new : FileMachine) (after : Shelf) → FileEnds m old → FitsFile next sent turn came old.repeats m old.back → FineFile m
+  file-takes : (m : FileMachine) (wsize : ℕ) (sent turn : Turn) (came : Result Reply Fault) (old : Shelf) (next : Step) (new : FileMachine) (after : Shelf) → FileEnds m old → FitsFile next sent turn came old.repeats m old.back → FineFile m
       → AgainFile times sent turn came old.repeats m → steps.Takes wsize m sent turn came old next new after → FileStep next new
   file-takes (files.Open m) wsize sent turn came old next new after place n f more s =
       let again = opening_again m.opening sent turn came old.repeats in
@@ -159,10 +159,10 @@ module _ (P : Fault → Type 0) (own : CallFaults P) (times : Times) where
   abbrev FinePath : PathMachine → Type 0
   FinePath m = FineFile (file_of m.opener)
 
-  abbrev PathStep : Next → PathMachine → Type 0
+  abbrev PathStep : Step → PathMachine → Type 0
   PathStep next new = FineNext P next × FinePath new
 
-  path-as : (to : PathMachine) (next : Next) (new : PathMachine) → new ≡ to → PathStep next to → PathStep next new
+  path-as : (to : PathMachine) (next : Step) (new : PathMachine) → new ≡ to → PathStep next to → PathStep next new
   path-as to next new is f = (f.0, subst FinePath (sym is) f.1)
 
   placed-fine : (dir : List ℕ) (o : Opener) → FineFile (file_of o) → FineFile (file_of (placed dir o))
@@ -173,12 +173,12 @@ module _ (P : Fault → Type 0) (own : CallFaults P) (times : Times) where
   begun-fine moment (openers.Open m) f = f
   begun-fine moment (openers.Put m) f = f
 
-  then-resumes : (wsize : ℕ) (m : PathMachine) (turn : Turn) (old : Shelf) (next : Next) (new : PathMachine) (after : Shelf) → FinePath m
+  then-resumes : (wsize : ℕ) (m : PathMachine) (turn : Turn) (old : Shelf) (next : Step) (new : PathMachine) (after : Shelf) → FinePath m
       → paths.ThenResumes wsize m turn old next new after → PathStep next new
   then-resumes wsize m turn old next new after f t =
       path-as (record m { opener = t.opener }) next new t.machine_is (file-resumes (file_of m.opener) wsize turn old next (file_of t.opener) after f t.step)
 
-  follows-path : (step : WalkNext) (wsize : ℕ) (m : PathMachine) (turn : Turn) (old : Shelf) (next : Next) (new : PathMachine) (after : Shelf) → FineWalk P own step → FinePath m
+  follows-path : (step : WalkStep) (wsize : ℕ) (m : PathMachine) (turn : Turn) (old : Shelf) (next : Step) (new : PathMachine) (after : Shelf) → FineWalk P own step → FinePath m
       → paths.Follows step wsize m turn old next new after → PathStep next new
   follows-path (walks.Send call) wsize m turn old next new after w f l = path-as m next new l.1 (fine-as P _ next l.0 tt, f)
   follows-path walks.Wait wsize m turn old next new after w f l = path-as m next new l.1 (fine-as P _ next l.0 tt, f)
@@ -186,24 +186,24 @@ module _ (P : Fault → Type 0) (own : CallFaults P) (times : Times) where
       then-resumes wsize (record m { opener = placed dir m.opener; arrived = true }) turn old next new after (placed-fine dir m.opener f) l
   follows-path (walks.Refused fault) wsize m turn old next new after w f l = path-as m next new l.1 (fine-as P _ next l.0 w, f)
 
-  path-resumes : (b : Bool) (wsize : ℕ) (m : PathMachine) (turn : Turn) (old : Shelf) (next : Next) (new : PathMachine) (after : Shelf) → FinePath m
+  path-resumes : (b : Bool) (wsize : ℕ) (m : PathMachine) (turn : Turn) (old : Shelf) (next : Step) (new : PathMachine) (after : Shelf) → FinePath m
       → paths.PathResumes b wsize m turn old next new after → PathStep next new
   path-resumes true wsize m turn old next new after f r = then-resumes wsize m turn old next new after f r
   path-resumes false wsize m turn old next new after f r =
       follows-path (walking.go_next m.walk turn old) wsize (record m { walk = walking.go_after m.walk turn old }) turn (walking.go_shelf m.walk turn old) next new after (go-fine P own m.walk turn old) f r
 
-  path-starts : (taken : Bool) (wsize : ℕ) (m : PathMachine) (turn : Turn) (old : Shelf) (next : Next) (new : PathMachine) (after : Shelf) → (taken ≡ true → P faults.Slot) → FinePath m
+  path-starts : (taken : Bool) (wsize : ℕ) (m : PathMachine) (turn : Turn) (old : Shelf) (next : Step) (new : PathMachine) (after : Shelf) → (taken ≡ true → P faults.Slot) → FinePath m
       → paths.StartsIf taken wsize m turn old next new after → PathStep next new
   path-starts true wsize m turn old next new after place f s = path-as m next new s.1 (fine-as P _ next s.0 (place refl), f)
   path-starts false wsize m turn old next new after place f s =
       path-resumes m.arrived wsize (record m { opener = begun_at (turn.moment - 1) m.opener }) turn old next new after (begun-fine (turn.moment - 1) m.opener f) s
 
-  abbrev pub FitsPath : Bool → Next → Turn → Turn → Result Reply Fault → List Repeat → PathMachine → Pending → Type 0
+  abbrev pub FitsPath : Bool → Step → Turn → Turn → Result Reply Fault → List Repeat → PathMachine → Pending → Type 0
   FitsPath true next sent turn came repeats m back = FitsFile next sent turn came repeats (file_of m.opener) back
   FitsPath false next sent turn came repeats m back = goes_again (fails_busy (found_by came)) sent turn repeats ≡ false → FitsWalk P own (walking.waiting_name m.walk) came
 
   -- a walk whose call isn't made again
-  walk-if : (name : Option (List ℕ)) (w : Walk) (sent turn : Turn) (came : Result Reply Fault) (old : Shelf) (step : WalkNext) (new : Walk) (after : Shelf)
+  walk-if : (name : Option (List ℕ)) (w : Walk) (sent turn : Turn) (came : Result Reply Fault) (old : Shelf) (step : WalkStep) (new : Walk) (after : Shelf)
       → (goes_again (fails_busy (found_by came)) sent turn old.repeats ≡ false → FitsWalk P own name came) → walking.Takes name w sent turn came old step new after → FineWalk P own step
   walk-if None w sent turn came old step new after n t = walk-took P own None w sent turn came old step new after tt t
   walk-if (Some name) w sent turn came old step new after n t = by (look_again sent turn came old) refl
@@ -212,7 +212,7 @@ module _ (P : Fault → Type 0) (own : CallFaults P) (times : Times) where
       by true again = subst (FineWalk P own) (sym (t.next_is ∙ ap (λ (c : Bool). walking.followed_next c w name (found_by came) turn t.heard) again)) tt
       by false ends = walk-took P own (Some name) w sent turn came old step new after (n ends) t
 
-  path-takes : (b : Bool) (wsize : ℕ) (m : PathMachine) (sent turn : Turn) (came : Result Reply Fault) (old : Shelf) (next : Next) (new : PathMachine) (after : Shelf) → FileEnds (file_of m.opener) old → FitsPath b next sent turn came old.repeats m old.back → FinePath m
+  path-takes : (b : Bool) (wsize : ℕ) (m : PathMachine) (sent turn : Turn) (came : Result Reply Fault) (old : Shelf) (next : Step) (new : PathMachine) (after : Shelf) → FileEnds (file_of m.opener) old → FitsPath b next sent turn came old.repeats m old.back → FinePath m
       → AgainPath times sent turn came old.repeats b m → paths.PathTakes b wsize m sent turn came old next new after → PathStep next new
   path-takes true wsize m sent turn came old next new after place n f more t =
       path-as (record m { opener = t.opener }) next new t.machine_is (file-takes (file_of m.opener) wsize sent turn came old next (file_of t.opener) after place n f more t.step)
@@ -227,10 +227,10 @@ module _ (P : Fault → Type 0) (own : CallFaults P) (times : Times) where
   FineMachine (machines.Path m) = FinePath m
   FineMachine (machines.Name m) = Unit {0}
 
-  abbrev pub MachineStep : Next → Machine → Type 0
+  abbrev pub MachineStep : Step → Machine → Type 0
   MachineStep next new = FineNext P next × FineMachine new
 
-  all-as : (to : Machine) (next : Next) (new : Machine) → new ≡ to → MachineStep next to → MachineStep next new
+  all-as : (to : Machine) (next : Step) (new : Machine) → new ≡ to → MachineStep next to → MachineStep next new
   all-as to next new is f = (f.0, subst FineMachine (sym is) f.1)
 
   abbrev pub Begins : Machine → Shelf → Type 0
@@ -272,24 +272,24 @@ module _ (P : Fault → Type 0) (own : CallFaults P) (times : Times) where
   any-ends slot (machines.Path m) old = file-ends slot (file_of m.opener) old
   any-ends slot (machines.Name m) old = tt
 
-  pub all-starts : (m : Machine) (wsize : ℕ) (turn : Turn) (old : Shelf) (next : Next) (new : Machine) (after : Shelf) → Begins m old → FineMachine m → Starts wsize m turn old next new after → MachineStep next new
+  pub all-starts : (m : Machine) (wsize : ℕ) (turn : Turn) (old : Shelf) (next : Step) (new : Machine) (after : Shelf) → Begins m old → FineMachine m → Starts wsize m turn old next new after → MachineStep next new
   all-starts (machines.File m) wsize turn old next new after place f s = all-as (machines.File s.machine) next new s.machine_is (file-starts m wsize turn old next s.machine after place f s.step)
   all-starts (machines.Path m) wsize turn old next new after place f s =
       all-as (machines.Path s.machine) next new s.machine_is (path-starts (slot_taken m.opener old.opens) wsize m turn old next s.machine after place f s.step)
   all-starts (machines.Name m) wsize turn old next new after place f s = all-as (machines.Name s.machine) next new s.machine_is (name-goes P own m turn old next s.machine after s.step, tt)
 
-  pub all-resumes : (m : Machine) (wsize : ℕ) (turn : Turn) (old : Shelf) (next : Next) (new : Machine) (after : Shelf) → FineMachine m → Resumes wsize m turn old next new after
+  pub all-resumes : (m : Machine) (wsize : ℕ) (turn : Turn) (old : Shelf) (next : Step) (new : Machine) (after : Shelf) → FineMachine m → Resumes wsize m turn old next new after
       → MachineStep next new
   all-resumes (machines.File m) wsize turn old next new after f s = all-as (machines.File s.machine) next new s.machine_is (file-resumes m wsize turn old next s.machine after f s.step)
   all-resumes (machines.Path m) wsize turn old next new after f s = all-as (machines.Path s.machine) next new s.machine_is (path-resumes m.arrived wsize m turn old next s.machine after f s.step)
   all-resumes (machines.Name m) wsize turn old next new after f s = all-as (machines.Name s.machine) next new s.machine_is (name-goes P own m turn old next s.machine after s.step, tt)
 
-  abbrev pub FitsMachine : Next → Turn → Turn → Result Reply Fault → List Repeat → Machine → Pending → Type 0
+  abbrev pub FitsMachine : Step → Turn → Turn → Result Reply Fault → List Repeat → Machine → Pending → Type 0
   FitsMachine next sent turn came repeats (machines.File m) back = FitsFile next sent turn came repeats m back
   FitsMachine next sent turn came repeats (machines.Path m) back = FitsPath m.arrived next sent turn came repeats m back
   FitsMachine next sent turn came repeats (machines.Name m) back = SendsOr next (FitsName P own m came)
 
-  pub all-takes : (m : Machine) (wsize : ℕ) (sent turn : Turn) (came : Result Reply Fault) (old : Shelf) (next : Next) (new : Machine) (after : Shelf) → Ends m old → FitsMachine next sent turn came old.repeats m old.back → FineMachine m
+  pub all-takes : (m : Machine) (wsize : ℕ) (sent turn : Turn) (came : Result Reply Fault) (old : Shelf) (next : Step) (new : Machine) (after : Shelf) → Ends m old → FitsMachine next sent turn came old.repeats m old.back → FineMachine m
       → AgainMachine times sent turn came old.repeats m → Takes wsize m sent turn came old next new after → MachineStep next new
   all-takes (machines.File m) wsize sent turn came old next new after place n f more s =
       all-as (machines.File s.machine) next new s.machine_is (file-takes m wsize sent turn came old next s.machine after place n f more s.step)

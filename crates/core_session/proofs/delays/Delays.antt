@@ -1,6 +1,6 @@
 -- Along a history each call that waits was put off at as many different places of its operation as it was made before; and there are no more calls that are made
 -- again than calls that wait.
-use Rattle.core_session.proofs.Prelude.{◌≡◌, ◌≢◌, ◌<◌, ◌≤◌, ◌+◌, ◌-◌, ◌⊎◌, inl, inr, ℕ, List, [], ◌∷◌, ◌++◌, length, Bool, true, false, nat_eq, Option, Some, None, option_map, position, Result, Ok, Err, refl, sym, ap, subst, ◌∙◌, arith, eqb-true, eqb-false, xid_at, Waiting, next_xid, made_call, waiting_at, without, waits_early, at_made, others_made, others_taken, gone, Fault, Entry, Began, Answered, Sent, Delivered, Call, Reply, Op, SpellsCall, SpellsCallBy, proc_of, UnderWay, RefusesSo, jukebox, FirstSent-grow, At-grow, At-below, At-back, At-last, length_last, said_of, Says, Next, Send, Wait, Done, Repeat, Shelf, goes_again, Mounted, Machine, machine_of, Purpose, Busy, Setup, is_busy, IsIdle, with_state, record_of, Makes, Leads, Stirs, counted, StartsLane, TakesAt, View, turn_at, unmade_turn, in_flight, Counts, calls_for, HearsRecord, Reaches, IsMade, IsOutstanding, Tried, unsent, counts-calls, begins-unbegun, taken_one, calls-some, known-only, was-sent, says-of, Known, purpose_at, lanes-under-way, at-position, Rows, same-rows, rows-grow, silent-grow, taken-quiet, not-sent, taken-rows, AskedOf, under-back, IsExpected, reached-good, Expects, expects-laws, NoCall, NoShelf, NoStory, no-laws, IsPiece, CallFaults, one-call, CallFits, fits-laws, SameCalls, machine-fits}
+use Rattle.core_session.proofs.Prelude.{◌≡◌, ◌≢◌, ◌<◌, ◌≤◌, ◌+◌, ◌-◌, ◌⊎◌, inl, inr, ℕ, List, [], ◌∷◌, ◌++◌, length, Bool, true, false, nat_eq, Option, Some, None, option_map, position, Result, Ok, Err, refl, sym, ap, subst, ◌∙◌, arith, eqb-true, eqb-false, xid_at, Waiting, next_xid, made_call, waiting_at, without, waits_early, at_made, others_made, others_taken, gone, Fault, Entry, Began, Answered, Sent, Delivered, Call, Reply, Op, SpellsCall, SpellsCallBy, proc_of, UnderWay, RefusesSo, jukebox, FirstSent-grow, At-grow, At-below, At-back, At-last, length_last, said_of, Says, Step, Send, Wait, Done, Repeat, Shelf, goes_again, Mounted, Machine, machine_of, Purpose, Busy, Setup, is_busy, IsIdle, with_state, record_of, Makes, Leads, Stirs, counted, StartsLane, TakesAt, View, turn_at, unmade_turn, in_flight, Counts, calls_for, HearsRecord, Reaches, IsMade, IsOutstanding, Tried, unsent, counts-calls, begins-unbegun, taken_one, calls-some, known-only, was-sent, says-of, Known, purpose_at, lanes-under-way, at-position, Rows, same-rows, rows-grow, silent-grow, taken-quiet, not-sent, taken-rows, AskedOf, under-back, IsExpected, reached-good, Expects, expects-laws, NoCall, NoShelf, NoStory, no-laws, IsPiece, CallFaults, one-call, CallFits, fits-laws, SameCalls, machine-fits}
 use Rattle.claims.specs.PageRules.{refuses, breaks}
 use Rattle.client_shelf.specs.Busy.{repeats_after}
 use Rattle.core_facts.proofs.Counting.{none-idle}
@@ -73,10 +73,10 @@ module _ (m : Mounted) (setup : Setup) where
   -- ---- what a step leads to
 
   -- a call waits, or it is the one that the step asks for
-  abbrev Due : View → Next → ℕ → Type 0
+  abbrev Due : View → Step → ℕ → Type 0
   Due v next xid = IsWaiting v.calls.calls xid ⊎ ((xid ≡ next_xid v.calls) × ((call : Call) × (next ≡ Send call)))
 
-  record Owing (h : List Entry) (v : View) (number : ℕ) (machine : Machine) (next : Next) : Type 0 where
+  record Owing (h : List Entry) (v : View) (number : ℕ) (machine : Machine) (next : Step) : Type 0 where
     apart : AreApart v.shelf.repeats
     waits : Each (Due v next) v.shelf.repeats
     counted : Counted h v.calls.calls v.shelf.repeats
@@ -90,7 +90,7 @@ module _ (m : Mounted) (setup : Setup) where
 
     -- ---- the call is made
 
-    made-waits : (row : Waiting Purpose) (next : Next) (xid : ℕ) → Due v next xid → IsWaiting (v.calls.calls ++ (next_xid v.calls, row) ∷ []) xid
+    made-waits : (row : Waiting Purpose) (next : Step) (xid : ℕ) → Due v next xid → IsWaiting (v.calls.calls ++ (next_xid v.calls, row) ∷ []) xid
     made-waits row next xid (inl w) = record {
       call = w.call;
       waits =
@@ -164,12 +164,12 @@ module _ (m : Mounted) (setup : Setup) where
     one-fault : (a b : Fault) → ◌≡◌ {A = Result Reply Fault} (Err a) (Err b) → a ≡ b
     one-fault a b e = cc
 
-    not-due : (next : Next) (xid : ℕ) → Due v next xid × (xid ≢ next_xid v.calls) → IsWaiting v.calls.calls xid
+    not-due : (next : Step) (xid : ℕ) → Due v next xid × (xid ≢ next_xid v.calls) → IsWaiting v.calls.calls xid
     not-due next xid (inl w, apart) = w
     not-due next xid (inr mine, apart) = absurd (apart mine.0)
 
     -- the table without it
-    less-delayed : (next : Next) → AreApart v.shelf.repeats → Each (Due v next) v.shelf.repeats → Counted h v.calls.calls v.shelf.repeats
+    less-delayed : (next : Step) → AreApart v.shelf.repeats → Each (Due v next) v.shelf.repeats → Counted h v.calls.calls v.shelf.repeats
         → DelayedBy h v.calls.calls (left (next_xid v.calls) v.shelf.repeats)
     less-delayed next apart waits counted =
         let k = left-apart (next_xid v.calls) v.shelf.repeats apart in
@@ -209,14 +209,14 @@ module _ (m : Mounted) (setup : Setup) where
         table = took.later_is ∙ ap (λ (b : Bool). repeats_after b (turn_at v) (unmade_turn v) v.shelf.repeats) calm ∙ ended-is (next_xid v.calls) v.shelf.repeats
 
     -- no call is asked for
-    rests-delayed : (number : ℕ) (machine : Machine) (next : Next) → ((call : Call) → next ≡ Send call → ⊥) → Owing h v number machine next → Delayed h v
+    rests-delayed : (number : ℕ) (machine : Machine) (next : Step) → ((call : Call) → next ≡ Send call → ⊥) → Owing h v number machine next → Delayed h v
     rests-delayed number machine next none o = record { apart = o.apart; waits = each-map (Due v next) (IsWaiting v.calls.calls) by v.shelf.repeats o.waits; counted = o.counted }
       where
         by : (xid : ℕ) → Due v next xid → IsWaiting v.calls.calls xid
         by xid (inl w) = w
         by xid (inr mine) = absurd (none mine.1.0 mine.1.1)
 
-    leads-delayed : (new : View) (at number : ℕ) (machine : Machine) (next : Next) → Owing h v number machine next → Leads v at number machine next new → Delayed h new
+    leads-delayed : (new : View) (at number : ℕ) (machine : Machine) (next : Step) → Owing h v number machine next → Leads v at number machine next new → Delayed h new
     leads-delayed new at number machine (Send call) o (inl k) = made-delayed new number machine call o k
     leads-delayed new at number machine (Send call) o (inr f) = unmade-delayed new at number machine call o f
     leads-delayed new at number machine Wait o is = subst (Delayed h) (sym is) (rests-delayed number machine Wait (λ call e. absurd (cc)) o)
@@ -227,7 +227,7 @@ module _ (m : Mounted) (setup : Setup) where
     next-free waits = free-of (IsWaiting v.calls.calls) (next_xid v.calls) v.shelf.repeats (λ w. let low = early (next_xid v.calls) w.call w.waits in omega (arith, low)) waits
 
     -- a step without a reply
-    plain-owing : (number others : ℕ) (machine : Machine) (next : Next) → Delayed h v → AskedOf Calls next machine → Counts next others machine → Owing h v number machine next
+    plain-owing : (number others : ℕ) (machine : Machine) (next : Step) → Delayed h v → AskedOf Calls next machine → Counts next others machine → Owing h v number machine next
     plain-owing number others machine next d asked counts = record {
       apart = d.apart;
       waits = each-map (IsWaiting v.calls.calls) (Due v next) (λ xid w. inl w) v.shelf.repeats d.waits;
@@ -237,7 +237,7 @@ module _ (m : Mounted) (setup : Setup) where
       flight = λ call is. by next is counts;
     }
       where
-        by : (n : Next) → {call : Call} → n ≡ Send call → Counts n others machine → 1 ≤ in_flight machine
+        by : (n : Step) → {call : Call} → n ≡ Send call → Counts n others machine → 1 ≤ in_flight machine
         by (Send c) is k = let one = k.0 in omega (arith, one)
         by Wait is k = absurd (cc)
         by (Done answer) is k = absurd (cc)
@@ -434,7 +434,7 @@ module _ (m : Mounted) (setup : Setup) where
       flights : (c : Call) → o.next ≡ Send c → 1 ≤ in_flight o.after
       flights c is = by o.next is counts
         where
-          by : (n : Next) → n ≡ Send c → Counts n (in_flight o.machine - 1) o.after → 1 ≤ in_flight o.after
+          by : (n : Step) → n ≡ Send c → Counts n (in_flight o.machine - 1) o.after → 1 ≤ in_flight o.after
           by (Send asked_) e k = let one = k.0 in omega (arith, one)
           by Wait e k = absurd (cc)
           by (Done answer) e k = absurd (cc)

@@ -1,12 +1,12 @@
 -- P holds of what any operation makes of what came of its call, where that isn't made again: where it may be made again, since it wasn't put off then; and else
 -- where P holds of that too.
-use Rattle.core_session.proofs.Prelude.{◌≡◌, ◌||◌, ◌&&◌, ◌==◌, inl, inr, ℕ, Bool, true, false, List, length, Option, Some, None, Result, Ok, Err, refl, sym, subst, nat_lt, Wcc, Verf, FileKept, Fault, Call, Reply, Pending, Next, Repeat, Shelf, Turn, fails_busy, goes_again, Closing, Led, PutFile, Putting, Saving, Syncing, Writing, written_by, write_told, commit_told, found_by, FileMachine, Machine, NameMachine, PathMachine, Takes, file_of, FineOption, FineNext, fine-as, CallFaults, FitsWalk, FineLed}
+use Rattle.core_session.proofs.Prelude.{◌≡◌, ◌||◌, ◌&&◌, ◌==◌, inl, inr, ℕ, Bool, true, false, List, length, Option, Some, None, Result, Ok, Err, refl, sym, subst, nat_lt, Wcc, Verf, FileKept, Fault, Call, Reply, Pending, Step, Repeat, Shelf, Turn, fails_busy, goes_again, Closing, Led, PutFile, Putting, Saving, Syncing, Writing, written_by, write_told, commit_told, found_by, FileMachine, Machine, NameMachine, PathMachine, Takes, file_of, FineOption, FineNext, fine-as, CallFaults, FitsWalk, FineLed}
 use Rattle.client_shelf.specs.Busy.{is_busy}
 use Rattle.core_facts.proofs.Faults.{fine-fault, fine-some}
 use Rattle.nfs_file_calls.specs.declared.owned.FileKept.TheVariants as kept
 use Rattle.world_model.specs.declared.answer.Fault.TheVariants as faults
 use Rattle.world_model.specs.declared.message.Reply.TheVariants as replies
-use Rattle.client_shelf.specs.declared.next.Next.TheVariants as nexts
+use Rattle.client_shelf.specs.declared.step.Step.TheVariants as nexts
 use Rattle.file_ops.specs.declared.close_file.Closing.TheVariants as closing
 use Rattle.file_ops.specs.declared.opening.Led.TheVariants as leads
 use Rattle.file_ops.specs.declared.put_file.Putting.TheVariants as putting
@@ -29,7 +29,7 @@ use Rattle.core_session.proofs.delays.WriteSteps.{FitsWrite}
 use Rattle.core_session.proofs.delays.Took.{Took, result-calm, not-again}
 use Rattle.core_session.proofs.delays.TookFiles.{Calm, CalmFile, CalmPath}
 
-module _ (P : Fault → Type 0) (own : CallFaults P) (times : Times) (next : Next) (sent turn : Turn) (came : Result Reply Fault) (repeats : List Repeat) where
+module _ (P : Fault → Type 0) (own : CallFaults P) (times : Times) (next : Step) (sent turn : Turn) (came : Result Reply Fault) (repeats : List Repeat) where
   less-busy : (busy lt : Bool) → lt ≡ true → (busy && lt) ≡ false → busy ≡ false
   less-busy false lt low is = refl
   less-busy true true low is = absurd (cc)

@@ -1,6 +1,6 @@
 -- Which faults a step of a save gives: out of memory, those that it keeps, and those of what came of its call where that isn't made again. Where it sends no
 -- bytes it wasn't refused.
-use Rattle.core_session.proofs.Prelude.{◌≡◌, ◌+◌, ◌==◌, ◌&&◌, ℕ, Bool, true, false, List, [], ◌∷◌, Option, Some, None, Result, Ok, Err, inl, inr, refl, sym, ap, subst, ◌∙◌, nat_lt, Verdict, AllStable, SendAgain, Verf, Fault, Memory, Reply, Next, Repeat, Turn, fails_busy, goes_again, chosen, Pending, of_file, Segments, Sending, Committing, Resending, CommittingAgain, Saving, commit_told, FineResult, FineOption, FineNext, CallFaults}
+use Rattle.core_session.proofs.Prelude.{◌≡◌, ◌+◌, ◌==◌, ◌&&◌, ℕ, Bool, true, false, List, [], ◌∷◌, Option, Some, None, Result, Ok, Err, inl, inr, refl, sym, ap, subst, ◌∙◌, nat_lt, Verdict, AllStable, SendAgain, Verf, Fault, Memory, Reply, Step, Repeat, Turn, fails_busy, goes_again, chosen, Pending, of_file, Segments, Sending, Committing, Resending, CommittingAgain, Saving, commit_told, FineResult, FineOption, FineNext, CallFaults}
 use Rattle.std.specs.Prelude.{is_none}
 use Rattle.core_facts.proofs.Faults.{fine-some}
 use Rattle.core_session.proofs.delays.Times.{Times, AgainSave}
@@ -38,7 +38,7 @@ module _ (P : Fault → Type 0) (own : CallFaults P) (times : Times) where
   begun-save file upto = sending-save (saves.begun file upto) refl tt (times.no_commits file)
 
   -- the step is so, and so is the save
-  abbrev pub SaveFine : Next → Saving → Type 0
+  abbrev pub SaveFine : Step → Saving → Type 0
   SaveFine next new = FineNext P next × FineSave new
 
   leads-fine : (to : Gives) (saved : Saving) (next : Gives) (new : Saving) → saves.Leads to saved next new → SaveFine (syncs.sync_next to) saved → SaveFine (syncs.sync_next next) new

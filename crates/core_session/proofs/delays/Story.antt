@@ -1,6 +1,6 @@
 -- An operation is answered with NFS3ERR_JUKEBOX (RFC 1813, section 2.6) only where a record refused so a call that was sent for this very operation, which had been put
 -- off at three places of it before, and isn't the REMOVE of a last close.
-use Rattle.core_session.proofs.Prelude.{◌≡◌, ◌≤◌, ◌<◌, ◌+◌, ◌&&◌, ℕ, List, [], ◌∷◌, ◌++◌, length, Bool, true, false, option_map, Result, Ok, Err, inl, inr, refl, sym, ap, subst, ◌∙◌, arith, nat_lt, lt-ltb, ltb-false, Waiting, without, Answer, Fault, Entry, Began, Delivered, Call, Reply, Op, Modes, RefusesSo, Ended, jukebox, FirstSent-grow, Answers-grow, length_last, Says, Next, Shelf, Turn, goes_again, CloseFile, Closing, Removal, Mounted, Machine, machine_of, Takes, Purpose, State, Busy, Over, Setup, View, of_closing, in_flight, Reaches, begins-unbegun, FineAnswer, reached-rows, ThenOf, AsksFor, Did, IsUnmadeFault, CloseNames, Saves, IsPiece, CallFaults, machine-fits}
+use Rattle.core_session.proofs.Prelude.{◌≡◌, ◌≤◌, ◌<◌, ◌+◌, ◌&&◌, ℕ, List, [], ◌∷◌, ◌++◌, length, Bool, true, false, option_map, Result, Ok, Err, inl, inr, refl, sym, ap, subst, ◌∙◌, arith, nat_lt, lt-ltb, ltb-false, Waiting, without, Answer, Fault, Entry, Began, Delivered, Call, Reply, Op, Modes, RefusesSo, Ended, jukebox, FirstSent-grow, Answers-grow, length_last, Says, Step, Shelf, Turn, goes_again, CloseFile, Closing, Removal, Mounted, Machine, machine_of, Takes, Purpose, State, Busy, Over, Setup, View, of_closing, in_flight, Reaches, begins-unbegun, FineAnswer, reached-rows, ThenOf, AsksFor, Did, IsUnmadeFault, CloseNames, Saves, IsPiece, CallFaults, machine-fits}
 use Rattle.std.proofs.lemmas.Bool.{eq-eqb}
 use Rattle.claims.specs.PageRules.{RefusedSo, refuses}
 use Rattle.client_shelf.specs.Busy.{is_busy}
@@ -11,7 +11,7 @@ use Rattle.core_facts.proofs.Passing.{Passes, forget}
 use Rattle.world_model.specs.declared.answer.Answer.TheVariants as answers
 use Rattle.world_model.specs.declared.answer.Fault.TheVariants as faults
 use Rattle.world_model.specs.declared.op.Op.TheVariants as ops
-use Rattle.client_shelf.specs.declared.next.Next.TheVariants as nexts
+use Rattle.client_shelf.specs.declared.step.Step.TheVariants as nexts
 use Rattle.client_shelf.specs.Repeats.{times_of, ended}
 use Rattle.file_ops.specs.declared.close_file.Closing.TheVariants as closing
 use Rattle.core_answers.specs.asks.SlotCalls.{IsRemoval}
@@ -120,7 +120,7 @@ module _ (m : Mounted) (setup : Setup) (G : List Entry → View → Type 0) wher
   abbrev Story : List Entry → ℕ → Op → State → Type 0
   Story h x op state = StateStory h x op state
 
-  asks-none : (h : List Entry) (x : ℕ) (op : Op) (next : Next) → AsksFor (NoWait h x op) next
+  asks-none : (h : List Entry) (x : ℕ) (op : Op) (next : Step) → AsksFor (NoWait h x op) next
   asks-none h x op (nexts.Send call) = tt
   asks-none h x op nexts.Wait = tt
   asks-none h x op (nexts.Done answer) = tt
@@ -129,13 +129,13 @@ module _ (m : Mounted) (setup : Setup) (G : List Entry → View → Type 0) wher
   answer-story h x op (answers.Done value) f = tt
   answer-story h x op (answers.Refused fault) f = f
 
-  abbrev StepsSo : List Entry → ℕ → Op → Next → Machine → Type 0
+  abbrev StepsSo : List Entry → ℕ → Op → Step → Machine → Type 0
   StepsSo h x op next new = steps.MachineStep (Shown h x op) (own h x op) (counts h x (length h)) next new
 
-  did : (h : List Entry) (x : ℕ) (op : Op) (next : Next) (new : Machine) (after : Shelf) → StepsSo h x op next new → Did NoWait NoShelf Story h x op next new after
+  did : (h : List Entry) (x : ℕ) (op : Op) (next : Step) (new : Machine) (after : Shelf) → StepsSo h x op next new → Did NoWait NoShelf Story h x op next new after
   did h x op next new after s = record { shelf = tt; asks = asks-none h x op next; then_ = by next s }
     where
-      by : (n : Next) → StepsSo h x op n new → ThenOf (λ k. Story h x op (Busy k)) (λ a. Story h x op (Over a)) n new
+      by : (n : Step) → StepsSo h x op n new → ThenOf (λ k. Story h x op (Busy k)) (λ a. Story h x op (Over a)) n new
       by (nexts.Send call) k = k.1
       by nexts.Wait k = k.1
       by (nexts.Done answer) k = answer-story h x op answer k.0
@@ -178,7 +178,7 @@ module _ (m : Mounted) (setup : Setup) (G : List Entry → View → Type 0) wher
   close-op (ops.ReadLink path) R a b = b (λ n is. absurd (cc))
   close-op (ops.List path) R a b = b (λ n is. absurd (cc))
 
-  module _ (h : List Entry) (x : ℕ) (op : Op) (machine : Machine) (wsize : ℕ) (sent turn : Turn) (came : Result Reply Fault) (old : Shelf) (next : Next) (new : Machine) (after : Shelf)
+  module _ (h : List Entry) (x : ℕ) (op : Op) (machine : Machine) (wsize : ℕ) (sent turn : Turn) (came : Result Reply Fault) (old : Shelf) (next : Step) (new : Machine) (after : Shelf)
       (others : ℕ) (story : steps.FineMachine (Shown h x op) (own h x op) (counts h x (length h)) machine) (flight : in_flight machine ≡ others + 1) (t : Takes wsize machine sent turn came old next new after) where
     slots-fine : steps.Ends (Shown h x op) (own h x op) (counts h x (length h)) machine old
     slots-fine = steps.any-ends (Shown h x op) (own h x op) (counts h x (length h)) (λ is. absurd (cc)) machine old

@@ -1,5 +1,5 @@
 -- An operation on a file makes a call again that was put off, as often as it may; a save also the WRITE of a piece, and its COMMIT.
-use Rattle.core_session.proofs.Prelude.{◌≡◌, ◌≤◌, ◌&&◌, ◌||◌, ◌==◌, ℕ, Bool, true, false, List, Option, Some, None, Result, Ok, Err, inl, inr, refl, sym, ap, subst, ◌∙◌, arith, nat_lt, eqb-true, Attr, Verf, Wcc, DirKept, FileKept, Fault, Call, Reply, status_of, jukebox, Pending, Pages, Opens, left, Next, Repeat, Shelf, Turn, fails_busy, goes_again, CloseFile, Closing, Removal, OpenFile, Led, Opening, OpeningNext, PutFile, Putting, ReadFile, Reading, Sending, Committing, Resending, CommittingAgain, Saving, SyncFile, Syncing, TruncateFile, Truncating, WriteFile, Writing, place_after, remove_of, remove_busy, written_by, write_told, commit_told, part, refusal, said_to, got_by, by-step, ends_as, WalkNext, FileMachine, Machine, PathMachine, file_of, Takes, of_writing, of_syncing, of_closing, of_truncating, of_putting, of_walk, path_by, in_flight, PathOr, FineNext, flies_if, flies_save, flies_write, flies_sync, flies_close, flies_put, flies_file, flies_path, Expects, PathNames, SyncNames, WriteNames, CloseNames, StateNames, FileNames, Saves, IsPiece, CallFaults, CallFits, FitsWalk, FineLed, FitsOpening}
+use Rattle.core_session.proofs.Prelude.{◌≡◌, ◌≤◌, ◌&&◌, ◌||◌, ◌==◌, ℕ, Bool, true, false, List, Option, Some, None, Result, Ok, Err, inl, inr, refl, sym, ap, subst, ◌∙◌, arith, nat_lt, eqb-true, Attr, Verf, Wcc, DirKept, FileKept, Fault, Call, Reply, status_of, jukebox, Pending, Pages, Opens, left, Step, Repeat, Shelf, Turn, fails_busy, goes_again, CloseFile, Closing, Removal, OpenFile, Led, Opening, OpeningStep, PutFile, Putting, ReadFile, Reading, Sending, Committing, Resending, CommittingAgain, Saving, SyncFile, Syncing, TruncateFile, Truncating, WriteFile, Writing, place_after, remove_of, remove_busy, written_by, write_told, commit_told, part, refusal, said_to, got_by, by-step, ends_as, WalkStep, FileMachine, Machine, PathMachine, file_of, Takes, of_writing, of_syncing, of_closing, of_truncating, of_putting, of_walk, path_by, in_flight, PathOr, FineNext, flies_if, flies_save, flies_write, flies_sync, flies_close, flies_put, flies_file, flies_path, Expects, PathNames, SyncNames, WriteNames, CloseNames, StateNames, FileNames, Saves, IsPiece, CallFaults, CallFits, FitsWalk, FineLed, FitsOpening}
 use Rattle.std.specs.Prelude.{is_none}
 use Rattle.client_shelf.specs.Busy.{is_busy, repeats_after}
 use Rattle.file_ops.specs.Closings.{busy_by}
@@ -17,10 +17,10 @@ use Rattle.world_model.specs.declared.answer.Fault.TheVariants as faults
 use Rattle.world_model.specs.declared.message.Call.TheVariants as calls
 use Rattle.world_model.specs.declared.message.Reply.TheVariants as replies
 use Rattle.write_back.specs.Pieces.{Sent}
-use Rattle.client_shelf.specs.declared.next.Next.TheVariants as nexts
+use Rattle.client_shelf.specs.declared.step.Step.TheVariants as nexts
 use Rattle.file_ops.specs.declared.close_file.Closing.TheVariants as closing
 use Rattle.file_ops.specs.declared.opening.Led.TheVariants as leads
-use Rattle.file_ops.specs.declared.opening.OpeningNext.TheVariants as openings
+use Rattle.file_ops.specs.declared.opening.OpeningStep.TheVariants as openings
 use Rattle.file_ops.specs.declared.put_file.Putting.TheVariants as putting
 use Rattle.file_ops.specs.declared.reading.Phase.{Phase as ReadPhase}
 use Rattle.file_ops.specs.declared.reading.Phase.TheVariants as phases
@@ -38,7 +38,7 @@ use Rattle.file_ops.specs.Saves as saves
 use Rattle.file_ops.specs.Syncs as syncs
 use Rattle.file_ops.specs.TruncateFile as truncates
 use Rattle.file_ops.specs.WriteFile as writes
-use Rattle.name_ops.specs.declared.walk.WalkNext.TheVariants as walks
+use Rattle.name_ops.specs.declared.walk.WalkStep.TheVariants as walks
 use Rattle.name_ops.specs.Walking as walking
 use Rattle.op_machines.specs.declared.file_machine.FileMachine.TheVariants as files
 use Rattle.op_machines.specs.declared.machine.Machine.TheVariants as machines
@@ -126,7 +126,7 @@ module _ (Q : Fault → Type 0) (fine : CallFaults Q) (came : Result Reply Fault
   CalmPath true m = CalmFile (file_of m.opener)
   CalmPath false m = FitsWalk Q fine (walking.waiting_name m.walk) came
 
-  abbrev pub Calm : Next → Machine → Type 0
+  abbrev pub Calm : Step → Machine → Type 0
   Calm next (machines.File m) = CalmFile m
   Calm next (machines.Path m) = CalmPath m.arrived m
   Calm next (machines.Name m) = FineNext Q next
@@ -197,13 +197,13 @@ module _ (P : Fault → Type 0) (own : CallFaults P) (sent turn : Turn) (came : 
   abbrev TookTo : Shelf → Shelf → Type 0 → Type 0 → Type 0
   TookTo old after A C = Took P sent turn old.repeats after.repeats A C
 
-  as-unit : (old : Shelf) (later new : List Repeat) (gives : Gives) (next : Next) → new ≡ later → (syncs.sync_next gives ≡ nexts.Send call → next ≡ nexts.Send call)
+  as-unit : (old : Shelf) (later new : List Repeat) (gives : Gives) (next : Step) → new ≡ later → (syncs.sync_next gives ≡ nexts.Send call → next ≡ nexts.Send call)
       → Took P sent turn old.repeats later (syncs.sync_next gives ≡ nexts.Send call) (Unit {0}) → Took P sent turn old.repeats new (next ≡ nexts.Send call) (Unit {0})
   as-unit old later new gives next is sends t = took-as P sent turn old.repeats later new (syncs.sync_next gives ≡ nexts.Send call) (next ≡ nexts.Send call) (Unit {0}) (Unit {0}) is sends (λ c. c) t
 
   -- ---- syncs
 
-  took-sync : (at : Syncing) (wsize : ℕ) (m : SyncFile) (old : Shelf) (next : Next) (state : Syncing) (new : Shelf) → 1 ≤ of_syncing at → SyncNames at call
+  took-sync : (at : Syncing) (wsize : ℕ) (m : SyncFile) (old : Shelf) (next : Step) (state : Syncing) (new : Shelf) → 1 ≤ of_syncing at → SyncNames at call
       → Fits (flies_sync at) (commits_sync at) call → ((reply : Reply) → came ≡ Ok reply → IsPiece sent.xid call old.back) → FitsSync P own sent came at old.back
       → syncs.Takes at wsize m sent turn came old next state new → TookTo old new (next ≡ nexts.Send call) (Unit {0})
   took-sync syncing.Idle wsize m old next state new some e k piece fits t = absurd (omega (arith, some))
@@ -213,22 +213,22 @@ module _ (P : Fault → Type 0) (own : CallFaults P) (sent turn : Turn) (came : 
 
   -- ---- closes
 
-  follows-close : (gives : Gives) (lane slot : ℕ) (room begun : Bool) (saving : Saving) (old : Shelf) (next : Next) (state : Closing) (new : Shelf)
+  follows-close : (gives : Gives) (lane slot : ℕ) (room begun : Bool) (saving : Saving) (old : Shelf) (next : Step) (state : Closing) (new : Shelf)
       → closes.Follows gives lane slot room begun saving old next state new → syncs.sync_next gives ≡ nexts.Send call → next ≡ nexts.Send call
   follows-close gives lane slot room begun saving old next state new f is = by-step
       (λ g. closes.Follows g lane slot room begun saving old next state new → syncs.sync_next g ≡ nexts.Send call → next ≡ nexts.Send call)
       (λ asked l same_call. l.0 ∙ same_call) (λ l wrong. absurd (cc)) (λ result l wrong. absurd (cc)) gives f is
 
-  removed-same : (c : Bool) (lane : ℕ) (removal : Removal) (old : Shelf) (next : Next) (state : Closing) (new : Shelf) → closes.EndsIf c lane removal old next state new → Same new old
+  removed-same : (c : Bool) (lane : ℕ) (removal : Removal) (old : Shelf) (next : Step) (state : Closing) (new : Shelf) → closes.EndsIf c lane removal old next state new → Same new old
   removed-same true lane removal old next state new e = same new old e.shelf_is
   removed-same false lane removal old next state new e = ap (λ (s : Shelf). s.repeats) e.others
 
-  removed-send : (c : Bool) (lane : ℕ) (removal : Removal) (old : Shelf) (next : Next) (state : Closing) (new : Shelf) → closes.EndsIf c lane removal old next state new → c ≡ true
+  removed-send : (c : Bool) (lane : ℕ) (removal : Removal) (old : Shelf) (next : Step) (state : Closing) (new : Shelf) → closes.EndsIf c lane removal old next state new → c ≡ true
       → next ≡ nexts.Send (remove_of removal)
   removed-send true lane removal old next state new e is = e.next_is
   removed-send false lane removal old next state new e is = absurd (cc)
 
-  took-close : (at : Closing) (wsize : ℕ) (m : CloseFile) (old : Shelf) (next : Next) (state : Closing) (new : Shelf) → 1 ≤ of_closing at → CloseNames at call
+  took-close : (at : Closing) (wsize : ℕ) (m : CloseFile) (old : Shelf) (next : Step) (state : Closing) (new : Shelf) → 1 ≤ of_closing at → CloseNames at call
       → Fits (flies_close at) (commits_close at) call → ((reply : Reply) → came ≡ Ok reply → IsPiece sent.xid call old.back) → FitsClose P own sent came at old.back
       → closes.Takes at wsize m sent turn came old next state new → TookTo old new (next ≡ nexts.Send call) (Unit {0})
   took-close closing.Idle wsize m old next state new some e k piece fits t = absurd (omega (arith, some))
@@ -248,7 +248,7 @@ module _ (P : Fault → Type 0) (own : CallFaults P) (sent turn : Turn) (came : 
 
   -- ---- writes
 
-  follows-write-same : (told : Gives) (wsize : ℕ) (m : WriteFile) (file : List ℕ) (saved : Saving) (shelf : Shelf) (next : Next) (new : Writing) (after : Shelf)
+  follows-write-same : (told : Gives) (wsize : ℕ) (m : WriteFile) (file : List ℕ) (saved : Saving) (shelf : Shelf) (next : Step) (new : Writing) (after : Shelf)
       → writes.Follows told wsize m file saved turn shelf next new after → Same after shelf
   follows-write-same told wsize m file saved shelf next new after f = by-step
       (λ g. writes.Follows g wsize m file saved turn shelf next new after → Same after shelf)
@@ -258,13 +258,13 @@ module _ (P : Fault → Type 0) (own : CallFaults P) (sent turn : Turn) (came : 
       ended (Ok nothing) l = writes-same _ wsize m.lane file m.offset (writes.made_bytes m.text) turn (record shelf { order = left m.lane shelf.order }) next new after l
       ended (Err fault) l = ap (λ (s : Shelf). s.repeats) l.shelf_is
 
-  follows-write-send : (told : Gives) (wsize : ℕ) (m : WriteFile) (file : List ℕ) (saved : Saving) (shelf : Shelf) (next : Next) (new : Writing) (after : Shelf)
+  follows-write-send : (told : Gives) (wsize : ℕ) (m : WriteFile) (file : List ℕ) (saved : Saving) (shelf : Shelf) (next : Step) (new : Writing) (after : Shelf)
       → writes.Follows told wsize m file saved turn shelf next new after → syncs.sync_next told ≡ nexts.Send call → next ≡ nexts.Send call
   follows-write-send told wsize m file saved shelf next new after f is = by-step
       (λ g. writes.Follows g wsize m file saved turn shelf next new after → syncs.sync_next g ≡ nexts.Send call → next ≡ nexts.Send call)
       (λ asked l same_call. l.gives_next ∙ same_call) (λ l wrong. absurd (cc)) (λ result l wrong. absurd (cc)) told f is
 
-  took-write : (at : Writing) (wsize : ℕ) (m : WriteFile) (old : Shelf) (next : Next) (new : Writing) (after : Shelf) → 1 ≤ of_writing at → WriteNames at call
+  took-write : (at : Writing) (wsize : ℕ) (m : WriteFile) (old : Shelf) (next : Step) (new : Writing) (after : Shelf) → 1 ≤ of_writing at → WriteNames at call
       → Fits (flies_write at) (commits_write at) call → ((reply : Reply) → came ≡ Ok reply → IsPiece sent.xid call old.back) → FitsWrite P own sent came at old.back
       → writes.TakesIn at wsize m sent turn came old next new after → TookTo old after (next ≡ nexts.Send call) (Unit {0})
   took-write writing.Idle wsize m old next new after some e k piece fits t = absurd (omega (arith, some))
@@ -275,7 +275,7 @@ module _ (P : Fault → Type 0) (own : CallFaults P) (sent turn : Turn) (came : 
 
   -- ---- puts
 
-  led-send : (c : Bool) (o : Opening) (led : Led) (step : OpeningNext) (old new : Pages) → opening.LedIf c o sent turn led step old new → c ≡ true → step ≡ openings.Send (opening.call_of o o.step)
+  led-send : (c : Bool) (o : Opening) (led : Led) (step : OpeningStep) (old new : Pages) → opening.LedIf c o sent turn led step old new → c ≡ true → step ≡ openings.Send (opening.call_of o o.step)
   led-send true o led step old new l is = l.0
   led-send false o led step old new l is = absurd (cc)
 
@@ -288,13 +288,13 @@ module _ (P : Fault → Type 0) (own : CallFaults P) (sent turn : Turn) (came : 
   opening-busy : (o : Opening) → opening.may_again o (opening.told_led o came) ≡ true → opening.ends_busy (opening.told_led o came) ≡ true
   opening-busy o is = and-left (opening.ends_busy (opening.told_led o came)) _ is
 
-  put-opening-same : (step : OpeningNext) (wsize : ℕ) (m : PutFile) (old : Shelf) (next : Next) (new : PutFile) (after : Shelf) → puts.AfterOpening step wsize m turn old next new after → Same after old
+  put-opening-same : (step : OpeningStep) (wsize : ℕ) (m : PutFile) (old : Shelf) (next : Step) (new : PutFile) (after : Shelf) → puts.AfterOpening step wsize m turn old next new after → Same after old
   put-opening-same (openings.Send asked) wsize m old next new after a = same after old a.2
   put-opening-same openings.Wait wsize m old next new after a = same after old a.shelf_is
   put-opening-same (openings.Ended (Ok file)) wsize m old next new after a = adds-bytes wsize m file turn old next new after a
   put-opening-same (openings.Ended (Err fault)) wsize m old next new after a = same after old a.2
 
-  put-opening-send : (step : OpeningNext) (asked : Call) (wsize : ℕ) (m : PutFile) (old : Shelf) (next : Next) (new : PutFile) (after : Shelf) → puts.AfterOpening step wsize m turn old next new after
+  put-opening-send : (step : OpeningStep) (asked : Call) (wsize : ℕ) (m : PutFile) (old : Shelf) (next : Step) (new : PutFile) (after : Shelf) → puts.AfterOpening step wsize m turn old next new after
       → step ≡ openings.Send asked → next ≡ nexts.Send asked
   put-opening-send (openings.Send own_call) asked wsize m old next new after a is = a.0 ∙ ap (λ (c : Call). nexts.Send c) (same-send own_call asked is)
     where
@@ -303,19 +303,19 @@ module _ (P : Fault → Type 0) (own : CallFaults P) (sent turn : Turn) (came : 
   put-opening-send openings.Wait asked wsize m old next new after a is = absurd (cc)
   put-opening-send (openings.Ended result) asked wsize m old next new after a is = absurd (cc)
 
-  after-write-send : (told : Next) (wsize lane : ℕ) (file : List ℕ) (old : Shelf) (next : Next) (state : Putting) (new : Shelf) → puts.AfterWrite told wsize lane file turn old next state new
+  after-write-send : (told : Step) (wsize lane : ℕ) (file : List ℕ) (old : Shelf) (next : Step) (state : Putting) (new : Shelf) → puts.AfterWrite told wsize lane file turn old next state new
       → told ≡ nexts.Send call → next ≡ nexts.Send call
   after-write-send (nexts.Send asked) wsize lane file old next state new a is = a.0 ∙ is
   after-write-send nexts.Wait wsize lane file old next state new a is = absurd (cc)
   after-write-send (nexts.Done answer) wsize lane file old next state new a is = absurd (cc)
 
-  follows-put : (gives : Gives) (lane : ℕ) (saving : Saving) (old : Shelf) (next : Next) (state : Putting) (new : Shelf) → puts.Follows gives lane saving old next state new
+  follows-put : (gives : Gives) (lane : ℕ) (saving : Saving) (old : Shelf) (next : Step) (state : Putting) (new : Shelf) → puts.Follows gives lane saving old next state new
       → syncs.sync_next gives ≡ nexts.Send call → next ≡ nexts.Send call
   follows-put gives lane saving old next state new f is = by-step
       (λ g. puts.Follows g lane saving old next state new → syncs.sync_next g ≡ nexts.Send call → next ≡ nexts.Send call)
       (λ asked l same_call. l.0 ∙ same_call) (λ l wrong. absurd (cc)) (λ result l wrong. absurd (cc)) gives f is
 
-  took-put : (at : Putting) (wsize : ℕ) (m : PutFile) (old : Shelf) (next : Next) (new : PutFile) (after : Shelf) → 1 ≤ of_putting at m.opening m.write.state → PutAwaits at m.opening call
+  took-put : (at : Putting) (wsize : ℕ) (m : PutFile) (old : Shelf) (next : Step) (new : PutFile) (after : Shelf) → 1 ≤ of_putting at m.opening m.write.state → PutAwaits at m.opening call
       → StateNames at m.write.state call → Fits (flies_put at m.write.state) (commits_put at m.write.state) call → ((reply : Reply) → came ≡ Ok reply → IsPiece sent.xid call old.back)
       → FitsPut P own sent came at m old.back → puts.Takes at wsize m sent turn came old next new after → TookTo old after (next ≡ nexts.Send call) (Unit {0})
   took-put putting.Idle wsize m old next new after some a e k piece fits t = absurd (omega (arith, some))
@@ -347,7 +347,7 @@ module _ (P : Fault → Type 0) (own : CallFaults P) (sent turn : Turn) (came : 
     led-calm (leads.Knows file stamp) is = tt
     led-calm (leads.Ends fault) is = other fault is
 
-    follows-open : (m : OpenFile) (step : OpeningNext) (asked : Call) (next : Next) (old new : Opens) → opens.Follows m step next old new → step ≡ openings.Send asked → next ≡ nexts.Send asked
+    follows-open : (m : OpenFile) (step : OpeningStep) (asked : Call) (next : Step) (old new : Opens) → opens.Follows m step next old new → step ≡ openings.Send asked → next ≡ nexts.Send asked
     follows-open m (openings.Send own_call) asked next old new f is = f.0 ∙ ap (λ (c : Call). nexts.Send c) (same-send own_call asked is)
       where
         same-send : (x y : Call) → openings.Send x ≡ openings.Send y → x ≡ y
@@ -356,7 +356,7 @@ module _ (P : Fault → Type 0) (own : CallFaults P) (sent turn : Turn) (came : 
     follows-open m (openings.Ended (Ok file)) asked next old new f is = absurd (cc)
     follows-open m (openings.Ended (Err fault)) asked next old new f is = absurd (cc)
 
-    took-open : (m : OpenFile) (old : Shelf) (next : Next) (new : FileMachine) (after : Shelf) → call ≡ opening.call_of m.opening m.opening.step → FitsOpening P own m.opening came
+    took-open : (m : OpenFile) (old : Shelf) (next : Step) (new : FileMachine) (after : Shelf) → call ≡ opening.call_of m.opening m.opening.step → FitsOpening P own m.opening came
         → steps.OpenTakes m sent turn came old next new after → TookTo old after (next ≡ nexts.Send call) (opening_full m.opening ≡ false → FitsOpening Q fine m.opening came)
     took-open m old next new after e fits t = record {
       busy = opening.may_again m.opening (opening.told_led m.opening came);
@@ -372,7 +372,7 @@ module _ (P : Fault → Type 0) (own : CallFaults P) (sent turn : Turn) (came : 
 
     -- ---- reads
 
-    module _ (r : Reading) (repeats : List Repeat) (pages : Pages) (back : Pending) (next : Next) (new : reading.State) where
+    module _ (r : Reading) (repeats : List Repeat) (pages : Pages) (back : Pending) (next : Step) (new : reading.State) where
       abbrev TookRead : ReadPhase → Type 0
       TookRead p = Took P sent turn repeats (reading.repeats_taken p sent turn came repeats) (next ≡ nexts.Send call) (FitsPhase Q fine p came)
 
@@ -431,7 +431,7 @@ module _ (P : Fault → Type 0) (own : CallFaults P) (sent turn : Turn) (came : 
       took-phase true is some e fits t = took-attrs r.phase is e fits t
       took-phase false is some e fits t = took-part r.phase refl some is e fits t
 
-    took-read : (o : Option Reading) (m : ReadFile) (repeats : List Repeat) (pages : Pages) (back : Pending) (next : Next) (new : ReadFile) (later : Pages) → 1 ≤ of_reading o → ReadNames o call
+    took-read : (o : Option Reading) (m : ReadFile) (repeats : List Repeat) (pages : Pages) (back : Pending) (next : Step) (new : ReadFile) (later : Pages) → 1 ≤ of_reading o → ReadNames o call
         → FitsRead P own o came → reads.TakesIn o sent turn came repeats m pages back next new later
         → Took P sent turn repeats (reads.repeats_heard o sent turn came repeats) (next ≡ nexts.Send call) (FitsRead Q fine o came)
     took-read None m repeats pages back next new later some e fits t = absurd (omega (arith, some))
@@ -439,7 +439,7 @@ module _ (P : Fault → Type 0) (own : CallFaults P) (sent turn : Turn) (came : 
 
     -- ---- truncates
 
-    took-cut : (at : Truncating) (m : TruncateFile) (old : Shelf) (next : Next) (attrs : _) (back : Pending) (after : Shelf) → 1 ≤ of_truncating at → CutNames m.size at call → FitsCut P own at came
+    took-cut : (at : Truncating) (m : TruncateFile) (old : Shelf) (next : Step) (attrs : _) (back : Pending) (after : Shelf) → 1 ≤ of_truncating at → CutNames m.size at call → FitsCut P own at came
         → next ≡ truncates.took_next at m came sent turn old.repeats → after ≡ truncates.took_shelf at m came sent turn attrs back old
         → TookTo old after (next ≡ nexts.Send call) (FitsCut Q fine at came)
     took-cut truncating.Idle m old next attrs back after some e fits is shelf = absurd (omega (arith, some))
@@ -454,7 +454,7 @@ module _ (P : Fault → Type 0) (own : CallFaults P) (sent turn : Turn) (came : 
 
     -- ---- any operation on a file
 
-    pub took-file : (m : FileMachine) (wsize : ℕ) (old : Shelf) (next : Next) (new : FileMachine) (after : Shelf) → 1 ≤ of_file m → FileAwaits m call → FileNames m call
+    pub took-file : (m : FileMachine) (wsize : ℕ) (old : Shelf) (next : Step) (new : FileMachine) (after : Shelf) → 1 ≤ of_file m → FileAwaits m call → FileNames m call
         → Fits (flies_file m) (commits_file m) call → ((reply : Reply) → came ≡ Ok reply → IsPiece sent.xid call old.back) → FitsFile P own sent came m old.back
         → steps.Takes wsize m sent turn came old next new after → TookTo old after (next ≡ nexts.Send call) (CalmFile Q fine came m)
     took-file (files.Open m) wsize old next new after some a e k piece fits t = took-open m old next new after a fits t
@@ -469,7 +469,7 @@ module _ (P : Fault → Type 0) (own : CallFaults P) (sent turn : Turn) (came : 
 
     -- ---- on their way
 
-    follows-way : (step : WalkNext) (wsize : ℕ) (m : PathMachine) (old : Shelf) (next : Next) (new : PathMachine) (after : Shelf) → paths.Follows step wsize m turn old next new after
+    follows-way : (step : WalkStep) (wsize : ℕ) (m : PathMachine) (old : Shelf) (next : Step) (new : PathMachine) (after : Shelf) → paths.Follows step wsize m turn old next new after
         → step ≡ walks.Send call → next ≡ nexts.Send call
     follows-way (walks.Send asked) wsize m old next new after f is = f.0 ∙ ap (λ (c : Call). nexts.Send c) (same-send asked call is)
       where
@@ -479,7 +479,7 @@ module _ (P : Fault → Type 0) (own : CallFaults P) (sent turn : Turn) (came : 
     follows-way (walks.At dir) wsize m old next new after f is = absurd (cc)
     follows-way (walks.Refused fault) wsize m old next new after f is = absurd (cc)
 
-    took-path : (b : Bool) (wsize : ℕ) (m : PathMachine) (old : Shelf) (next : Next) (new : PathMachine) (after : Shelf) → 1 ≤ path_by b (of_walk m.walk) (of_file (file_of m.opener)) → PathOr b m call
+    took-path : (b : Bool) (wsize : ℕ) (m : PathMachine) (old : Shelf) (next : Step) (new : PathMachine) (after : Shelf) → 1 ≤ path_by b (of_walk m.walk) (of_file (file_of m.opener)) → PathOr b m call
         → PathNames b m call → Fits (flies_path b m.opener) (commits_path b m.opener) call → ((reply : Reply) → came ≡ Ok reply → IsPiece sent.xid call old.back)
         → FitsPath P own b sent came m old.back → paths.PathTakes b wsize m sent turn came old next new after → TookTo old after (next ≡ nexts.Send call) (CalmPath Q fine came b m)
     took-path true wsize m old next new after some a e k piece fits t = took-file (file_of m.opener) wsize old next (file_of t.opener) after some a e k piece fits t.step
@@ -491,7 +491,7 @@ module _ (P : Fault → Type 0) (own : CallFaults P) (sent turn : Turn) (came : 
 
     -- ---- any operation
 
-    pub took-any : (m : Machine) (wsize : ℕ) (old : Shelf) (next : Next) (new : Machine) (after : Shelf) → 1 ≤ in_flight m → Expects m call → CallFits m call
+    pub took-any : (m : Machine) (wsize : ℕ) (old : Shelf) (next : Step) (new : Machine) (after : Shelf) → 1 ≤ in_flight m → Expects m call → CallFits m call
         → ((reply : Reply) → came ≡ Ok reply → IsPiece sent.xid call old.back) → FitsMachine P own sent came m old.back → Takes wsize m sent turn came old next new after
         → TookTo old after (next ≡ nexts.Send call) (Calm Q fine came next m)
     took-any (machines.File m) wsize old next new after some e k piece fits t = took-file m wsize old next t.machine after some e.0 e.1 k piece fits t.step

@@ -1,5 +1,5 @@
 -- What guards a written byte, as an operation begins, as an answer is noted, and as a lone byte comes in.
-use Rattle.core_session.proofs.Prelude.{◌≡◌, ◌≢◌, ◌⊎◌, ◌≤◌, ◌<◌, inl, inr, ℕ, zero, suc, List, [], ◌∷◌, ◌++◌, length, remove, Bool, true, false, nat_eq, Option, Some, None, option_map, position, slice_get, refl, sym, ap, subst, ◌∙◌, arith, nat_lt, if◌then◌else◌, option_map_or, eqb-true, eqb-false, Opened, Opens, Entry, Op, Modes, LaneFile, Next, Shelf, is_lane, added, left, CloseFile, Closing, Saving, file_at, joined, Mounted, Machine, machine_of, Starts, Lane, State, Busy, Over, Setup, IsIdle, numbers_of, counted, StartsLane, View, turn_at, AreApart, Reaches, begins-unbegun, seat_close, idle-numbers, number_of, get-push, before-push, at-push, get-remove, skip, to-map, look-at, look-idle, Sits, same-sits, seat_with, seat-own, seat-other, joins, seat_state, seat_in, Kind, plainly, kind_of, BeginsAs, Agrees, reached-slots, IsFirst, Turned, file_in, save_in, IsClose, IsSaving, IsGuarded, slot, past}
+use Rattle.core_session.proofs.Prelude.{◌≡◌, ◌≢◌, ◌⊎◌, ◌≤◌, ◌<◌, inl, inr, ℕ, zero, suc, List, [], ◌∷◌, ◌++◌, length, remove, Bool, true, false, nat_eq, Option, Some, None, option_map, position, slice_get, refl, sym, ap, subst, ◌∙◌, arith, nat_lt, if◌then◌else◌, option_map_or, eqb-true, eqb-false, Opened, Opens, Entry, Op, Modes, LaneFile, Step, Shelf, is_lane, added, left, CloseFile, Closing, Saving, file_at, joined, Mounted, Machine, machine_of, Starts, Lane, State, Busy, Over, Setup, IsIdle, numbers_of, counted, StartsLane, View, turn_at, AreApart, Reaches, begins-unbegun, seat_close, idle-numbers, number_of, get-push, before-push, at-push, get-remove, skip, to-map, look-at, look-idle, Sits, same-sits, seat_with, seat-own, seat-other, joins, seat_state, seat_in, Kind, plainly, kind_of, BeginsAs, Agrees, reached-slots, IsFirst, Turned, file_in, save_in, IsClose, IsSaving, IsGuarded, slot, past}
 use Rattle.core_facts.proofs.Slots.{opening, closing}
 use Rattle.std.specs.FinMap as finite
 use Rattle.world_model.specs.declared.answer.Answer.TheVariants as answers
@@ -259,7 +259,7 @@ module _ (old : View) (lane : ℕ) (idle : IsIdle lane old.lanes) (r : Ranked ol
 module _ (mounted : Mounted) (m : Modes) (same : mounted.nocto ≡ m.nocto) (setup : Setup) (h : List Entry) (old new : View) (lane line : ℕ) (op : Op) (now : ℕ)
     (reached : Reaches (machine_of mounted) setup h old) (found : old.lost ≡ false) (idle : IsIdle lane old.lanes)
     (t : StartsLane (counted old now) lane (machine_of mounted lane op) new) (apart : AreApart old.lanes) (turned : Turned old) where
-  abbrev S : Next → Machine → Shelf → Type 0
+  abbrev S : Step → Machine → Shelf → Type 0
   S next machine shelf = Starts old.wsize (machine_of mounted lane op) (turn_at (counted old now)) old.shelf next machine shelf
 
   seq : old.shelf.seq ≤ new.shelf.seq
@@ -351,7 +351,7 @@ module _ (mounted : Mounted) (m : Modes) (same : mounted.nocto ≡ m.nocto) (set
           (λ next k after s. close-begins lane slot its old.shelf.seq First (machine_of mounted lane op) c old.wsize (turn_at (counted old now)) old.shelf next k after is lane_is slot_is
           (λ first. first) refl held s) state new.shelf leading
 
-      went-starts : (next : Next) (k : Machine) (after : Shelf) → S next k after → MachineThen lane slot its old.shelf.seq First after.opens next k
+      went-starts : (next : Step) (k : Machine) (after : Shelf) → S next k after → MachineThen lane slot its old.shelf.seq First after.opens next k
           → MachineWent lane slot its old.shelf.seq (closings.Queued (saves.begun its old.shelf.seq)) (joined lane its old.shelf) next k after
       went-starts next k after s then_ = by (subst (λ (n : Machine). Starts old.wsize n (turn_at (counted old now)) old.shelf next k after) is s)
         where

@@ -1,8 +1,8 @@
 -- How a close goes on: it saves, or its save was refused and it removes its file, which no slot holds then; and what a refusal at its end tells.
-use Rattle.core_session.proofs.Prelude.{◌≡◌, ◌⊎◌, ℕ, Bool, true, false, List, Option, Some, None, Result, inl, inr, refl, sym, ap, subst, ◌∙◌, if◌then◌else◌, Opens, IsOpen, of_file, last_end, Answer, Fault, Reply, is_first, goes_again, Next, Shelf, Turn, CloseFile, Closing, Removal, Saving, TellsOpen, GivesUpBy, closed_answer, refusal_of, remove_of, remove_busy, file_at, joined, by-step, save_in, removal_in}
+use Rattle.core_session.proofs.Prelude.{◌≡◌, ◌⊎◌, ℕ, Bool, true, false, List, Option, Some, None, Result, inl, inr, refl, sym, ap, subst, ◌∙◌, if◌then◌else◌, Opens, IsOpen, of_file, last_end, Answer, Fault, Reply, is_first, goes_again, Step, Shelf, Turn, CloseFile, Closing, Removal, Saving, TellsOpen, GivesUpBy, closed_answer, refusal_of, remove_of, remove_busy, file_at, joined, by-step, save_in, removal_in}
 use Rattle.std.specs.FinMap as finite
 use Rattle.world_model.specs.declared.answer.Answer.TheVariants as answers
-use Rattle.client_shelf.specs.declared.next.Next.TheVariants as nexts
+use Rattle.client_shelf.specs.declared.step.Step.TheVariants as nexts
 use Rattle.file_ops.specs.declared.close_file.Closing.TheVariants as closing
 use Rattle.file_ops.specs.Closes as closes
 use Rattle.file_ops.specs.Saves as saves
@@ -23,7 +23,7 @@ abbrev pub EndsAs : List ℕ → Closing → Answer → Opens → Type 0
 EndsAs file at (answers.Done value) opens = (r : Removal) → removal_in at ≡ Some r → r.refusal ≡ None
 EndsAs file at (answers.Refused fault) opens = IsOpen opens file ⊎ (IsOpen opens file → ⊥)
 
-abbrev pub CloserGoes : List ℕ → Closing → Shelf → Next → Closing → Shelf → Type 0
+abbrev pub CloserGoes : List ℕ → Closing → Shelf → Step → Closing → Shelf → Type 0
 CloserGoes file at base (nexts.Send call) state new = OnItsWay file at state base new
 CloserGoes file at base nexts.Wait state new = OnItsWay file at state base new
 CloserGoes file at base (nexts.Done answer) state new = EndsAs file at answer new.opens
@@ -37,11 +37,11 @@ both-in (closing.ToRemove removal) s r a b = absurd cc
 both-in (closing.Removing removal) s r a b = absurd cc
 
 module _ (lane slot : ℕ) (file : List ℕ) (upto : ℕ) where
-  sends : (at : Closing) (base : Shelf) (call : _) (aim : Closing) (next : Next) (state : Closing) (old new : Shelf) → next ≡ nexts.Send call → state ≡ aim → new ≡ old
+  sends : (at : Closing) (base : Shelf) (call : _) (aim : Closing) (next : Step) (state : Closing) (old new : Shelf) → next ≡ nexts.Send call → state ≡ aim → new ≡ old
       → OnItsWay file at aim base old → CloserGoes file at base next state new
   sends at base call aim next state old new n s o g = rw (n, s, o) g
 
-  waits : (at : Closing) (base : Shelf) (aim : Closing) (next : Next) (state : Closing) (old new : Shelf) → next ≡ nexts.Wait → state ≡ aim → new ≡ old
+  waits : (at : Closing) (base : Shelf) (aim : Closing) (next : Step) (state : Closing) (old new : Shelf) → next ≡ nexts.Wait → state ≡ aim → new ≡ old
       → OnItsWay file at aim base old → CloserGoes file at base next state new
   waits at base aim next state old new n s o g = rw (n, s, o) g
 
@@ -49,7 +49,7 @@ module _ (lane slot : ℕ) (file : List ℕ) (upto : ℕ) where
   given true opens of same t = inl (subst (IsOpen opens) same t)
   given false opens of same t = inr (λ o. t (subst (IsOpen opens) (sym same) o))
 
-  ends : (at : Closing) (base : Shelf) (of : List ℕ) (refusal : Option Fault) (old : Shelf) (next : Next) (state : Closing) (new : Shelf) → of ≡ file
+  ends : (at : Closing) (base : Shelf) (of : List ℕ) (refusal : Option Fault) (old : Shelf) (next : Step) (state : Closing) (new : Shelf) → of ≡ file
       → (refusal ≡ None → (r : Removal) → removal_in at ≡ Some r → r.refusal ≡ None) → closes.Ends lane of refusal old next state new → CloserGoes file at base next state new
   ends at base of refusal old next state new same well e = by refusal refl e.next_is e.back
     where
@@ -64,12 +64,12 @@ module _ (lane slot : ℕ) (file : List ℕ) (upto : ℕ) where
   place-told true p q opens is t = absurd cc
   place-told false p q opens is t = t
 
-  asks : (at : Closing) (base : Shelf) (room : Bool) (removal : Removal) (old : Shelf) (next : Next) (state : Closing) (new : Shelf) → OnItsWay file at (closing.Removing removal) base old
+  asks : (at : Closing) (base : Shelf) (room : Bool) (removal : Removal) (old : Shelf) (next : Step) (state : Closing) (new : Shelf) → OnItsWay file at (closing.Removing removal) base old
       → OnItsWay file at (closing.ToRemove removal) base old → closes.Asks room removal old next state new → CloserGoes file at base next state new
   asks at base true removal old next state new g w a = sends at base (remove_of removal) (closing.Removing removal) next state old new a.next_is a.state_is a.shelf_is g
   asks at base false removal old next state new g w a = waits at base (closing.ToRemove removal) next state old new a.next_is a.state_is a.shelf_is w
 
-  frees : (at : Closing) (base : Shelf) (s : Saving) → save_in at ≡ Some s → (room : Bool) (of : List ℕ) (refusal : Option Fault) (old : Shelf) (next : Next) (state : Closing) (new : Shelf)
+  frees : (at : Closing) (base : Shelf) (s : Saving) → save_in at ≡ Some s → (room : Bool) (of : List ℕ) (refusal : Option Fault) (old : Shelf) (next : Step) (state : Closing) (new : Shelf)
       → of ≡ file → old.order ≡ base.order → closes.Frees lane slot room of refusal old next state new → CloserGoes file at base next state new
   frees at base s was room of refusal old next state new same order f = by f.place f.tells.place_is f.ends
     where
@@ -91,7 +91,7 @@ module _ (lane slot : ℕ) (file : List ℕ) (upto : ℕ) where
   waiting true saving = refl
   waiting false saving = refl
 
-  follows : (at : Closing) (base : Shelf) (s : Saving) → save_in at ≡ Some s → (gives : _) (room begun : Bool) (saving : Saving) (old : Shelf) (next : Next) (state : Closing) (new : Shelf)
+  follows : (at : Closing) (base : Shelf) (s : Saving) → save_in at ≡ Some s → (gives : _) (room begun : Bool) (saving : Saving) (old : Shelf) (next : Step) (state : Closing) (new : Shelf)
       → IsSave file upto saving → old.order ≡ base.order → closes.Follows gives lane slot room begun saving old next state new → CloserGoes file at base next state new
   follows at base s was gives room begun saving old next state new is order f = by-step
       (λ g. closes.Follows g lane slot room begun saving old next state new → CloserGoes file at base next state new)
@@ -100,18 +100,18 @@ module _ (lane slot : ℕ) (file : List ℕ) (upto : ℕ) where
       (λ result l. frees at base s was room saving.file (refusal_of result) old next state new is.file_is order l)
       gives f
 
-  goes-on : (at : Closing) (base : Shelf) (s : Saving) → save_in at ≡ Some s → (wsize : ℕ) (turn : Turn) (begun : Bool) (saving : Saving) (old : Shelf) (next : Next) (state : Closing) (new : Shelf)
+  goes-on : (at : Closing) (base : Shelf) (s : Saving) → save_in at ≡ Some s → (wsize : ℕ) (turn : Turn) (begun : Bool) (saving : Saving) (old : Shelf) (next : Step) (state : Closing) (new : Shelf)
       → IsSave file upto saving → old.order ≡ base.order → closes.GoesOn wsize lane slot turn begun saving old next state new → CloserGoes file at base next state new
   goes-on at base s was wsize turn begun saving old next state new is order g =
       follows at base s was g.gives turn.room begun g.saved g.gone next state new (goes-save file upto wsize turn.xid turn.room false saving old.back g.gives g.saved g.gone.back is g.goes)
       (ap (λ (k : Shelf). k.order) g.others ∙ order) g.follows
 
-  begins : (at : Closing) (base : Shelf) (s : Saving) → save_in at ≡ Some s → (end : Option ℕ) (wsize : ℕ) (turn : Turn) (saving : Saving) (old : Shelf) (next : Next) (state : Closing) (new : Shelf)
+  begins : (at : Closing) (base : Shelf) (s : Saving) → save_in at ≡ Some s → (end : Option ℕ) (wsize : ℕ) (turn : Turn) (saving : Saving) (old : Shelf) (next : Step) (state : Closing) (new : Shelf)
       → IsSave file upto saving → old.order ≡ base.order → closes.Begins end wsize lane slot turn saving old next state new → CloserGoes file at base next state new
   begins at base s was None wsize turn saving old next state new is order b = frees at base s was turn.room saving.file None old next state new is.file_is order b
   begins at base s was (Some end) wsize turn saving old next state new is order b = goes-on at base s was wsize turn false saving old next state new is order b
 
-  pub goes-queues : (b : Bool) (wsize : ℕ) (turn : Turn) (saving : Saving) (old : Shelf) (next : Next) (state : Closing) (new : Shelf) → IsSave file upto saving
+  pub goes-queues : (b : Bool) (wsize : ℕ) (turn : Turn) (saving : Saving) (old : Shelf) (next : Step) (state : Closing) (new : Shelf) → IsSave file upto saving
       → closes.QueuesIf b wsize lane slot turn saving old next state new → CloserGoes file (closing.Queued saving) old next state new
   goes-queues true wsize turn saving old next state new is q =
       begins (closing.Queued saving) old saving refl (last_end (of_file saving.file old.back).segments) wsize turn saving old next state new is refl q
@@ -129,7 +129,7 @@ module _ (lane slot : ℕ) (file : List ℕ) (upto : ℕ) where
   StateOf (closing.ToRemove removal) = removal.file ≡ file
   StateOf (closing.Removing removal) = removal.file ≡ file
 
-  pub goes-starts : (wsize : ℕ) (m : CloseFile) (turn : Turn) (old : Shelf) (next : Next) (state : Closing) (new : Shelf) → m.lane ≡ lane → m.slot ≡ slot
+  pub goes-starts : (wsize : ℕ) (m : CloseFile) (turn : Turn) (old : Shelf) (next : Step) (state : Closing) (new : Shelf) → m.lane ≡ lane → m.slot ≡ slot
       → IsSave file upto (saves.begun file old.seq) → file_at lane slot old.opens ≡ Some file → closes.Starts wsize m turn old next state new
       → CloserGoes file (closing.Queued (saves.begun file old.seq)) (joined lane file old) next state new
   goes-starts wsize m turn old next state new of_lane of_slot is at step = by (file_at lane slot old.opens) at
@@ -148,7 +148,7 @@ module _ (lane slot : ℕ) (file : List ℕ) (upto : ℕ) where
   same-way : (at : Closing) (base : Shelf) (s : Saving) → save_in at ≡ Some s → OnItsWay file at at base base
   same-way at base s was = record { order = refl; goes = saves_on s s was was }
 
-  resumes-at : (at : Closing) (wsize : ℕ) (was : Closing) (turn : Turn) (old : Shelf) (next : Next) (state : Closing) (new : Shelf) → StateOf at
+  resumes-at : (at : Closing) (wsize : ℕ) (was : Closing) (turn : Turn) (old : Shelf) (next : Step) (state : Closing) (new : Shelf) → StateOf at
       → closes.Resumes at wsize (record { lane = lane; slot = slot; state = was }) turn old next state new → CloserGoes file at old next state new
   resumes-at closing.Idle wsize was turn old next state new k r = absurd k
   resumes-at (closing.Queued saving) wsize was turn old next state new k r = goes-queues (is_first lane old.order) wsize turn saving old next state new k r
@@ -162,13 +162,13 @@ module _ (lane slot : ℕ) (file : List ℕ) (upto : ℕ) where
   resumes-at (closing.Removing removal) wsize was turn old next state new k r =
       waits (closing.Removing removal) old (closing.Removing removal) next state old new r.next_is r.state_is r.shelf_is (record { order = refl; goes = removes removal refl refl refl })
 
-  pub goes-resumes : (wsize : ℕ) (m : CloseFile) (turn : Turn) (old : Shelf) (next : Next) (state : Closing) (new : Shelf) → m.lane ≡ lane → m.slot ≡ slot → StateOf m.state
+  pub goes-resumes : (wsize : ℕ) (m : CloseFile) (turn : Turn) (old : Shelf) (next : Step) (state : Closing) (new : Shelf) → m.lane ≡ lane → m.slot ≡ slot → StateOf m.state
       → closes.Resumes m.state wsize m turn old next state new → CloserGoes file m.state old next state new
   goes-resumes wsize m turn old next state new of_lane of_slot k r =
       resumes-at m.state wsize m.state turn old next state new k
       (subst (λ (c : CloseFile). closes.Resumes m.state wsize c turn old next state new) (machine-is m of_lane of_slot) r)
 
-  takes-at : (at : Closing) (wsize : ℕ) (was : Closing) (sent turn : Turn) (came : Result Reply Fault) (old : Shelf) (next : Next) (state : Closing) (new : Shelf) → StateOf at
+  takes-at : (at : Closing) (wsize : ℕ) (was : Closing) (sent turn : Turn) (came : Result Reply Fault) (old : Shelf) (next : Step) (state : Closing) (new : Shelf) → StateOf at
       → closes.Takes at wsize (record { lane = lane; slot = slot; state = was }) sent turn came old next state new → CloserGoes file at old next state new
   takes-at closing.Idle wsize was sent turn came old next state new k t = absurd k
   takes-at (closing.Queued saving) wsize was sent turn came old next state new k t =
@@ -186,7 +186,7 @@ module _ (lane slot : ℕ) (file : List ℕ) (upto : ℕ) where
           (record { order = ap (λ (s : Shelf). s.order) t.others; goes = removes removal refl refl (ap (λ (s : Shelf). s.opens) t.others) })
       by false e = ends (closing.Removing removal) old removal.file removal.refusal t.took next state new k (λ none r is. let same : removal ≡ r = cc in ap (λ (q : Removal). q.refusal) (sym same) ∙ none) e
 
-  pub goes-takes : (wsize : ℕ) (m : CloseFile) (sent turn : Turn) (came : Result Reply Fault) (old : Shelf) (next : Next) (state : Closing) (new : Shelf) → m.lane ≡ lane → m.slot ≡ slot
+  pub goes-takes : (wsize : ℕ) (m : CloseFile) (sent turn : Turn) (came : Result Reply Fault) (old : Shelf) (next : Step) (state : Closing) (new : Shelf) → m.lane ≡ lane → m.slot ≡ slot
       → StateOf m.state → closes.Takes m.state wsize m sent turn came old next state new → CloserGoes file m.state old next state new
   goes-takes wsize m sent turn came old next state new of_lane of_slot k t =
       takes-at m.state wsize m.state sent turn came old next state new k

@@ -1,8 +1,8 @@
 -- No step of an operation lowers the number of the last write.
-use Rattle.core_session.proofs.Prelude.{◌≡◌, ◌≤◌, ◌+◌, ℕ, Bool, true, false, List, Option, Some, None, Result, Ok, Err, inl, inr, refl, ap, arith, Fault, Reply, Pending, left, is_first, Next, Shelf, Turn, OpeningNext, Saving, SyncFile, Syncing, TruncateFile, Truncating, WriteFile, Writing, joined, by-step, ends_as, PutFile, Putting}
+use Rattle.core_session.proofs.Prelude.{◌≡◌, ◌≤◌, ◌+◌, ℕ, Bool, true, false, List, Option, Some, None, Result, Ok, Err, inl, inr, refl, ap, arith, Fault, Reply, Pending, left, is_first, Step, Shelf, Turn, OpeningStep, Saving, SyncFile, Syncing, TruncateFile, Truncating, WriteFile, Writing, joined, by-step, ends_as, PutFile, Putting}
 use Rattle.world_model.specs.declared.answer.Answer.TheVariants as answers
-use Rattle.client_shelf.specs.declared.next.Next.TheVariants as nexts
-use Rattle.file_ops.specs.declared.opening.OpeningNext.TheVariants as openings
+use Rattle.client_shelf.specs.declared.step.Step.TheVariants as nexts
+use Rattle.file_ops.specs.declared.opening.OpeningStep.TheVariants as openings
 use Rattle.file_ops.specs.declared.sync_file.Syncing.TheVariants as syncing
 use Rattle.file_ops.specs.declared.truncate_file.Truncating.TheVariants as truncating
 use Rattle.file_ops.specs.declared.write_file.Writing.TheVariants as writing
@@ -28,7 +28,7 @@ on {c} {b} {a} two one = omega (arith, one, two)
 
 -- ---- writes
 
-leads-up : (to : Next) (state : Writing) (shelf : Shelf) (next : Next) (new : Writing) (after : Shelf) → writes.Leads to state shelf next new after → Up after shelf
+leads-up : (to : Step) (state : Writing) (shelf : Shelf) (next : Step) (new : Writing) (after : Shelf) → writes.Leads to state shelf next new after → Up after shelf
 leads-up to state shelf next new after l = (up l.shelf_is)
 
 room-up : (told : _) (lane : ℕ) (shelf : Shelf) → Up (writes.room_shelf told lane shelf) shelf
@@ -38,12 +38,12 @@ room-up told lane shelf = by-step (λ g. Up (writes.room_shelf g lane shelf) she
     ended (Ok nothing) = level {n = shelf.seq} {o = shelf.seq} refl
     ended (Err fault) = level {n = shelf.seq} {o = shelf.seq} refl
 
-saves-up : (b : Bool) (wsize lane : ℕ) (file : List ℕ) (saving : Saving) (turn : Turn) (shelf : Shelf) (next : Next) (new : Writing) (after : Shelf)
+saves-up : (b : Bool) (wsize lane : ℕ) (file : List ℕ) (saving : Saving) (turn : Turn) (shelf : Shelf) (next : Step) (new : Writing) (after : Shelf)
     → writes.SavesIf b wsize lane file saving turn shelf next new after → Up after shelf
 saves-up true wsize lane file saving turn shelf next new after s = on ((up s.leads.shelf_is)) (room-up s.told lane (record shelf { back = s.back }))
 saves-up false wsize lane file saving turn shelf next new after s = leads-up nexts.Wait (writing.Room file saving) shelf next new after s
 
-writes-up : (b : Bool) (wsize lane : ℕ) (file : List ℕ) (offset : ℕ) (bytes : List ℕ) (turn : Turn) (shelf : Shelf) (next : Next) (new : Writing) (after : Shelf)
+writes-up : (b : Bool) (wsize lane : ℕ) (file : List ℕ) (offset : ℕ) (bytes : List ℕ) (turn : Turn) (shelf : Shelf) (next : Step) (new : Writing) (after : Shelf)
     → writes.WritesIf b wsize lane file offset bytes turn shelf next new after → Up after shelf
 writes-up true wsize lane file offset bytes turn shelf next new after (inl s) =
     saves-up (is_first lane (joined lane s.of shelf).order) wsize lane file (saves.begun s.of shelf.seq) turn (joined lane s.of shelf) next new after s.saves
@@ -52,18 +52,18 @@ writes-up false wsize lane file offset bytes turn shelf next new after (inl s) =
     let more : after.seq ≡ shelf.seq + 1 = ap (λ (k : Shelf). k.seq) s.leads.shelf_is in omega (arith, more)
 writes-up false wsize lane file offset bytes turn shelf next new after (inr s) = leads-up _ _ shelf next new after s
 
-pub write-starts : (found : Result (List ℕ) Fault) (wsize : ℕ) (m : WriteFile) (turn : Turn) (shelf : Shelf) (next : Next) (new : WriteFile) (after : Shelf)
+pub write-starts : (found : Result (List ℕ) Fault) (wsize : ℕ) (m : WriteFile) (turn : Turn) (shelf : Shelf) (next : Step) (new : WriteFile) (after : Shelf)
     → writes.StartsAt found wsize m turn shelf next new after → Up after shelf
 write-starts (Err fault) wsize m turn shelf next new after s = leads-up _ _ shelf next new.state after s.refuses
 write-starts (Ok file) wsize m turn shelf next new after (inl s) = writes-up _ wsize m.lane file m.offset _ turn shelf next new.state after s.writes
 write-starts (Ok file) wsize m turn shelf next new after (inr s) = leads-up _ _ shelf next new.state after s.refuses
 
-pub write-resumes : (at : Writing) (wsize lane : ℕ) (turn : Turn) (shelf : Shelf) (next : Next) (new : Writing) (after : Shelf)
+pub write-resumes : (at : Writing) (wsize lane : ℕ) (turn : Turn) (shelf : Shelf) (next : Step) (new : Writing) (after : Shelf)
     → writes.ResumesIn at wsize lane turn shelf next new after → Up after shelf
 write-resumes writing.Idle wsize lane turn shelf next new after r = leads-up nexts.Wait writing.Idle shelf next new after r
 write-resumes (writing.Room file saving) wsize lane turn shelf next new after r = saves-up (is_first lane shelf.order) wsize lane file saving turn shelf next new after r
 
-follows-up : (told : _) (wsize : ℕ) (m : WriteFile) (file : List ℕ) (saved : Saving) (turn : Turn) (shelf : Shelf) (next : Next) (new : Writing) (after : Shelf)
+follows-up : (told : _) (wsize : ℕ) (m : WriteFile) (file : List ℕ) (saved : Saving) (turn : Turn) (shelf : Shelf) (next : Step) (new : Writing) (after : Shelf)
     → writes.Follows told wsize m file saved turn shelf next new after → Up after shelf
 follows-up told wsize m file saved turn shelf next new after f = by-step
     (λ g. writes.Follows g wsize m file saved turn shelf next new after → Up after shelf)
@@ -73,30 +73,30 @@ follows-up told wsize m file saved turn shelf next new after f = by-step
     ended (Ok nothing) l = writes-up _ wsize m.lane file m.offset (writes.made_bytes m.text) turn (record shelf { order = left m.lane shelf.order }) next new after l
     ended (Err fault) l = (up l.shelf_is)
 
-pub write-takes : (at : Writing) (wsize : ℕ) (m : WriteFile) (sent turn : Turn) (came : Result Reply Fault) (shelf : Shelf) (next : Next) (new : Writing) (after : Shelf)
+pub write-takes : (at : Writing) (wsize : ℕ) (m : WriteFile) (sent turn : Turn) (came : Result Reply Fault) (shelf : Shelf) (next : Step) (new : Writing) (after : Shelf)
     → writes.TakesIn at wsize m sent turn came shelf next new after → Up after shelf
 write-takes writing.Idle wsize m sent turn came shelf next new after t = leads-up nexts.Wait writing.Idle shelf next new after t
 write-takes (writing.Room file saving) wsize m sent turn came shelf next new after t = follows-up t.told wsize m file t.saved turn _ next new after t.follows
 
 -- ---- syncs
 
-queues-up : (b : Bool) (wsize lane : ℕ) (turn : Turn) (saving : Saving) (old : Shelf) (next : Next) (state : Syncing) (new : Shelf)
+queues-up : (b : Bool) (wsize lane : ℕ) (turn : Turn) (saving : Saving) (old : Shelf) (next : Step) (state : Syncing) (new : Shelf)
     → syncs.QueuesIf b wsize lane turn saving old next state new → Up new old
 queues-up true wsize lane turn saving old next state new q = (up q.others)
 queues-up false wsize lane turn saving old next state new q = (up q.shelf_is)
 
-pub sync-starts : (found : Option (List ℕ)) (wsize : ℕ) (m : SyncFile) (turn : Turn) (old : Shelf) (next : Next) (state : Syncing) (new : Shelf)
+pub sync-starts : (found : Option (List ℕ)) (wsize : ℕ) (m : SyncFile) (turn : Turn) (old : Shelf) (next : Step) (state : Syncing) (new : Shelf)
     → syncs.StartsAt found wsize m turn old next state new → Up new old
 sync-starts None wsize m turn old next state new s = (up s.shelf_is)
 sync-starts (Some file) wsize m turn old next state new s =
     queues-up (is_first m.lane (joined m.lane file old).order) wsize m.lane turn (saves.begun file old.seq) (joined m.lane file old) next state new s
 
-pub sync-resumes : (at : Syncing) (wsize : ℕ) (m : SyncFile) (turn : Turn) (old : Shelf) (next : Next) (state : Syncing) (new : Shelf)
+pub sync-resumes : (at : Syncing) (wsize : ℕ) (m : SyncFile) (turn : Turn) (old : Shelf) (next : Step) (state : Syncing) (new : Shelf)
     → syncs.Resumes at wsize m turn old next state new → Up new old
 sync-resumes syncing.Idle wsize m turn old next state new r = (up r.shelf_is)
 sync-resumes (syncing.Saves saving) wsize m turn old next state new r = queues-up (is_first m.lane old.order) wsize m.lane turn saving old next state new r
 
-pub sync-takes : (at : Syncing) (wsize : ℕ) (m : SyncFile) (sent turn : Turn) (came : Result Reply Fault) (old : Shelf) (next : Next) (state : Syncing) (new : Shelf)
+pub sync-takes : (at : Syncing) (wsize : ℕ) (m : SyncFile) (sent turn : Turn) (came : Result Reply Fault) (old : Shelf) (next : Step) (state : Syncing) (new : Shelf)
     → syncs.Takes at wsize m sent turn came old next state new → Up new old
 sync-takes syncing.Idle wsize m sent turn came old next state new t = (up t.shelf_is)
 sync-takes (syncing.Saves saving) wsize m sent turn came old next state new t = (up t.others)
@@ -115,16 +115,16 @@ truncate-takes (truncating.Asked file upto) m came sent turn attrs back old afte
 
 -- ---- puts
 
-put-follows : (gives : _) (lane : ℕ) (saving : Saving) (old : Shelf) (next : Next) (state : Putting) (new : Shelf) → puts.Follows gives lane saving old next state new → Up new old
+put-follows : (gives : _) (lane : ℕ) (saving : Saving) (old : Shelf) (next : Step) (state : Putting) (new : Shelf) → puts.Follows gives lane saving old next state new → Up new old
 put-follows gives lane saving old next state new f = by-step (λ g. puts.Follows g lane saving old next state new → Up new old)
     (λ call l. (up l.2)) (λ l. (up l.2)) (λ result l. (up l.others)) gives f
 
-put-queues : (b : Bool) (wsize lane : ℕ) (turn : Turn) (saving : Saving) (old : Shelf) (next : Next) (state : Putting) (new : Shelf)
+put-queues : (b : Bool) (wsize lane : ℕ) (turn : Turn) (saving : Saving) (old : Shelf) (next : Step) (state : Putting) (new : Shelf)
     → puts.QueuesIf b wsize lane turn saving old next state new → Up new old
 put-queues true wsize lane turn saving old next state new q = on (put-follows q.gives lane q.saved q.gone next state new q.follows) ((up q.others))
 put-queues false wsize lane turn saving old next state new q = (up q.shelf_is)
 
-after-write : (told : Next) (wsize lane : ℕ) (file : List ℕ) (turn : Turn) (old : Shelf) (next : Next) (state : Putting) (new : Shelf)
+after-write : (told : Step) (wsize lane : ℕ) (file : List ℕ) (turn : Turn) (old : Shelf) (next : Step) (state : Putting) (new : Shelf)
     → puts.AfterWrite told wsize lane file turn old next state new → Up new old
 after-write (nexts.Send call) wsize lane file turn old next state new a = (up a.2)
 after-write nexts.Wait wsize lane file turn old next state new a = (up a.2)
@@ -132,7 +132,7 @@ after-write (nexts.Done (answers.Done value)) wsize lane file turn old next stat
     put-queues (is_first lane (joined lane file old).order) wsize lane turn (saves.begun file old.seq) (joined lane file old) next state new a
 after-write (nexts.Done (answers.Refused fault)) wsize lane file turn old next state new a = (up a.others)
 
-pub put-resumes : (at : Putting) (wsize : ℕ) (m : PutFile) (turn : Turn) (old : Shelf) (next : Next) (new : PutFile) (after : Shelf)
+pub put-resumes : (at : Putting) (wsize : ℕ) (m : PutFile) (turn : Turn) (old : Shelf) (next : Step) (new : PutFile) (after : Shelf)
     → puts.Resumes at wsize m turn old next new after → Up after old
 put-resumes putting.Idle wsize m turn old next new after r = (up r.shelf_is)
 put-resumes putting.Opens wsize m turn old next new after r = (up r.2)
@@ -140,7 +140,7 @@ put-resumes (putting.Adds file) wsize m turn old next new after r =
     on (after-write r.told wsize m.write.lane file turn r.mid next new.state after r.goes.follows) (write-resumes m.write.state wsize m.write.lane turn old r.told r.written r.mid r.resumes)
 put-resumes (putting.Saves saving) wsize m turn old next new after r = put-queues (is_first m.write.lane old.order) wsize m.write.lane turn saving old next new.state after r.0
 
-after-opening : (step : OpeningNext) (wsize : ℕ) (m : PutFile) (turn : Turn) (old : Shelf) (next : Next) (new : PutFile) (after : Shelf)
+after-opening : (step : OpeningStep) (wsize : ℕ) (m : PutFile) (turn : Turn) (old : Shelf) (next : Step) (new : PutFile) (after : Shelf)
     → puts.AfterOpening step wsize m turn old next new after → Up after old
 after-opening (openings.Send call) wsize m turn old next new after a = (up a.2)
 after-opening openings.Wait wsize m turn old next new after a = (up a.shelf_is)
@@ -148,7 +148,7 @@ after-opening (openings.Ended (Ok file)) wsize m turn old next new after a =
     on (after-write a.told wsize m.write.lane file turn a.mid next new.state after a.goes.follows) (writes-up _ wsize m.write.lane file m.write.offset (writes.made_bytes m.write.text) turn (puts.put_at m.write.lane file old) a.told a.written a.mid a.writes)
 after-opening (openings.Ended (Err fault)) wsize m turn old next new after a = (up a.2)
 
-pub put-takes : (at : Putting) (wsize : ℕ) (m : PutFile) (sent turn : Turn) (came : Result Reply Fault) (old : Shelf) (next : Next) (new : PutFile) (after : Shelf)
+pub put-takes : (at : Putting) (wsize : ℕ) (m : PutFile) (sent turn : Turn) (came : Result Reply Fault) (old : Shelf) (next : Step) (new : PutFile) (after : Shelf)
     → puts.Takes at wsize m sent turn came old next new after → Up after old
 put-takes putting.Idle wsize m sent turn came old next new after t = (up t.shelf_is)
 put-takes putting.Opens wsize m sent turn came old next new after t =

@@ -1,5 +1,5 @@
 -- What is known of the operations under way as to slots, along a history; and what a step of a lane makes of it.
-use Rattle.core_session.proofs.Prelude.{◌≡◌, ◌≢◌, ℕ, List, [], ◌∷◌, ◌++◌, length, Option, Some, None, option_map, slice_get, slice_set, Result, refl, sym, ap, subst, ◌∙◌, arith, Opened, Opens, Answer, Entry, Began, Answered, Fault, Reply, Op, At, Modes, UnderWay, IsOf, At-last, Next, Send, Wait, Done, Shelf, Turn, CloseFile, Closing, file_at, joined, Machine, Starts, Resumes, Takes, Lane, State, Busy, Over, AreApart, at-set, Agrees, IsPlain, Kind, plainly, kind_of, BeginsAs, set-other, by-place, CloseTurn, IsFirst}
+use Rattle.core_session.proofs.Prelude.{◌≡◌, ◌≢◌, ℕ, List, [], ◌∷◌, ◌++◌, length, Option, Some, None, option_map, slice_get, slice_set, Result, refl, sym, ap, subst, ◌∙◌, arith, Opened, Opens, Answer, Entry, Began, Answered, Fault, Reply, Op, At, Modes, UnderWay, IsOf, At-last, Step, Send, Wait, Done, Shelf, Turn, CloseFile, Closing, file_at, joined, Machine, Starts, Resumes, Takes, Lane, State, Busy, Over, AreApart, at-set, Agrees, IsPlain, Kind, plainly, kind_of, BeginsAs, set-other, by-place, CloseTurn, IsFirst}
 use Rattle.core_facts.proofs.SlotGrowth.{IsShown}
 use Rattle.core_facts.proofs.Slots.{opening, closing}
 use Rattle.std.specs.FinMap as finite
@@ -225,7 +225,7 @@ module _ (m : Modes) (h : List Entry) (lane line : ℕ) (op : Op) (wsize : ℕ) 
         holds = g.holds;
       }
 
-  no-file : (slot : ℕ) (c : CloseFile) (next : Next) (new : Machine) (after : Shelf) → machine ≡ machines.File (files.Close c) → c.lane ≡ lane → c.slot ≡ slot
+  no-file : (slot : ℕ) (c : CloseFile) (next : Step) (new : Machine) (after : Shelf) → machine ≡ machines.File (files.Close c) → c.lane ≡ lane → c.slot ≡ slot
       → finite.get old.opens (lane, slot) ≡ None → Starts wsize machine turn old next new after → (next ≡ Done (answers.Refused faults.Slot)) × (after.opens ≡ old.opens)
   no-file slot c next new after is of_lane of_slot none s = by (subst (λ (k : Machine). Starts wsize k turn old next new after) is s)
     where
@@ -244,7 +244,7 @@ module _ (m : Modes) (h : List Entry) (lane line : ℕ) (op : Op) (wsize : ℕ) 
       let n = no-file slot c next new after is of_lane of_slot none s in
       (by next n.0 k, n.1)
     where
-      by : (next : Next) → next ≡ Done (answers.Refused faults.Slot) → Settles next new state → state ≡ Over (answers.Refused faults.Slot)
+      by : (next : Step) → next ≡ Done (answers.Refused faults.Slot) → Settles next new state → state ≡ Over (answers.Refused faults.Slot)
       by (Send call) e k = absurd cc
       by Wait e k = absurd cc
       by (Done answer) e k = k ∙ ap Over (done-is answer (answers.Refused faults.Slot) e)

@@ -1,5 +1,5 @@
 -- What guards a written byte, along the steps of lanes: of a close, of another operation, and of one that begins.
-use Rattle.core_session.proofs.Prelude.{◌≡◌, ◌⊎◌, ◌≤◌, ◌+◌, ◌-◌, inl, inr, ℕ, List, Some, None, position, slice_get, slice_set, Result, Err, refl, sym, ap, subst, ◌∙◌, arith, Opened, Place, Opens, IsOpen, Waiting, waiting_at, Answer, Fault, Entry, Reply, Op, Modes, said_of, Next, Send, Wait, Done, Shelf, Turn, CloseFile, Closing, Removal, Saving, Machine, Resumes, Takes, Lane, Purpose, State, Busy, Setup, is_busy, IsRefused, Stirs, TakesAt, View, turn_at, in_flight, AreApart, IsLive, taken_one, Known, taker-one, lanes-under-way, Kind, plainly, kind_of, IsFirst, save_in, IsSaving, IsGuarded}
+use Rattle.core_session.proofs.Prelude.{◌≡◌, ◌⊎◌, ◌≤◌, ◌+◌, ◌-◌, inl, inr, ℕ, List, Some, None, position, slice_get, slice_set, Result, Err, refl, sym, ap, subst, ◌∙◌, arith, Opened, Place, Opens, IsOpen, Waiting, waiting_at, Answer, Fault, Entry, Reply, Op, Modes, said_of, Step, Send, Wait, Done, Shelf, Turn, CloseFile, Closing, Removal, Saving, Machine, Resumes, Takes, Lane, Purpose, State, Busy, Setup, is_busy, IsRefused, Stirs, TakesAt, View, turn_at, in_flight, AreApart, IsLive, taken_one, Known, taker-one, lanes-under-way, Kind, plainly, kind_of, IsFirst, save_in, IsSaving, IsGuarded}
 use Rattle.core_facts.proofs.Slots.{opening, closing}
 use Rattle.std.specs.FinMap as finite
 use Rattle.open_files.proofs.Laws.{get-put_other}
@@ -57,7 +57,7 @@ closing-state n its_slot file upto opens (closings.Removing removal) a = a.0
 
 -- ---- a close
 
-abbrev pub MachineWent : ℕ → ℕ → List ℕ → ℕ → Closing → Shelf → Next → Machine → Shelf → Type 0
+abbrev pub MachineWent : ℕ → ℕ → List ℕ → ℕ → Closing → Shelf → Step → Machine → Shelf → Type 0
 MachineWent n its_slot file upto at old (Send call) new after = WentOn n its_slot file upto at old new after
 MachineWent n its_slot file upto at old Wait new after = WentOn n its_slot file upto at old new after
 MachineWent n its_slot file upto at old (Done answer) new after = EndsAs file at answer after.opens
@@ -73,13 +73,13 @@ module _ (n its_slot : ℕ) (file : List ℕ) (upto : ℕ) (T : Type 0) where
     at_ = k.at;
   }
 
-  pub to-went : (at : Closing) (c : CloseFile) (state : Closing) (old : Shelf) (next : Next) (new : Machine) (after : Shelf) → new ≡ machines.File (files.Close (record c { state = state }))
+  pub to-went : (at : Closing) (c : CloseFile) (state : Closing) (old : Shelf) (next : Step) (new : Machine) (after : Shelf) → new ≡ machines.File (files.Close (record c { state = state }))
       → CloserGoes file at old next state after → MachineThen n its_slot file upto T after.opens next new → MachineWent n its_slot file upto at old next new after
   to-went at c state old (Send call) new after is g k = went-on at c state old new after is g k.0
   to-went at c state old Wait new after is g k = went-on at c state old new after is g k
   to-went at c state old (Done answer) new after is g k = g
 
-  went-resumes : (machine : Machine) (wsize : ℕ) (turn : Turn) (old : Shelf) (next : Next) (new : Machine) (after : Shelf) (k : IsCloserOf n its_slot file upto machine old.opens)
+  went-resumes : (machine : Machine) (wsize : ℕ) (turn : Turn) (old : Shelf) (next : Step) (new : Machine) (after : Shelf) (k : IsCloserOf n its_slot file upto machine old.opens)
       → Resumes wsize machine turn old next new after → MachineThen n its_slot file upto T after.opens next new → MachineWent n its_slot file upto k.c.state old next new after
   went-resumes machine wsize turn old next new after k s then_ = by (subst (λ (m : Machine). Resumes wsize m turn old next new after) k.is s)
     where
@@ -88,7 +88,7 @@ module _ (n its_slot : ℕ) (file : List ℕ) (upto : ℕ) (T : Type 0) where
           to-went k.c.state k.c r.step.state old next new after (r.machine_is ∙ ap machines.File r.step.machine_is)
           (goes-resumes n its_slot file upto wsize k.c turn old next r.step.state after k.lane_is k.slot_is (closing-state n its_slot file upto old.opens k.c.state k.at) r.step.step) then_
 
-  went-takes : (machine : Machine) (wsize : ℕ) (sent turn : Turn) (came : Result Reply Fault) (old : Shelf) (next : Next) (new : Machine) (after : Shelf)
+  went-takes : (machine : Machine) (wsize : ℕ) (sent turn : Turn) (came : Result Reply Fault) (old : Shelf) (next : Step) (new : Machine) (after : Shelf)
       (k : IsCloserOf n its_slot file upto machine old.opens) → Takes wsize machine sent turn came old next new after → MachineThen n its_slot file upto T after.opens next new
       → MachineWent n its_slot file upto k.c.state old next new after
   went-takes machine wsize sent turn came old next new after k s then_ = by (subst (λ (m : Machine). Takes wsize m sent turn came old next new after) k.is s)
@@ -99,16 +99,16 @@ module _ (n its_slot : ℕ) (file : List ℕ) (upto : ℕ) (T : Type 0) where
           (goes-takes n its_slot file upto wsize k.c sent turn came old next r.step.state after k.lane_is k.slot_is (closing-state n its_slot file upto old.opens k.c.state k.at) r.step.step) then_
 
   -- a step of its lane
-  module _ (wsize : ℕ) (at : Closing) (old : Shelf) (S : Next → Machine → Shelf → Type 0)
-      (step : (next : Next) (new : Machine) (after : Shelf) → S next new after → CloserStepped n its_slot file upto T old.opens next new after.opens)
-      (goes : (next : Next) (new : Machine) (after : Shelf) (s : S next new after) → MachineThen n its_slot file upto T after.opens next new → MachineWent n its_slot file upto at old next new after) where
-    went-settled : (next : Next) (new : Machine) (state : State) (after : Shelf) → Settles next new state → MachineWent n its_slot file upto at old next new after
+  module _ (wsize : ℕ) (at : Closing) (old : Shelf) (S : Step → Machine → Shelf → Type 0)
+      (step : (next : Step) (new : Machine) (after : Shelf) → S next new after → CloserStepped n its_slot file upto T old.opens next new after.opens)
+      (goes : (next : Step) (new : Machine) (after : Shelf) (s : S next new after) → MachineThen n its_slot file upto T after.opens next new → MachineWent n its_slot file upto at old next new after) where
+    went-settled : (next : Step) (new : Machine) (state : State) (after : Shelf) → Settles next new state → MachineWent n its_slot file upto at old next new after
         → CloserWent n its_slot file upto at old state after
     went-settled (Send call) new state after is w = subst (λ (st : State). CloserWent n its_slot file upto at old st after) (sym is) w
     went-settled Wait new state after is w = subst (λ (st : State). CloserWent n its_slot file upto at old st after) (sym is) w
     went-settled (Done answer) new state after is w = subst (λ (st : State). CloserWent n its_slot file upto at old st after) (sym is) w
 
-    went-refused : (mid : Closing) (between : Shelf) → OnItsWay file at mid old between → (next : Next) (new : Machine) (state : State) (after : Shelf) → IsRefused new next state
+    went-refused : (mid : Closing) (between : Shelf) → OnItsWay file at mid old between → (next : Step) (new : Machine) (state : State) (after : Shelf) → IsRefused new next state
         → MachineWent n its_slot file upto mid between next new after → CloserWent n its_slot file upto at old state after
     went-refused mid between way (Send call) new state after is w = absurd is
     went-refused mid between way Wait new state after is w =
@@ -134,7 +134,7 @@ module _ (n its_slot : ℕ) (file : List ℕ) (upto : ℕ) (T : Type 0) where
 
 -- ---- the order and the number of the last write
 
-pub leading-up : (wsize : ℕ) (old : Shelf) (S : Next → Machine → Shelf → Type 0) → ((next : Next) (new : Machine) (after : Shelf) → S next new after → old.seq ≤ after.seq)
+pub leading-up : (wsize : ℕ) (old : Shelf) (S : Step → Machine → Shelf → Type 0) → ((next : Step) (new : Machine) (after : Shelf) → S next new after → old.seq ≤ after.seq)
     → (state : State) (after : Shelf) → Leading wsize S state after → old.seq ≤ after.seq
 leading-up wsize old S up state after (settles next new s is) = up next new after s
 leading-up wsize old S up state after (unmade call mid between sent turn fault next new s takes is) =
@@ -142,7 +142,7 @@ leading-up wsize old S up state after (unmade call mid between sent turn fault n
     let two = up-takes mid wsize sent turn (Err fault) between next new after takes in
     omega (arith, one, two)
 
-pub leading-before : (wsize lane : ℕ) (old : Shelf) (S : Next → Machine → Shelf → Type 0) → ((next : Next) (new : Machine) (after : Shelf) → S next new after → GoesBefore lane old.order next new after)
+pub leading-before : (wsize lane : ℕ) (old : Shelf) (S : Step → Machine → Shelf → Type 0) → ((next : Step) (new : Machine) (after : Shelf) → S next new after → GoesBefore lane old.order next new after)
     → (state : State) (after : Shelf) → Leading wsize S state after → BeforeStays lane old.order after.order
 leading-before wsize lane old S goes state after (settles next new s is) = (goes next new after s).before
 leading-before wsize lane old S goes state after (unmade call mid between sent turn fault next new s takes is) =
@@ -153,7 +153,7 @@ leading-before wsize lane old S goes state after (unmade call mid between sent t
 
 -- ---- another operation, at a record: what a slot holds it holds still
 
-held-hears : (m : Modes) (n : ℕ) (kind : Kind) (machine : Machine) (wsize : ℕ) (sent turn : Turn) (came : Result Reply Fault) (old : Shelf) (next : Next) (new : Machine) (after : Shelf)
+held-hears : (m : Modes) (n : ℕ) (kind : Kind) (machine : Machine) (wsize : ℕ) (sent turn : Turn) (came : Result Reply Fault) (old : Shelf) (next : Step) (new : Machine) (after : Shelf)
     → OtherTold m n kind machine → Takes wsize machine sent turn came old next new after
     → (q : Place) (o : Opened) → finite.get old.opens q ≡ Some o → finite.get after.opens q ≡ Some o
 held-hears m n (opening its_slot mode) machine wsize sent turn came old next new after k s q o there = by (opener-takes m.nocto n its_slot mode machine wsize sent turn came old next new after k s)
@@ -283,7 +283,7 @@ module _ (setup : Setup) (m : Modes) (h : List Entry) (old new : View) (known : 
       by (closing its_slot) k =
           let l = stirs-led old new at t in
           let turn = d.turned.turns at (record { number = t.number; state = Busy t.machine }) t.there in
-          let step = λ (next : Next) (machine : Machine) (shelf : Shelf) (s : Resumes old.wsize t.machine (turn_at old) old.shelf next machine shelf).
+          let step = λ (next : Step) (machine : Machine) (shelf : Shelf) (s : Resumes old.wsize t.machine (turn_at old) old.shelf next machine shelf).
           close-goes t.number its_slot k.file k.upto (IsFirst t.number old.shelf.order) t.machine old.wsize (turn_at old) old.shelf next machine shelf (λ first. first)
           (λ c is of_lane. close-turn t.number old.shelf.order t.machine c is of_lane turn) k.closer s in
           let led = closer-led t.number its_slot k.file k.upto (IsFirst t.number old.shelf.order) old.wsize old.shelf.opens
@@ -339,7 +339,7 @@ module _ (setup : Setup) (m : Modes) (h : List Entry) (old new : View) (known : 
           let l = takes-led (taken_one old xid) new at call.purpose.sent (said_of call.purpose.proc rec) t in
           let turn = d.turned.turns at (record { number = t.number; state = Busy t.machine }) t.there in
           let first = close-first t.number old.shelf.order t.machine k.closer.c (in_flight t.machine - 1) k.closer.is k.closer.lane_is turn one in
-          let step = λ (next : Next) (machine : Machine) (shelf : Shelf)
+          let step = λ (next : Step) (machine : Machine) (shelf : Shelf)
           (s : Takes old.wsize t.machine call.purpose.sent (turn_at (taken_one old xid)) (said_of call.purpose.proc rec) old.shelf next machine shelf).
           close-hears t.number its_slot k.file k.upto (IsFirst t.number old.shelf.order) t.machine old.wsize call.purpose.sent (turn_at (taken_one old xid)) (said_of call.purpose.proc rec)
           old.shelf next machine shelf first k.closer s in

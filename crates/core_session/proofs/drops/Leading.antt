@@ -1,16 +1,16 @@
 -- A step of a lane: a step of its operation, and one more where the call that it asks for isn't made.
-use Rattle.core_session.proofs.Prelude.{◌≡◌, ℕ, zero, suc, List, [], ◌∷◌, ◌++◌, length, slice_set, Result, Err, inl, inr, refl, sym, ap, ◌∙◌, Fault, Call, Reply, Next, Send, Wait, Done, Shelf, Turn, Machine, Starts, Resumes, Takes, Lane, State, Busy, Over, with_state, IsRefused, Leads, Stirs, StartsLane, TakesAt, View, turn_at, unmade_turn}
+use Rattle.core_session.proofs.Prelude.{◌≡◌, ℕ, zero, suc, List, [], ◌∷◌, ◌++◌, length, slice_set, Result, Err, inl, inr, refl, sym, ap, ◌∙◌, Fault, Call, Reply, Step, Send, Wait, Done, Shelf, Turn, Machine, Starts, Resumes, Takes, Lane, State, Busy, Over, with_state, IsRefused, Leads, Stirs, StartsLane, TakesAt, View, turn_at, unmade_turn}
 
 -- what a step leads to, where its call is made
-abbrev pub Settles : Next → Machine → State → Type 0
+abbrev pub Settles : Step → Machine → State → Type 0
 Settles (Send call) new state = state ≡ Busy new
 Settles Wait new state = state ≡ Busy new
 Settles (Done answer) new state = state ≡ Over answer
 
 -- From one of the steps S the operation comes to a state, with this shelf.
-pub data Leading (wsize : ℕ) (S : Next → Machine → Shelf → Type 0) (state : State) (after : Shelf) : Type 0 where
-  settles : (next : Next) (new : Machine) → S next new after → Settles next new state → Leading wsize S state after
-  unmade : (call : Call) (mid : Machine) (between : Shelf) (sent turn : Turn) (fault : Fault) (next : Next) (new : Machine) → S (Send call) mid between
+pub data Leading (wsize : ℕ) (S : Step → Machine → Shelf → Type 0) (state : State) (after : Shelf) : Type 0 where
+  settles : (next : Step) (new : Machine) → S next new after → Settles next new state → Leading wsize S state after
+  unmade : (call : Call) (mid : Machine) (between : Shelf) (sent turn : Turn) (fault : Fault) (next : Step) (new : Machine) → S (Send call) mid between
       → Takes wsize mid sent turn (Err fault) between next new after → IsRefused new next state → Leading wsize S state after
 
 set-set : {A : Type 0} → (xs : List A) (at : ℕ) (x y : A) → slice_set (slice_set xs at x) at y ≡ slice_set xs at y
@@ -23,13 +23,13 @@ set-push [] x y = refl
 set-push (z ∷ zs) x y = ap (λ ws. z ∷ ws) (set-push zs x y)
 
 -- the lane at a place has come to a state
-pub record Led (wsize : ℕ) (S : Next → Machine → Shelf → Type 0) (lanes : List Lane) (at number : ℕ) (new : View) : Type 0 where
+pub record Led (wsize : ℕ) (S : Step → Machine → Shelf → Type 0) (lanes : List Lane) (at number : ℕ) (new : View) : Type 0 where
   pub state : State
   pub leading : Leading wsize S state new.shelf
   pub lanes_are : new.lanes ≡ slice_set lanes at (record { number = number; state = state })
 
-module _ (wsize : ℕ) (S : Next → Machine → Shelf → Type 0) (at number : ℕ) where
-  leads-led : (v new : View) (lanes : List Lane) (next : Next) (machine : Machine) → v.wsize ≡ wsize → v.lanes ≡ slice_set lanes at (record { number = number; state = Busy machine })
+module _ (wsize : ℕ) (S : Step → Machine → Shelf → Type 0) (at number : ℕ) where
+  leads-led : (v new : View) (lanes : List Lane) (next : Step) (machine : Machine) → v.wsize ≡ wsize → v.lanes ≡ slice_set lanes at (record { number = number; state = Busy machine })
       → S next machine v.shelf → Leads v at number machine next new → Led wsize S lanes at number new
   leads-led v new lanes (Send call) machine size is s (inl m) = record {
     state = Busy machine;
@@ -67,7 +67,7 @@ takes-led old new at sent came t =
     (with_state old at t.number (Busy t.after) t.shelf) new old.lanes t.next t.after refl refl t.takes t.leads
 
 -- a lane that begins is the last
-pub record Pushed (wsize : ℕ) (S : Next → Machine → Shelf → Type 0) (lanes : List Lane) (number : ℕ) (new : View) : Type 0 where
+pub record Pushed (wsize : ℕ) (S : Step → Machine → Shelf → Type 0) (lanes : List Lane) (number : ℕ) (new : View) : Type 0 where
   pub state : State
   pub leading : Leading wsize S state new.shelf
   pub lanes_are : new.lanes ≡ lanes ++ record { number = number; state = state } ∷ []

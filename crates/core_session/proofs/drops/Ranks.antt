@@ -1,5 +1,5 @@
 -- Which lane stands before which in the order of files, after another lane left its place or took one; who is the first stands before all others of its file.
-use Rattle.core_session.proofs.Prelude.{◌≡◌, ◌≢◌, ◌<◌, ◌≤◌, ◌+◌, ℕ, zero, suc, Bool, true, false, cond, nat_eq, List, [], ◌∷◌, ◌++◌, length, remove, Option, Some, None, option_map, position, slice_get, Result, refl, sym, ap, ◌∙◌, arith, nat_lt, if◌then◌else◌, option_map_or, eqb-true, Fault, Reply, LaneFile, Next, Send, Wait, Done, Shelf, Turn, is_lane, added, left, is_first, Machine, Starts, Resumes, Takes, in_flight, Counts, IsCounted, IsUnbegun, counts-calls, IsLive, IsFreshFor, still-there, before-push, Sits}
+use Rattle.core_session.proofs.Prelude.{◌≡◌, ◌≢◌, ◌<◌, ◌≤◌, ◌+◌, ℕ, zero, suc, Bool, true, false, cond, nat_eq, List, [], ◌∷◌, ◌++◌, length, remove, Option, Some, None, option_map, position, slice_get, Result, refl, sym, ap, ◌∙◌, arith, nat_lt, if◌then◌else◌, option_map_or, eqb-true, Fault, Reply, LaneFile, Step, Send, Wait, Done, Shelf, Turn, is_lane, added, left, is_first, Machine, Starts, Resumes, Takes, in_flight, Counts, IsCounted, IsUnbegun, counts-calls, IsLive, IsFreshFor, still-there, before-push, Sits}
 use Rattle.std.specs.Option.{option_and_then}
 use Rattle.client_shelf.specs.LaneFiles.{is_file, leads}
 use Rattle.std.specs.Cmp.Lexicographic.{bytes_decides}
@@ -129,25 +129,25 @@ module _ (lane : ℕ) (start : List LaneFile) where
   joins seat f order p file a b one two s =
       added-before (record { lane = lane; file = f }) (left lane order) file a b (left-before lane order file a b one two (p file a b one two s))
 
-  kept-of : (next : Next) (Live : Type 0) (seat : Option (List ℕ)) (order : List LaneFile) → Seats lane Kept leaves joins next Live seat order → BeforeStays lane start order
+  kept-of : (next : Step) (Live : Type 0) (seat : Option (List ℕ)) (order : List LaneFile) → Seats lane Kept leaves joins next Live seat order → BeforeStays lane start order
   kept-of (Send call) Live seat order s = s.1
   kept-of Wait Live seat order s = s.1
   kept-of (Done answer) Live seat order s = s
 
 module _ (wsize : ℕ) (turn : Turn) (lane : ℕ) where
-  pub before-start : (m : Machine) (old : Shelf) (next : Next) (new : Machine) (after : Shelf) → IsFreshFor lane m → Starts wsize m turn old next new after
+  pub before-start : (m : Machine) (old : Shelf) (next : Step) (new : Machine) (after : Shelf) → IsFreshFor lane m → Starts wsize m turn old next new after
       → BeforeStays lane old.order after.order
   before-start m old next new after fresh s =
       kept-of lane old.order next _ _ after.order
       (seats.all-starts lane (Kept lane old.order) (leaves lane old.order) (joins lane old.order) m wsize turn old next new after fresh (λ file a b one two k. k) s)
 
-  pub before-resume : (m : Machine) (old : Shelf) (next : Next) (new : Machine) (after : Shelf) → IsLive lane m → Resumes wsize m turn old next new after
+  pub before-resume : (m : Machine) (old : Shelf) (next : Step) (new : Machine) (after : Shelf) → IsLive lane m → Resumes wsize m turn old next new after
       → BeforeStays lane old.order after.order
   before-resume m old next new after live s =
       kept-of lane old.order next _ _ after.order
       (seats.all-resumes lane (Kept lane old.order) (leaves lane old.order) (joins lane old.order) m wsize turn old next new after live (λ file a b one two k. k) s)
 
-  pub before-take : (sent : Turn) (came : Result Reply Fault) (m : Machine) (old : Shelf) (next : Next) (new : Machine) (after : Shelf) (others : ℕ) → IsLive lane m
+  pub before-take : (sent : Turn) (came : Result Reply Fault) (m : Machine) (old : Shelf) (next : Step) (new : Machine) (after : Shelf) (others : ℕ) → IsLive lane m
       → in_flight m ≡ others + 1 → Takes wsize m sent turn came old next new after → BeforeStays lane old.order after.order
   before-take sent came m old next new after others live one s =
       kept-of lane old.order next _ _ after.order
@@ -205,25 +205,25 @@ none-before seats order sits file l n is s =
 
 -- ---- as long as it goes on: it is at work, and counts its calls
 
-live-next : (lane : ℕ) (start : List LaneFile) (next : Next) (Live : Type 0) (seat : Option (List ℕ)) (order : List LaneFile)
+live-next : (lane : ℕ) (start : List LaneFile) (next : Step) (Live : Type 0) (seat : Option (List ℕ)) (order : List LaneFile)
     → Seats lane (Kept lane start) (leaves lane start) (joins lane start) next Live seat order → (call : _) → next ≡ Send call → Live
 live-next lane start (Send other) Live seat order s call is = s.0
 live-next lane start Wait Live seat order s call is = absurd cc
 live-next lane start (Done answer) Live seat order s call is = absurd cc
 
-count-next : (next : Next) (before : ℕ) (machine : Machine) → Counts next before machine → (call : _) → next ≡ Send call → in_flight machine ≡ before + 1
+count-next : (next : Step) (before : ℕ) (machine : Machine) → Counts next before machine → (call : _) → next ≡ Send call → in_flight machine ≡ before + 1
 count-next (Send other) before machine c call is = c.0
 count-next Wait before machine c call is = absurd cc
 count-next (Done answer) before machine c call is = absurd cc
 
 -- what holds of the order after a step, and of one whose call isn't made
-pub record GoesBefore (lane : ℕ) (start : List LaneFile) (next : Next) (new : Machine) (after : Shelf) : Type 0 where
+pub record GoesBefore (lane : ℕ) (start : List LaneFile) (next : Step) (new : Machine) (after : Shelf) : Type 0 where
   pub before : BeforeStays lane start after.order
   pub live : (call : _) → next ≡ Send call → IsLive lane new
   pub count : (call : _) → next ≡ Send call → (n : ℕ) × (in_flight new ≡ n + 1)
 
 module _ (wsize : ℕ) (turn : Turn) (lane : ℕ) where
-  pub goes-start : (m : Machine) (old : Shelf) (next : Next) (new : Machine) (after : Shelf) → IsFreshFor lane m → IsUnbegun m → Starts wsize m turn old next new after
+  pub goes-start : (m : Machine) (old : Shelf) (next : Step) (new : Machine) (after : Shelf) → IsFreshFor lane m → IsUnbegun m → Starts wsize m turn old next new after
       → GoesBefore lane old.order next new after
   goes-start m old next new after fresh unbegun s =
       let k = seats.all-starts lane (Kept lane old.order) (leaves lane old.order) (joins lane old.order) m wsize turn old next new after fresh (λ file a b one two k. k) s in
@@ -233,7 +233,7 @@ module _ (wsize : ℕ) (turn : Turn) (lane : ℕ) where
         count = λ call is. (0, count-next next 0 new (counts-calls.start wsize m turn old next new after s unbegun) call is);
       }
 
-  pub goes-resume : (m : Machine) (old : Shelf) (next : Next) (new : Machine) (after : Shelf) → IsLive lane m → IsCounted m → Resumes wsize m turn old next new after
+  pub goes-resume : (m : Machine) (old : Shelf) (next : Step) (new : Machine) (after : Shelf) → IsLive lane m → IsCounted m → Resumes wsize m turn old next new after
       → GoesBefore lane old.order next new after
   goes-resume m old next new after live counted s =
       let k = seats.all-resumes lane (Kept lane old.order) (leaves lane old.order) (joins lane old.order) m wsize turn old next new after live (λ file a b one two k. k) s in
@@ -243,7 +243,7 @@ module _ (wsize : ℕ) (turn : Turn) (lane : ℕ) where
         count = λ call is. (in_flight m, count-next next (in_flight m) new (counts-calls.resume wsize m turn old next new after s counted) call is);
       }
 
-  pub goes-take : (sent : Turn) (came : Result Reply Fault) (m : Machine) (old : Shelf) (next : Next) (new : Machine) (after : Shelf) (others : ℕ) → IsLive lane m → IsCounted m
+  pub goes-take : (sent : Turn) (came : Result Reply Fault) (m : Machine) (old : Shelf) (next : Step) (new : Machine) (after : Shelf) (others : ℕ) → IsLive lane m → IsCounted m
       → in_flight m ≡ others + 1 → Takes wsize m sent turn came old next new after → GoesBefore lane old.order next new after
   goes-take sent came m old next new after others live counted one s =
       let k = seats.all-takes lane (Kept lane old.order) (leaves lane old.order) (joins lane old.order) m wsize sent turn came old next new after others live one (λ file a b one two k. k) s in

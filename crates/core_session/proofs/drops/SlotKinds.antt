@@ -1,5 +1,5 @@
 -- What is known of each operation under way as to slots: an open opens its slot, a close knows the file that its slot held, and others touch none.
-use Rattle.core_session.proofs.Prelude.{◌≡◌, ◌≢◌, ◌⊎◌, inl, inr, ℕ, List, Bool, true, false, nat_eq, Some, None, Result, Err, refl, sym, ap, subst, ◌∙◌, eqb-true, eqb-false, Place, Opens, Answer, Fault, Entry, Call, Reply, Op, Modes, IsOf, Next, Send, Wait, Done, Shelf, Turn, CloseFile, Closing, file_at, joined, Mounted, Machine, machine_of, Starts, Resumes, Takes, State, Busy, Over, IsPlain, Kind, plainly, kind_of, BeginsAs, ThenOf, CloseTurn, IsFirst, IsRefused}
+use Rattle.core_session.proofs.Prelude.{◌≡◌, ◌≢◌, ◌⊎◌, inl, inr, ℕ, List, Bool, true, false, nat_eq, Some, None, Result, Err, refl, sym, ap, subst, ◌∙◌, eqb-true, eqb-false, Place, Opens, Answer, Fault, Entry, Call, Reply, Op, Modes, IsOf, Step, Send, Wait, Done, Shelf, Turn, CloseFile, Closing, file_at, joined, Mounted, Machine, machine_of, Starts, Resumes, Takes, State, Busy, Over, IsPlain, Kind, plainly, kind_of, BeginsAs, ThenOf, CloseTurn, IsFirst, IsRefused}
 use Rattle.core_facts.proofs.OpenSlots.{plain-starts, plain-resumes, plain-takes, IsOpener, opener-starts, opener-resumes, opener-takes, OpenTook, table_stays, puts_open, FindsBy, by_attrs, by_lookup, by_create}
 use Rattle.core_facts.proofs.Slots.{opening, closing}
 use Rattle.std.specs.FinMap as finite
@@ -87,12 +87,12 @@ quiet-then n a b c one two = record {
     by q (inl same) (inr none) = inr (same ∙ none)
 
 -- of a close as it goes on, or once it has its answer
-abbrev pub MachineThen : ℕ → ℕ → List ℕ → ℕ → Type 0 → Opens → Next → Machine → Type 0
+abbrev pub MachineThen : ℕ → ℕ → List ℕ → ℕ → Type 0 → Opens → Step → Machine → Type 0
 MachineThen n slot file upto T opens (Send call) new = IsCloserOf n slot file upto new opens × T
 MachineThen n slot file upto T opens Wait new = IsCloserOf n slot file upto new opens
 MachineThen n slot file upto T opens (Done answer) new = ClosedAt n slot T opens answer
 
-pub record CloserStepped (n slot : ℕ) (file : List ℕ) (upto : ℕ) (T : Type 0) (old : Opens) (next : Next) (new : Machine) (after : Opens) : Type 0 where
+pub record CloserStepped (n slot : ℕ) (file : List ℕ) (upto : ℕ) (T : Type 0) (old : Opens) (next : Step) (new : Machine) (after : Opens) : Type 0 where
   pub then_ : MachineThen n slot file upto T after next new
   pub quiet : Quiet n old after
   pub rest : (q : Place) → q ≢ (n, slot) → finite.get after q ≡ finite.get old q
@@ -101,7 +101,7 @@ module _ (n slot : ℕ) (file : List ℕ) (upto : ℕ) (T : Type 0) where
   apart-lane : (q : Place) → q.0 ≢ n → q ≢ (n, slot)
   apart-lane q other e = other (ap (λ (p : Place). p.0) e)
 
-  less-of : (next : Next) (state : Closing) (old new : Opens) → CloserSteps n slot file upto T old next state new → OnlyLess old new
+  less-of : (next : Step) (state : Closing) (old new : Opens) → CloserSteps n slot file upto T old next state new → OnlyLess old new
   less-of next state old new s q = by (nat_eq q.0 n) refl (nat_eq q.1 slot) refl
     where
       by : (a : Bool) → nat_eq q.0 n ≡ a → (b : Bool) → nat_eq q.1 slot ≡ b → (finite.get new q ≡ finite.get old q) ⊎ (finite.get new q ≡ None)
@@ -111,7 +111,7 @@ module _ (n slot : ℕ) (file : List ℕ) (upto : ℕ) (T : Type 0) where
           let is : ◌≡◌ {A = Place} q (n, slot) = ap {B = Place} (λ (k : ℕ). (k, q.1)) (eqb-true q.0 n d) ∙ ap {B = Place} (λ (k : ℕ). (n, k)) (eqb-true q.1 slot e) in
           subst (λ (p : Place). (finite.get new p ≡ finite.get old p) ⊎ (finite.get new p ≡ None)) (sym is) s.own
 
-  to-machine : (c : CloseFile) (state : Closing) (old : Opens) (next : Next) (new : Machine) (after : Opens) → new ≡ machines.File (files.Close (record c { state = state }))
+  to-machine : (c : CloseFile) (state : Closing) (old : Opens) (next : Step) (new : Machine) (after : Opens) → new ≡ machines.File (files.Close (record c { state = state }))
       → c.lane ≡ n → c.slot ≡ slot → CloserSteps n slot file upto T old next state after → CloserStepped n slot file upto T old next new after
   to-machine c state old next new after is of_lane of_slot s = record {
     then_ = by next s.then_;
@@ -119,12 +119,12 @@ module _ (n slot : ℕ) (file : List ℕ) (upto : ℕ) (T : Type 0) where
     rest = s.others;
   }
     where
-      by : (k : Next) → CloserThen n slot file upto T after k state → MachineThen n slot file upto T after k new
+      by : (k : Step) → CloserThen n slot file upto T after k state → MachineThen n slot file upto T after k new
       by (Send call) t = (record { c = record c { state = state }; is = is; lane_is = of_lane; slot_is = of_slot; at = t.0 }, t.1)
       by Wait t = record { c = record c { state = state }; is = is; lane_is = of_lane; slot_is = of_slot; at = t }
       by (Done answer) t = t
 
-  pub close-begins : (machine : Machine) (c : CloseFile) (wsize : ℕ) (turn : Turn) (old : Shelf) (next : Next) (new : Machine) (after : Shelf) → machine ≡ machines.File (files.Close c)
+  pub close-begins : (machine : Machine) (c : CloseFile) (wsize : ℕ) (turn : Turn) (old : Shelf) (next : Step) (new : Machine) (after : Shelf) → machine ≡ machines.File (files.Close c)
       → c.lane ≡ n → c.slot ≡ slot → (IsFirst n (joined n file old).order → T) → upto ≡ old.seq → file_at n slot old.opens ≡ Some file → Starts wsize machine turn old next new after
       → CloserStepped n slot file upto T old.opens next new after.opens
   close-begins machine c wsize turn old next new after is of_lane of_slot t top there s = by (subst (λ (m : Machine). Starts wsize m turn old next new after) is s)
@@ -133,7 +133,7 @@ module _ (n slot : ℕ) (file : List ℕ) (upto : ℕ) (T : Type 0) where
       by k = to-machine c k.step.state old.opens next new after.opens (k.machine_is ∙ ap machines.File k.step.machine_is) of_lane of_slot
           (closer-starts n slot file upto T wsize c turn old next k.step.state after of_lane of_slot t (record { file_is = refl; upto_is = sym top }) there k.step.step)
 
-  pub close-goes : (machine : Machine) (wsize : ℕ) (turn : Turn) (old : Shelf) (next : Next) (new : Machine) (after : Shelf) → (IsFirst n old.order → T)
+  pub close-goes : (machine : Machine) (wsize : ℕ) (turn : Turn) (old : Shelf) (next : Step) (new : Machine) (after : Shelf) → (IsFirst n old.order → T)
       → (turned : (c : CloseFile) → machine ≡ machines.File (files.Close c) → c.lane ≡ n → CloseTurn T c.state) → IsCloserOf n slot file upto machine old.opens
       → Resumes wsize machine turn old next new after → CloserStepped n slot file upto T old.opens next new after.opens
   close-goes machine wsize turn old next new after t turned k s = by (subst (λ (m : Machine). Resumes wsize m turn old next new after) k.is s)
@@ -142,7 +142,7 @@ module _ (n slot : ℕ) (file : List ℕ) (upto : ℕ) (T : Type 0) where
       by r = to-machine k.c r.step.state old.opens next new after.opens (r.machine_is ∙ ap machines.File r.step.machine_is) k.lane_is k.slot_is
           (closer-resumes n slot file upto T wsize k.c turn old next r.step.state after k.lane_is k.slot_is t (turned k.c k.is k.lane_is) k.at r.step.step)
 
-  pub close-hears : (machine : Machine) (wsize : ℕ) (sent turn : Turn) (came : Result Reply Fault) (old : Shelf) (next : Next) (new : Machine) (after : Shelf) → T
+  pub close-hears : (machine : Machine) (wsize : ℕ) (sent turn : Turn) (came : Result Reply Fault) (old : Shelf) (next : Step) (new : Machine) (after : Shelf) → T
       → IsCloserOf n slot file upto machine old.opens → Takes wsize machine sent turn came old next new after → CloserStepped n slot file upto T old.opens next new after.opens
   close-hears machine wsize sent turn came old next new after t k s = by (subst (λ (m : Machine). Takes wsize m sent turn came old next new after) k.is s)
     where
@@ -162,19 +162,19 @@ pub record CloserLed (n slot : ℕ) (file : List ℕ) (upto : ℕ) (T : Type 0) 
   pub rest : (q : Place) → q ≢ (n, slot) → finite.get after q ≡ finite.get old q
 
 module _ (n slot : ℕ) (file : List ℕ) (upto : ℕ) (T : Type 0) (wsize : ℕ) (old : Opens) where
-  settled : (next : Next) (new : Machine) (state : State) (after : Opens) → Settles next new state → MachineThen n slot file upto T after next new
+  settled : (next : Step) (new : Machine) (state : State) (after : Opens) → Settles next new state → MachineThen n slot file upto T after next new
       → CloserState n slot file upto T after state
   settled (Send call) new state after is t = subst (CloserState n slot file upto T after) (sym is) t.0
   settled Wait new state after is t = subst (CloserState n slot file upto T after) (sym is) t
   settled (Done answer) new state after is t = subst (CloserState n slot file upto T after) (sym is) t
 
-  refused : (next : Next) (new : Machine) (state : State) (after : Opens) → IsRefused new next state → MachineThen n slot file upto T after next new
+  refused : (next : Step) (new : Machine) (state : State) (after : Opens) → IsRefused new next state → MachineThen n slot file upto T after next new
       → CloserState n slot file upto T after state
   refused (Send call) new state after is t = absurd is
   refused Wait new state after is t = subst (CloserState n slot file upto T after) (sym is) t
   refused (Done answer) new state after is t = subst (CloserState n slot file upto T after) (sym is) t
 
-  pub closer-led : (S : Next → Machine → Shelf → Type 0) → ((next : Next) (new : Machine) (after : Shelf) → S next new after → CloserStepped n slot file upto T old next new after.opens)
+  pub closer-led : (S : Step → Machine → Shelf → Type 0) → ((next : Step) (new : Machine) (after : Shelf) → S next new after → CloserStepped n slot file upto T old next new after.opens)
       → (state : State) (after : Shelf) → Leading wsize S state after → CloserLed n slot file upto T old state after.opens
   closer-led S step state after (settles next new s is) =
       let k = step next new after s in
@@ -192,7 +192,7 @@ OtherTold m n (opening slot mode) machine = IsOpener m.nocto n slot mode machine
 OtherTold m n (closing slot) machine = ⊥
 OtherTold m n plainly machine = IsPlain machine
 
-abbrev pub OtherThen : Modes → ℕ → Kind → Next → Machine → Type 0
+abbrev pub OtherThen : Modes → ℕ → Kind → Step → Machine → Type 0
 OtherThen m n kind (Send call) new = OtherTold m n kind new
 OtherThen m n kind Wait new = OtherTold m n kind new
 OtherThen m n kind (Done answer) new = Unit {0}
@@ -202,17 +202,17 @@ OtherState m n kind (Busy machine) = OtherTold m n kind machine
 OtherState m n kind (Over answer) = Unit {0}
 
 module _ (m : Modes) (n : ℕ) where
-  opened-then : (slot : ℕ) (mode : _) (A : Answer → Type 0) (next : Next) (new : Machine) → ThenOf (IsOpener m.nocto n slot mode) A next new → OtherThen m n (opening slot mode) next new
+  opened-then : (slot : ℕ) (mode : _) (A : Answer → Type 0) (next : Step) (new : Machine) → ThenOf (IsOpener m.nocto n slot mode) A next new → OtherThen m n (opening slot mode) next new
   opened-then slot mode A (Send call) new t = t
   opened-then slot mode A Wait new t = t
   opened-then slot mode A (Done answer) new t = tt
 
-  plain-then : (next : Next) (new : Machine) → IsPlain new → OtherThen m n plainly next new
+  plain-then : (next : Step) (new : Machine) → IsPlain new → OtherThen m n plainly next new
   plain-then (Send call) new p = p
   plain-then Wait new p = p
   plain-then (Done answer) new p = tt
 
-  pub other-begins : (kind : Kind) (machine : Machine) (wsize : ℕ) (turn : Turn) (old : Shelf) (next : Next) (new : Machine) (after : Shelf) → OtherTold m n kind machine
+  pub other-begins : (kind : Kind) (machine : Machine) (wsize : ℕ) (turn : Turn) (old : Shelf) (next : Step) (new : Machine) (after : Shelf) → OtherTold m n kind machine
       → Starts wsize machine turn old next new after → OtherThen m n kind next new × (after.opens ≡ old.opens)
   other-begins (opening slot mode) machine wsize turn old next new after k s =
       let o = opener-starts m.nocto n slot mode machine wsize turn old next new after k s in (opened-then slot mode _ next new o.0, o.1)
@@ -220,7 +220,7 @@ module _ (m : Modes) (n : ℕ) where
   other-begins plainly machine wsize turn old next new after k s =
       let p = plain-starts machine wsize turn old next new after k s in (plain-then next new p.0, p.1)
 
-  pub other-goes : (kind : Kind) (machine : Machine) (wsize : ℕ) (turn : Turn) (old : Shelf) (next : Next) (new : Machine) (after : Shelf) → OtherTold m n kind machine
+  pub other-goes : (kind : Kind) (machine : Machine) (wsize : ℕ) (turn : Turn) (old : Shelf) (next : Step) (new : Machine) (after : Shelf) → OtherTold m n kind machine
       → Resumes wsize machine turn old next new after → OtherThen m n kind next new × (after.opens ≡ old.opens)
   other-goes (opening slot mode) machine wsize turn old next new after k s =
       let o = opener-resumes m.nocto n slot mode machine wsize turn old next new after k s in (opened-then slot mode _ next new o.0, o.1)
@@ -229,14 +229,14 @@ module _ (m : Modes) (n : ℕ) where
       let p = plain-resumes machine wsize turn old next new after k s in (plain-then next new p.0, p.1)
 
   -- what came of its call: an open may be put into its slot
-  pub other-hears : (kind : Kind) (machine : Machine) (wsize : ℕ) (sent turn : Turn) (came : Result Reply Fault) (old : Shelf) (next : Next) (new : Machine) (after : Shelf)
+  pub other-hears : (kind : Kind) (machine : Machine) (wsize : ℕ) (sent turn : Turn) (came : Result Reply Fault) (old : Shelf) (next : Step) (new : Machine) (after : Shelf)
       → OtherTold m n kind machine → Takes wsize machine sent turn came old next new after → OtherThen m n kind next new × OthersSame n old.opens after.opens
   other-hears (opening slot mode) machine wsize sent turn came old next new after k s = by (opener-takes m.nocto n slot mode machine wsize sent turn came old next new after k s)
     where
       by : OpenTook m.nocto n slot mode machine came old.opens next new after.opens → OtherThen m n (opening slot mode) next new × OthersSame n old.opens after.opens
       by (table_stays same t) = (opened-then slot mode _ next new t, λ q apart. ap (λ (o : Opens). finite.get o q) same)
       by (puts_open of call free now mode_is is expects finds) = (
-        subst (λ (k : Next). OtherThen m n (opening slot mode) k new) (sym is) tt,
+        subst (λ (k : Step). OtherThen m n (opening slot mode) k new) (sym is) tt,
         λ q apart. ap (λ (o : Opens). finite.get o q) now ∙ get-put_other old.opens (n, slot) q of (λ e. apart (ap (λ (p : Place). p.0) e)),
       )
   other-hears (closing slot) machine wsize sent turn came old next new after k s = absurd k
@@ -249,7 +249,7 @@ module _ (m : Modes) (n : ℕ) where
   no-file nocto call fault f (by_lookup d name attr dir mode is came) = absurd cc
   no-file nocto call fault f (by_create d name making attr wcc mode is came) = absurd cc
 
-  pub other-fails : (kind : Kind) (machine : Machine) (wsize : ℕ) (sent turn : Turn) (fault : Fault) (old : Shelf) (next : Next) (new : Machine) (after : Shelf)
+  pub other-fails : (kind : Kind) (machine : Machine) (wsize : ℕ) (sent turn : Turn) (fault : Fault) (old : Shelf) (next : Step) (new : Machine) (after : Shelf)
       → OtherTold m n kind machine → Takes wsize machine sent turn (Err fault) old next new after → OtherThen m n kind next new × (after.opens ≡ old.opens)
   other-fails (opening slot mode) machine wsize sent turn fault old next new after k s = by (opener-takes m.nocto n slot mode machine wsize sent turn (Err fault) old next new after k s)
     where
@@ -260,19 +260,19 @@ module _ (m : Modes) (n : ℕ) where
   other-fails plainly machine wsize sent turn fault old next new after k s =
       let p = plain-takes machine wsize sent turn (Err fault) old next new after k s in (plain-then next new p.0, p.1)
 
-  other-settled : (kind : Kind) (next : Next) (new : Machine) (state : State) → Settles next new state → OtherThen m n kind next new → OtherState m n kind state
+  other-settled : (kind : Kind) (next : Step) (new : Machine) (state : State) → Settles next new state → OtherThen m n kind next new → OtherState m n kind state
   other-settled kind (Send call) new state is t = subst (OtherState m n kind) (sym is) t
   other-settled kind Wait new state is t = subst (OtherState m n kind) (sym is) t
   other-settled kind (Done answer) new state is t = subst (OtherState m n kind) (sym is) tt
 
-  other-refused : (kind : Kind) (next : Next) (new : Machine) (state : State) → IsRefused new next state → OtherThen m n kind next new → OtherState m n kind state
+  other-refused : (kind : Kind) (next : Step) (new : Machine) (state : State) → IsRefused new next state → OtherThen m n kind next new → OtherState m n kind state
   other-refused kind (Send call) new state is t = absurd is
   other-refused kind Wait new state is t = subst (OtherState m n kind) (sym is) t
   other-refused kind (Done answer) new state is t = subst (OtherState m n kind) (sym is) tt
 
   -- R holds of the table after its steps: that it is the same, or the same of other lanes
-  pub other-led : (kind : Kind) (wsize : ℕ) (old : Opens) (R : Opens → Type 0) (S : Next → Machine → Shelf → Type 0)
-      → ((next : Next) (new : Machine) (after : Shelf) → S next new after → OtherThen m n kind next new × R after.opens)
+  pub other-led : (kind : Kind) (wsize : ℕ) (old : Opens) (R : Opens → Type 0) (S : Step → Machine → Shelf → Type 0)
+      → ((next : Step) (new : Machine) (after : Shelf) → S next new after → OtherThen m n kind next new × R after.opens)
       → (state : State) (after : Shelf) → Leading wsize S state after → OtherState m n kind state × R after.opens
   other-led kind wsize old R S step state after (settles next new s is) =
       let k = step next new after s in (other-settled kind next new state is k.0, k.1)

@@ -1,5 +1,5 @@
 -- Each place of the table of hidden files is one where a remove has hidden its file, and so is each of which a close removes it.
-use Rattle.core_session.proofs.Prelude.{◌≡◌, ◌⊎◌, inl, inr, ℕ, Bool, true, false, List, [], ◌∷◌, ◌++◌, length, Option, Some, None, slice_get, Result, Ok, Err, refl, sym, ap, subst, ◌∙◌, arith, DirKept, Wcc, Waiting, waiting_at, Fault, Entry, Began, Delivered, Call, Reply, Op, At, Asked, SpellsCall, SpellsReply, UnderWay, Asked-grow, Asked-wide, At-grow, Says, Next, Shelf, Turn, Closing, Deed, Move, RemoveFile, moved_told, Mounted, FileMachine, Machine, NameMachine, front_of, last_of, machine_of, Purpose, State, Busy, Over, Setup, View, Reaches, IsOutstanding, Awaits, awaits-laws, begins-unbegun, LeadsTo, end-leads, leads-later, RemoveAwaits, Did, Expects, expects-laws, RemoveRuns, NoCall, CameOf, heard_of, unmade, SlotLaws}
+use Rattle.core_session.proofs.Prelude.{◌≡◌, ◌⊎◌, inl, inr, ℕ, Bool, true, false, List, [], ◌∷◌, ◌++◌, length, Option, Some, None, slice_get, Result, Ok, Err, refl, sym, ap, subst, ◌∙◌, arith, DirKept, Wcc, Waiting, waiting_at, Fault, Entry, Began, Delivered, Call, Reply, Op, At, Asked, SpellsCall, SpellsReply, UnderWay, Asked-grow, Asked-wide, At-grow, Says, Step, Shelf, Turn, Closing, Deed, Move, RemoveFile, moved_told, Mounted, FileMachine, Machine, NameMachine, front_of, last_of, machine_of, Purpose, State, Busy, Over, Setup, View, Reaches, IsOutstanding, Awaits, awaits-laws, begins-unbegun, LeadsTo, end-leads, leads-later, RemoveAwaits, Did, Expects, expects-laws, RemoveRuns, NoCall, CameOf, heard_of, unmade, SlotLaws}
 use Rattle.name_ops.specs.Moving.{move_call}
 use Rattle.core_answers.proofs.asks.RemoveSteps.{HasDeed}
 use Rattle.core_answers.proofs.refusals.Answering.{IsSeen, IsToldOf, AllGood, reached-good}
@@ -10,7 +10,7 @@ use Rattle.nfs_dir_calls.specs.declared.keeping.DirKept.TheVariants as kept
 use Rattle.world_model.specs.declared.message.Reply.TheVariants as replies
 use Rattle.world_model.specs.declared.op.Op.TheVariants as ops
 use Rattle.claims.specs.Hidden.{IsHidden}
-use Rattle.client_shelf.specs.declared.next.Next.TheVariants as nexts
+use Rattle.client_shelf.specs.declared.step.Step.TheVariants as nexts
 use Rattle.file_ops.specs.declared.close_file.Closing.TheVariants as closing
 use Rattle.file_ops.specs.Closings.{Places}
 use Rattle.name_ops.specs.Looking.{look_up}
@@ -183,7 +183,7 @@ module _ (m : Mounted) where
         spelt = (subst (λ (c : Result Reply Fault). Says told.now.xid told.call told.now.rec c) is told.now.says).is
 
     -- all as before, or where the reply tells of no refusal the file's place is new
-    keeps : (file to : List ℕ) (again : Bool) (refusal : Option Fault) (next : Next) (was after : Places) → (refusal ≡ None → Hidden h file s.walk.spot.dir to)
+    keeps : (file to : List ℕ) (again : Bool) (refusal : Option Fault) (next : Step) (was after : Places) → (refusal ≡ None → Hidden h file s.walk.spot.dir to)
         → removals.EndsMove again refusal file to s was next after → AllHidden (Hidden h) was → AllHidden (Hidden h) after
     keeps file to true refusal next was after new e all = subst (AllHidden (Hidden h)) (sym e.1) all
     keeps file to false (Some fault) next was after new e all = subst (AllHidden (Hidden h)) (sym e.1) all
@@ -211,7 +211,7 @@ module _ (m : Mounted) where
   renamed-by (Ok (replies.Mount reply)) none = absurd (cc)
   renamed-by (Err fault) none = absurd (cc)
 
-  moved-hidden : (h : List Entry) (x : ℕ) (op : Op) (s : RemoveFile) (sent turn : Turn) (came : Result Reply Fault) (old : Shelf) (next : Next) (after : Shelf)
+  moved-hidden : (h : List Entry) (x : ℕ) (op : Op) (s : RemoveFile) (sent turn : Turn) (came : Result Reply Fault) (old : Shelf) (next : Step) (after : Shelf)
       → CameOf Seen Awaits NoCall h x op (machines.Name (names.Remove s)) sent came old → Moved s sent turn came old next after → AllHidden (Hidden h) old.silly
       → AllHidden (Hidden h) after.silly
   moved-hidden h x op s sent turn came old next after told k all =
@@ -235,7 +235,7 @@ module _ (m : Mounted) where
   abbrev pub NoLane : List Entry → ℕ → Shelf → Type 0
   NoLane h lane shelf = Unit {0}
 
-  did : (h : List Entry) (x : ℕ) (op : Op) (next : Next) (new : Machine) (after : Shelf) → Left (Hidden h) new after → Did NoCall PlacesKept RemovesHidden h x op next new after
+  did : (h : List Entry) (x : ℕ) (op : Op) (next : Step) (new : Machine) (after : Shelf) → Left (Hidden h) new after → Did NoCall PlacesKept RemovesHidden h x op next new after
   did h x op (nexts.Send call) new after k = record { shelf = k.0; asks = tt; then_ = k.1 }
   did h x op nexts.Wait new after k = record { shelf = k.0; asks = tt; then_ = k.1 }
   did h x op (nexts.Done answer) new after k = record { shelf = k.0; asks = tt; then_ = tt }

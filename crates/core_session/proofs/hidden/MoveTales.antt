@@ -1,5 +1,5 @@
 -- While a remove takes a hidden name, each call of it that waits was first sent after the LOOKUP of its name gave the file.
-use Rattle.core_session.proofs.Prelude.{◌≡◌, ◌≤◌, ◌+◌, inl, inr, ℕ, Bool, true, false, List, [], ◌∷◌, ◌++◌, length, Option, Some, None, slice_get, Result, Ok, Err, refl, sym, ap, subst, ◌∙◌, arith, Attr, DirKept, Opens, Waiting, waiting_at, Answer, Fault, Entry, Began, Call, Reply, Op, Asked, UnderWay, EndsWith, Asked-grow, Asked-wide, length_last, Next, Shelf, Turn, Deed, Look, Seek, Move, RemoveFile, WalkNext, found_by, look_again, Mounted, Machine, NameMachine, machine_of, Starts, Resumes, Takes, Purpose, Busy, Setup, View, in_flight, Reaches, Awaits, RemoveAwaits, ThenOf}
+use Rattle.core_session.proofs.Prelude.{◌≡◌, ◌≤◌, ◌+◌, inl, inr, ℕ, Bool, true, false, List, [], ◌∷◌, ◌++◌, length, Option, Some, None, slice_get, Result, Ok, Err, refl, sym, ap, subst, ◌∙◌, arith, Attr, DirKept, Opens, Waiting, waiting_at, Answer, Fault, Entry, Began, Call, Reply, Op, Asked, UnderWay, EndsWith, Asked-grow, Asked-wide, length_last, Step, Shelf, Turn, Deed, Look, Seek, Move, RemoveFile, WalkStep, found_by, look_again, Mounted, Machine, NameMachine, machine_of, Starts, Resumes, Takes, Purpose, Busy, Setup, View, in_flight, Reaches, Awaits, RemoveAwaits, ThenOf}
 use Rattle.name_ops.specs.declared.remove_file.Deed.TheVariants.{Remove}
 use Rattle.name_ops.specs.Looking.{look_up}
 use Rattle.core_facts.specs.InFlight.{one_if}
@@ -8,8 +8,8 @@ use Rattle.nfs_dir_calls.specs.declared.keeping.DirKept.TheVariants as kept
 use Rattle.silly_rename.specs.Plans.{plan_of}
 use Rattle.world_model.specs.declared.message.Reply.TheVariants as replies
 use Rattle.world_model.specs.declared.op.Op.TheVariants as ops
-use Rattle.client_shelf.specs.declared.next.Next.TheVariants as nexts
-use Rattle.name_ops.specs.declared.walk.WalkNext.TheVariants as walks
+use Rattle.client_shelf.specs.declared.step.Step.TheVariants as nexts
+use Rattle.name_ops.specs.declared.walk.WalkStep.TheVariants as walks
 use Rattle.name_ops.specs.RemoveFile as removals
 use Rattle.name_ops.specs.Walking as walking
 use Rattle.op_machines.specs.declared.machine.Machine.TheVariants as machines
@@ -128,7 +128,7 @@ module _ (h : List Entry) (x : ℕ) where
     first-gave true d name = tt
     first-gave false d name = tt
 
-    follows : (step : WalkNext) (room : Bool) (m : RemoveFile) (opens : Opens) (next : Next) (new : RemoveFile) → removals.Follows step room m opens next new → Has m → Has new
+    follows : (step : WalkStep) (room : Bool) (m : RemoveFile) (opens : Opens) (next : Step) (new : RemoveFile) → removals.Follows step room m opens next new → Has m → Has new
     follows (walks.Send call) room m opens next new f k = has-as m new f.1 k
     follows walks.Wait room m opens next new f k = has-as m new f.1 k
     follows (walks.At dir) room m opens next new f k =
@@ -138,7 +138,7 @@ module _ (h : List Entry) (x : ℕ) where
     none-yet : (m : RemoveFile) → m.deed ≡ None → Has m
     none-yet m is = subst (λ (o : Option Deed). SomeGave h place x m.walk.spot.dir m.name o) (sym is) tt
 
-    goes : (deed : Option Deed) (m : RemoveFile) (turn : Turn) (old : Shelf) (next : Next) (new : RemoveFile) (after : Shelf) → m.deed ≡ deed
+    goes : (deed : Option Deed) (m : RemoveFile) (turn : Turn) (old : Shelf) (next : Step) (new : RemoveFile) (after : Shelf) → m.deed ≡ deed
         → removals.Goes deed m turn old next new after → Has m → Has new
     goes (Some deed) m turn old next new after is g k =
         has-as (removals.asked_after m deed turn.room) new g.machine_is (subst (λ (o : Option Deed). SomeGave h place x m.walk.spot.dir m.name o) is k)
@@ -146,14 +146,14 @@ module _ (h : List Entry) (x : ℕ) where
         follows (walking.go_next m.walk turn old) turn.room (record m { walk = walking.go_after m.walk turn old }) old.opens next new g.follows
         (none-yet (record m { walk = walking.go_after m.walk turn old }) is)
 
-    resumes : (asked : Bool) (m : RemoveFile) (turn : Turn) (old : Shelf) (next : Next) (new : RemoveFile) (after : Shelf) → removals.Resumes asked m turn old next new after → Has m → Has new
+    resumes : (asked : Bool) (m : RemoveFile) (turn : Turn) (old : Shelf) (next : Step) (new : RemoveFile) (after : Shelf) → removals.Resumes asked m turn old next new after → Has m → Has new
     resumes true m turn old next new after r k = has-as m new r.machine_is k
     resumes false m turn old next new after r k = goes m.deed m turn old next new after refl r k
 
     name-as : (op : Op) (to new : NameMachine) → new ≡ to → NameGave h place x op to → NameGave h place x op new
     name-as op to new is k = subst (NameGave h place x op) (sym is) k
 
-    name-goes : (op : Op) (m : NameMachine) (turn : Turn) (old : Shelf) (next : Next) (new : NameMachine) (after : Shelf) → steps.NameGoes m turn old next new after → NameGave h place x op m
+    name-goes : (op : Op) (m : NameMachine) (turn : Turn) (old : Shelf) (next : Step) (new : NameMachine) (after : Shelf) → steps.NameGoes m turn old next new after → NameGave h place x op m
         → NameGave h place x op new
     name-goes op (names.Change m) turn old next new after g k = name-as op _ new g.machine_is tt
     name-goes op (names.Stat m) turn old next new after g k = name-as op _ new g.machine_is tt
@@ -169,14 +169,14 @@ module _ (h : List Entry) (x : ℕ) where
     machine-as : (op : Op) (to new : Machine) → new ≡ to → MachineGave h place x op to → MachineGave h place x op new
     machine-as op to new is k = subst (MachineGave h place x op) (sym is) k
 
-    starts-gave : (op : Op) (wsize : ℕ) (m : Machine) (turn : Turn) (old : Shelf) (next : Next) (new : Machine) (after : Shelf) → Starts wsize m turn old next new after
+    starts-gave : (op : Op) (wsize : ℕ) (m : Machine) (turn : Turn) (old : Shelf) (next : Step) (new : Machine) (after : Shelf) → Starts wsize m turn old next new after
         → MachineGave h place x op m → MachineGave h place x op new
     starts-gave op wsize (machines.File m) turn old next new after s k = machine-as op (machines.File s.machine) new s.machine_is tt
     starts-gave op wsize (machines.Path m) turn old next new after s k = machine-as op (machines.Path s.machine) new s.machine_is tt
     starts-gave op wsize (machines.Name m) turn old next new after s k =
         machine-as op (machines.Name s.machine) new s.machine_is (name-goes op m turn old next s.machine after s.step k)
 
-    resumes-gave : (op : Op) (wsize : ℕ) (m : Machine) (turn : Turn) (old : Shelf) (next : Next) (new : Machine) (after : Shelf) → Resumes wsize m turn old next new after
+    resumes-gave : (op : Op) (wsize : ℕ) (m : Machine) (turn : Turn) (old : Shelf) (next : Step) (new : Machine) (after : Shelf) → Resumes wsize m turn old next new after
         → MachineGave h place x op m → MachineGave h place x op new
     resumes-gave op wsize (machines.File m) turn old next new after s k = machine-as op (machines.File s.machine) new s.machine_is tt
     resumes-gave op wsize (machines.Path m) turn old next new after s k = machine-as op (machines.Path s.machine) new s.machine_is tt
@@ -221,13 +221,13 @@ module _ (h : List Entry) (x : ℕ) where
   plan-gave place true d name file counter found = found
   plan-gave place false d name file counter found = tt
 
-  plans : (place : ℕ) (is_open : Bool) (file : List ℕ) (m : RemoveFile) (room : Bool) (old : Shelf) (next : Next) (new : RemoveFile) (after : Shelf)
+  plans : (place : ℕ) (is_open : Bool) (file : List ℕ) (m : RemoveFile) (room : Bool) (old : Shelf) (next : Step) (new : RemoveFile) (after : Shelf)
       → Gave h x (length h) m.walk.spot.dir m.name file → removals.Plans is_open file m room old next new after → RemovalGave h place x new
   plans place is_open file m room old next new after found p =
       has-as place (removals.asked_after m (removals.deed_of file (plan_of is_open old.counter)) room) new p.machine_is
       (plan-gave place is_open m.walk.spot.dir m.name file old.counter found)
 
-  looked : (place : ℕ) (again : Bool) (told : Result (List ℕ) Fault) (m : RemoveFile) (room : Bool) (old : Shelf) (next : Next) (new : RemoveFile) (after : Shelf)
+  looked : (place : ℕ) (again : Bool) (told : Result (List ℕ) Fault) (m : RemoveFile) (room : Bool) (old : Shelf) (next : Step) (new : RemoveFile) (after : Shelf)
       → ((file : List ℕ) → told ≡ Ok file → Gave h x (length h) m.walk.spot.dir m.name file) → removals.FollowsLook again told m room old next new after → RemovalGave h place x m
       → RemovalGave h place x new
   looked place true told m room old next new after found f k = has-as place m new f.machine_is k
@@ -239,13 +239,13 @@ module _ (h : List Entry) (x : ℕ) where
   missed true file to m room new found is k = has-as (length h) (removals.asked_after m (Move file to) room) new is found
   missed false file to m room new found is k = has-as (length h) m new is k
 
-  sought : (again : Bool) (told : Result (List ℕ) Fault) (file to : List ℕ) (m : RemoveFile) (room : Bool) (old : Shelf) (next : Next) (new : RemoveFile) (after : Shelf)
+  sought : (again : Bool) (told : Result (List ℕ) Fault) (file to : List ℕ) (m : RemoveFile) (room : Bool) (old : Shelf) (next : Step) (new : RemoveFile) (after : Shelf)
       → Gave h x (length h) m.walk.spot.dir m.name file → removals.FollowsSeek again told file to m room old next new after → RemovalGave h (length h) x m → RemovalGave h (length h) x new
   sought true told file to m room old next new after found f k = has-as (length h) m new f.machine_is k
   sought false (Ok other) file to m room old next new after found f k = plans (length h) true file m room old next new after found f
   sought false (Err fault) file to m room old next new after found f k = missed (removals.is_missing fault) file to m room new found f.machine_is k
 
-  deed-takes : (others place : ℕ) (deed : Deed) (m : RemoveFile) (sent turn : Turn) (came : Result Reply Fault) (old : Shelf) (next : Next) (new : RemoveFile) (after : Shelf) (call : Call)
+  deed-takes : (others place : ℕ) (deed : Deed) (m : RemoveFile) (sent turn : Turn) (came : Result Reply Fault) (old : Shelf) (next : Step) (new : RemoveFile) (after : Shelf) (call : Call)
       → place ≤ length h → others ≡ 0 → m.deed ≡ Some deed → call ≡ removals.call_of m deed → IsSince h x came call → removals.TakesDeed deed m sent turn came old next new after
       → RemovalGave h place x m → FromSo others place new
   deed-takes others place Look m sent turn came old next new after call within none is e since t k =
@@ -260,14 +260,14 @@ module _ (h : List Entry) (x : ℕ) where
   deed-takes others place (Move file to) m sent turn came old next new after call within none is e since t k = here others place new within (has-as place m new t.0 k)
   deed-takes others place Remove m sent turn came old next new after call within none is e since t k = here others place new within (has-as place m new t.0 k)
 
-  takes-if : (asked : Bool) (others place : ℕ) (deed : Deed) (m : RemoveFile) (sent turn : Turn) (came : Result Reply Fault) (old : Shelf) (next : Next) (new : RemoveFile) (after : Shelf)
+  takes-if : (asked : Bool) (others place : ℕ) (deed : Deed) (m : RemoveFile) (sent turn : Turn) (came : Result Reply Fault) (old : Shelf) (next : Step) (new : RemoveFile) (after : Shelf)
       (call : Call) → place ≤ length h → one_if asked ≡ others + 1 → m.deed ≡ Some deed → call ≡ removals.call_of m deed → IsSince h x came call
       → removals.TakesIf asked deed m sent turn came old next new after → RemovalGave h place x m → FromSo others place new
   takes-if true others place deed m sent turn came old next new after call within one is e since t k =
       deed-takes others place deed m sent turn came old next new after call within (omega (arith, one)) is e since t k
   takes-if false others place deed m sent turn came old next new after call within one is e since t k = here others place new within (has-as place m new t.machine_is k)
 
-  removal-takes : (deed : Option Deed) (others place : ℕ) (m : RemoveFile) (sent turn : Turn) (came : Result Reply Fault) (old : Shelf) (next : Next) (new : RemoveFile) (after : Shelf)
+  removal-takes : (deed : Option Deed) (others place : ℕ) (m : RemoveFile) (sent turn : Turn) (came : Result Reply Fault) (old : Shelf) (next : Step) (new : RemoveFile) (after : Shelf)
       (call : Call) → place ≤ length h → m.deed ≡ deed → in_flight (machines.Name (names.Remove m)) ≡ others + 1 → RemoveAwaits deed m call → IsSince h x came call
       → removals.Takes deed m sent turn came old next new after → RemovalGave h place x m → FromSo others place new
   removal-takes (Some deed) others place m sent turn came old next new after call within is one e since t k =
@@ -292,7 +292,7 @@ module _ (h : List Entry) (x : ℕ) where
   of-removal : (others place : ℕ) (op : Op) (m : RemoveFile) → IsRemoving op → FromSo others place m → From others place op (machines.Name (names.Remove m))
   of-removal others place op m of f = record { place = f.place; within = f.within; fits = f.fits; holds = (of, f.holds) }
 
-  name-takes : (others place : ℕ) (op : Op) (m : NameMachine) (sent turn : Turn) (came : Result Reply Fault) (old : Shelf) (next : Next) (new : NameMachine) (after : Shelf) (call : Call)
+  name-takes : (others place : ℕ) (op : Op) (m : NameMachine) (sent turn : Turn) (came : Result Reply Fault) (old : Shelf) (next : Step) (new : NameMachine) (after : Shelf) (call : Call)
       → place ≤ length h → in_flight (machines.Name m) ≡ others + 1 → NameAwaits m call → IsSince h x came call → steps.NameTakes m sent turn came old next new after
       → NameGave h place x op m → From others place op (machines.Name new)
   name-takes others place op (names.Change m) sent turn came old next new after call within one e since t k =
@@ -315,7 +315,7 @@ module _ (h : List Entry) (x : ℕ) where
   name-takes others place op (names.List m) sent turn came old next new after call within one e since t k =
       plain-name others place op _ new t.machine_is within tt
 
-  takes-gave : (others place : ℕ) (op : Op) (wsize : ℕ) (m : Machine) (sent turn : Turn) (came : Result Reply Fault) (old : Shelf) (next : Next) (new : Machine) (after : Shelf) (call : Call)
+  takes-gave : (others place : ℕ) (op : Op) (wsize : ℕ) (m : Machine) (sent turn : Turn) (came : Result Reply Fault) (old : Shelf) (next : Step) (new : Machine) (after : Shelf) (call : Call)
       → place ≤ length h → in_flight m ≡ others + 1 → Awaits m call → IsSince h x came call → Takes wsize m sent turn came old next new after → MachineGave h place x op m
       → From others place op new
   takes-gave others place op wsize (machines.File m) sent turn came old next new after call within one e since t k =
@@ -361,7 +361,7 @@ NoShelf h shelf = Unit {0}
 abbrev NoAnswer : List Entry → ℕ → Op → Answer → Type 0
 NoAnswer h x op answer = Unit {0}
 
-then-so : (H : Machine → Type 0) (A : Answer → Type 0) (next : Next) (new : Machine) → H new → ((answer : Answer) → A answer) → ThenOf H A next new
+then-so : (H : Machine → Type 0) (A : Answer → Type 0) (next : Step) (new : Machine) → H new → ((answer : Answer) → A answer) → ThenOf H A next new
 then-so H A (nexts.Send call) new k a = k
 then-so H A nexts.Wait new k a = k
 then-so H A (nexts.Done answer) new k a = a answer

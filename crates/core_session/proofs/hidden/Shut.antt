@@ -1,8 +1,8 @@
 -- As a close comes past its sync no slot holds its file.
-use Rattle.core_session.proofs.Prelude.{◌≡◌, ◌⊎◌, inl, inr, ℕ, Bool, true, false, List, Option, Some, None, Result, Err, refl, sym, ap, subst, ◌∙◌, if◌then◌else◌, Opens, IsOpen, Fault, Reply, Op, of_file, last_end, is_first, goes_again, Next, Shelf, Turn, CloseFile, Closing, Removal, Saving, TellsOpen, refusal_of, remove_busy, file_at, joined, by-step, Mounted, FileMachine, Machine, machine_of, Starts, Resumes, Takes, State, Busy, Over, IsRefused, IsPast}
+use Rattle.core_session.proofs.Prelude.{◌≡◌, ◌⊎◌, inl, inr, ℕ, Bool, true, false, List, Option, Some, None, Result, Err, refl, sym, ap, subst, ◌∙◌, if◌then◌else◌, Opens, IsOpen, Fault, Reply, Op, of_file, last_end, is_first, goes_again, Step, Shelf, Turn, CloseFile, Closing, Removal, Saving, TellsOpen, refusal_of, remove_busy, file_at, joined, by-step, Mounted, FileMachine, Machine, machine_of, Starts, Resumes, Takes, State, Busy, Over, IsRefused, IsPast}
 use Rattle.std.specs.FinMap as finite
 use Rattle.world_model.specs.declared.op.Op.TheVariants as ops
-use Rattle.client_shelf.specs.declared.next.Next.TheVariants as nexts
+use Rattle.client_shelf.specs.declared.step.Step.TheVariants as nexts
 use Rattle.file_ops.specs.declared.close_file.Closing.TheVariants as closing
 use Rattle.file_ops.specs.Closes as closes
 use Rattle.file_ops.specs.Saves as saves
@@ -29,7 +29,7 @@ module _ (f : List ℕ) where
 
   -- ---- past the sync for the first time
 
-  ends-shut : (place : Option (List ℕ × List ℕ)) (lane : ℕ) (room : Bool) (file : List ℕ) (refusal : Option Fault) (old : Shelf) (next : Next) (state : Closing) (new : Shelf)
+  ends-shut : (place : Option (List ℕ × List ℕ)) (lane : ℕ) (room : Bool) (file : List ℕ) (refusal : Option Fault) (old : Shelf) (next : Step) (state : Closing) (new : Shelf)
       → ((its : List ℕ × List ℕ) → place ≡ Some its → IsOpen old.opens file → ⊥) → closes.EndsAt place lane room file refusal old next state new → IsPast f state → IsShut new.opens
   ends-shut None lane room file refusal old next state new told e p = absurd (subst (IsPast f) e.state_is p)
   ends-shut (Some place) lane room file refusal old next state new told e p =
@@ -37,7 +37,7 @@ module _ (f : List ℕ) where
       let same : file ≡ f = past-by f room removal (subst (IsPast f) e.state_is p) in
       subst (λ (s : Shelf). IsShut s.opens) (sym e.shelf_is) (subst (λ (g : List ℕ). IsOpen old.opens g → ⊥) same (told place refl))
 
-  frees-shut : (lane slot : ℕ) (room : Bool) (file : List ℕ) (refusal : Option Fault) (old : Shelf) (next : Next) (state : Closing) (new : Shelf)
+  frees-shut : (lane slot : ℕ) (room : Bool) (file : List ℕ) (refusal : Option Fault) (old : Shelf) (next : Step) (state : Closing) (new : Shelf)
       → closes.Frees lane slot room file refusal old next state new → IsPast f state → IsShut new.opens
   frees-shut lane slot room file refusal old next state new k p =
       ends-shut k.place lane room file refusal k.freed next state new
@@ -47,7 +47,7 @@ module _ (f : List ℕ) where
   not-waits true saving p = p
   not-waits false saving p = p
 
-  follows-shut : (gives : _) (lane slot : ℕ) (room begun : Bool) (saving : Saving) (old : Shelf) (next : Next) (state : Closing) (new : Shelf)
+  follows-shut : (gives : _) (lane slot : ℕ) (room begun : Bool) (saving : Saving) (old : Shelf) (next : Step) (state : Closing) (new : Shelf)
       → closes.Follows gives lane slot room begun saving old next state new → IsPast f state → IsShut new.opens
   follows-shut gives lane slot room begun saving old next state new k p = by-step
       (λ g. closes.Follows g lane slot room begun saving old next state new → IsShut new.opens)
@@ -56,27 +56,27 @@ module _ (f : List ℕ) where
       (λ result l. frees-shut lane slot room saving.file (refusal_of result) old next state new l p)
       gives k
 
-  goes-on-shut : (wsize lane slot : ℕ) (turn : Turn) (begun : Bool) (saving : Saving) (old : Shelf) (next : Next) (state : Closing) (new : Shelf)
+  goes-on-shut : (wsize lane slot : ℕ) (turn : Turn) (begun : Bool) (saving : Saving) (old : Shelf) (next : Step) (state : Closing) (new : Shelf)
       → closes.GoesOn wsize lane slot turn begun saving old next state new → IsPast f state → IsShut new.opens
   goes-on-shut wsize lane slot turn begun saving old next state new g p = follows-shut g.gives lane slot turn.room begun g.saved g.gone next state new g.follows p
 
-  begins-shut : (end : Option ℕ) (wsize lane slot : ℕ) (turn : Turn) (saving : Saving) (old : Shelf) (next : Next) (state : Closing) (new : Shelf)
+  begins-shut : (end : Option ℕ) (wsize lane slot : ℕ) (turn : Turn) (saving : Saving) (old : Shelf) (next : Step) (state : Closing) (new : Shelf)
       → closes.Begins end wsize lane slot turn saving old next state new → IsPast f state → IsShut new.opens
   begins-shut None wsize lane slot turn saving old next state new b p = frees-shut lane slot turn.room saving.file None old next state new b p
   begins-shut (Some end) wsize lane slot turn saving old next state new b p = goes-on-shut wsize lane slot turn false saving old next state new b p
 
-  queues-shut : (first : Bool) (wsize lane slot : ℕ) (turn : Turn) (saving : Saving) (old : Shelf) (next : Next) (state : Closing) (new : Shelf)
+  queues-shut : (first : Bool) (wsize lane slot : ℕ) (turn : Turn) (saving : Saving) (old : Shelf) (next : Step) (state : Closing) (new : Shelf)
       → closes.QueuesIf first wsize lane slot turn saving old next state new → IsPast f state → IsShut new.opens
   queues-shut true wsize lane slot turn saving old next state new q p =
       begins-shut (last_end (of_file saving.file old.back).segments) wsize lane slot turn saving old next state new q p
   queues-shut false wsize lane slot turn saving old next state new q p = absurd (subst (IsPast f) q.state_is p)
 
-  goes-if-shut : (first : Bool) (wsize lane slot : ℕ) (turn : Turn) (saving : Saving) (old : Shelf) (next : Next) (state : Closing) (new : Shelf)
+  goes-if-shut : (first : Bool) (wsize lane slot : ℕ) (turn : Turn) (saving : Saving) (old : Shelf) (next : Step) (state : Closing) (new : Shelf)
       → closes.GoesOnIf first wsize lane slot turn saving old next state new → IsPast f state → IsShut new.opens
   goes-if-shut true wsize lane slot turn saving old next state new g p = goes-on-shut wsize lane slot turn true saving old next state new g p
   goes-if-shut false wsize lane slot turn saving old next state new g p = absurd (subst (IsPast f) g.state_is p)
 
-  starts-at-shut : (found : Option (List ℕ)) (wsize : ℕ) (c : CloseFile) (turn : Turn) (old : Shelf) (next : Next) (state : Closing) (new : Shelf) → c.state ≡ closing.Idle
+  starts-at-shut : (found : Option (List ℕ)) (wsize : ℕ) (c : CloseFile) (turn : Turn) (old : Shelf) (next : Step) (state : Closing) (new : Shelf) → c.state ≡ closing.Idle
       → closes.StartsAt found wsize c turn old next state new → IsPast f state → IsShut new.opens
   starts-at-shut None wsize c turn old next state new idle s p = absurd (subst (IsPast f) (s.state_is ∙ idle) p)
   starts-at-shut (Some file) wsize c turn old next state new idle s p =
@@ -87,7 +87,7 @@ module _ (f : List ℕ) where
   abbrev Was : Closing → Opens → Opens → Type 0
   Was at old new = (IsPast f at × (new ≡ old)) ⊎ IsShut new
 
-  close-resumes : (at : Closing) (wsize : ℕ) (c : CloseFile) (turn : Turn) (old : Shelf) (next : Next) (state : Closing) (new : Shelf) → closes.Resumes at wsize c turn old next state new
+  close-resumes : (at : Closing) (wsize : ℕ) (c : CloseFile) (turn : Turn) (old : Shelf) (next : Step) (state : Closing) (new : Shelf) → closes.Resumes at wsize c turn old next state new
       → IsPast f state → Was at old.opens new.opens
   close-resumes closing.Idle wsize c turn old next state new r p = absurd (subst (IsPast f) r.state_is p)
   close-resumes (closing.Queued saving) wsize c turn old next state new r p = inr (queues-shut (is_first c.lane old.order) wsize c.lane c.slot turn saving old next state new r p)
@@ -96,12 +96,12 @@ module _ (f : List ℕ) where
       inl (past-by f turn.room removal (subst (IsPast f) r.state_is p), ap (λ (s : Shelf). s.opens) r.shelf_is)
   close-resumes (closing.Removing removal) wsize c turn old next state new r p = inl (subst (IsPast f) r.state_is p, ap (λ (s : Shelf). s.opens) r.shelf_is)
 
-  ends-if : (again : Bool) (lane : ℕ) (removal : Removal) (base : Opens) (old : Shelf) (next : Next) (state : Closing) (new : Shelf) → old.opens ≡ base
+  ends-if : (again : Bool) (lane : ℕ) (removal : Removal) (base : Opens) (old : Shelf) (next : Step) (state : Closing) (new : Shelf) → old.opens ≡ base
       → closes.EndsIf again lane removal old next state new → IsPast f state → Was (closing.Removing removal) base new.opens
   ends-if true lane removal base old next state new same e p = inl (subst (IsPast f) e.state_is p, ap (λ (s : Shelf). s.opens) e.shelf_is ∙ same)
   ends-if false lane removal base old next state new same e p = absurd (subst (IsPast f) e.state_is p)
 
-  close-takes : (at : Closing) (wsize : ℕ) (c : CloseFile) (sent turn : Turn) (came : Result Reply Fault) (old : Shelf) (next : Next) (state : Closing) (new : Shelf)
+  close-takes : (at : Closing) (wsize : ℕ) (c : CloseFile) (sent turn : Turn) (came : Result Reply Fault) (old : Shelf) (next : Step) (state : Closing) (new : Shelf)
       → closes.Takes at wsize c sent turn came old next state new → IsPast f state → Was at old.opens new.opens
   close-takes closing.Idle wsize c sent turn came old next state new t p = absurd (subst (IsPast f) t.state_is p)
   close-takes (closing.Queued saving) wsize c sent turn came old next state new t p = absurd (subst (IsPast f) t.state_is p)
@@ -135,7 +135,7 @@ module _ (f : List ℕ) (slot : ℕ) where
   abbrev pub PastOr : Type 0 → Opens → Opens → Type 0
   PastOr A old new = (A × (new ≡ old)) ⊎ IsShut f new
 
-  file-resumes : (wsize : ℕ) (m : FileMachine) (turn : Turn) (old : Shelf) (next : Next) (new : FileMachine) (after : Shelf) → steps.Resumes wsize m turn old next new after → FilePast new
+  file-resumes : (wsize : ℕ) (m : FileMachine) (turn : Turn) (old : Shelf) (next : Step) (new : FileMachine) (after : Shelf) → steps.Resumes wsize m turn old next new after → FilePast new
       → PastOr (FilePast m) old.opens after.opens
   file-resumes wsize (files.Close c) turn old next new after s p = by (subst FilePast s.machine_is p)
     where
@@ -151,7 +151,7 @@ module _ (f : List ℕ) (slot : ℕ) where
   file-resumes wsize (files.Truncate c) turn old next new after s p = absurd (subst FilePast s.machine_is p)
   file-resumes wsize (files.Put c) turn old next new after s p = absurd (subst FilePast s.machine_is p)
 
-  file-takes : (wsize : ℕ) (m : FileMachine) (sent turn : Turn) (came : Result Reply Fault) (old : Shelf) (next : Next) (new : FileMachine) (after : Shelf)
+  file-takes : (wsize : ℕ) (m : FileMachine) (sent turn : Turn) (came : Result Reply Fault) (old : Shelf) (next : Step) (new : FileMachine) (after : Shelf)
       → steps.Takes wsize m sent turn came old next new after → FilePast new → PastOr (FilePast m) old.opens after.opens
   file-takes wsize (files.Close c) sent turn came old next new after s p = by (subst FilePast s.machine_is p)
     where
@@ -168,7 +168,7 @@ module _ (f : List ℕ) (slot : ℕ) where
   file-takes wsize (files.Put c) sent turn came old next new after s p = absurd (subst FilePast s.machine_is p)
 
   -- a close that begins, which isn't past anything
-  file-starts : (wsize : ℕ) (m : FileMachine) (turn : Turn) (old : Shelf) (next : Next) (new : FileMachine) (after : Shelf) → ((c : CloseFile) → m ≡ files.Close c → c.state ≡ closing.Idle)
+  file-starts : (wsize : ℕ) (m : FileMachine) (turn : Turn) (old : Shelf) (next : Step) (new : FileMachine) (after : Shelf) → ((c : CloseFile) → m ≡ files.Close c → c.state ≡ closing.Idle)
       → steps.Starts wsize m turn old next new after → FilePast new → IsShut f after.opens
   file-starts wsize (files.Close c) turn old next new after idle s p =
       starts-at-shut f (file_at c.lane c.slot old.opens) wsize c turn old next s.state after (idle c refl) s.step (subst FilePast s.machine_is p).0
@@ -179,13 +179,13 @@ module _ (f : List ℕ) (slot : ℕ) where
   file-starts wsize (files.Truncate c) turn old next new after idle s p = absurd (subst FilePast s.machine_is p)
   file-starts wsize (files.Put c) turn old next new after idle s p = absurd (subst FilePast s.machine_is p)
 
-  pub resumes-past : (wsize : ℕ) (m : Machine) (turn : Turn) (old : Shelf) (next : Next) (new : Machine) (after : Shelf) → Resumes wsize m turn old next new after → MachinePast new
+  pub resumes-past : (wsize : ℕ) (m : Machine) (turn : Turn) (old : Shelf) (next : Step) (new : Machine) (after : Shelf) → Resumes wsize m turn old next new after → MachinePast new
       → PastOr (MachinePast m) old.opens after.opens
   resumes-past wsize (machines.File m) turn old next new after s p = file-resumes wsize m turn old next s.machine after s.step (subst MachinePast s.machine_is p)
   resumes-past wsize (machines.Path m) turn old next new after s p = absurd (subst MachinePast s.machine_is p)
   resumes-past wsize (machines.Name m) turn old next new after s p = absurd (subst MachinePast s.machine_is p)
 
-  pub takes-past : (wsize : ℕ) (m : Machine) (sent turn : Turn) (came : Result Reply Fault) (old : Shelf) (next : Next) (new : Machine) (after : Shelf)
+  pub takes-past : (wsize : ℕ) (m : Machine) (sent turn : Turn) (came : Result Reply Fault) (old : Shelf) (next : Step) (new : Machine) (after : Shelf)
       → Takes wsize m sent turn came old next new after → MachinePast new → PastOr (MachinePast m) old.opens after.opens
   takes-past wsize (machines.File m) sent turn came old next new after s p = file-takes wsize m sent turn came old next s.machine after s.step (subst MachinePast s.machine_is p)
   takes-past wsize (machines.Path m) sent turn came old next new after s p = absurd (subst MachinePast s.machine_is p)
@@ -214,32 +214,32 @@ module _ (f : List ℕ) (slot : ℕ) where
   idle-close m lane (ops.ReadLink path) file is c same = absurd (let no_way = is ∙ ap machines.File same in cc)
   idle-close m lane (ops.List path) file is c same = absurd (let no_way = is ∙ ap machines.File same in cc)
 
-  starts-machine : (mounted : Mounted) (lane : ℕ) (op : Op) (m : Machine) (wsize : ℕ) (turn : Turn) (old : Shelf) (next : Next) (new : Machine) (after : Shelf)
+  starts-machine : (mounted : Mounted) (lane : ℕ) (op : Op) (m : Machine) (wsize : ℕ) (turn : Turn) (old : Shelf) (next : Step) (new : Machine) (after : Shelf)
       → machine_of mounted lane op ≡ m → Starts wsize m turn old next new after → MachinePast new → IsShut f after.opens
   starts-machine mounted lane op (machines.File m) wsize turn old next new after is s p =
       file-starts wsize m turn old next s.machine after (idle-close mounted lane op m is) s.step (subst MachinePast s.machine_is p)
   starts-machine mounted lane op (machines.Path m) wsize turn old next new after is s p = absurd (subst MachinePast s.machine_is p)
   starts-machine mounted lane op (machines.Name m) wsize turn old next new after is s p = absurd (subst MachinePast s.machine_is p)
 
-  pub starts-past : (mounted : Mounted) (lane : ℕ) (op : Op) (wsize : ℕ) (turn : Turn) (old : Shelf) (next : Next) (new : Machine) (after : Shelf)
+  pub starts-past : (mounted : Mounted) (lane : ℕ) (op : Op) (wsize : ℕ) (turn : Turn) (old : Shelf) (next : Step) (new : Machine) (after : Shelf)
       → Starts wsize (machine_of mounted lane op) turn old next new after → MachinePast new → IsShut f after.opens
   starts-past mounted lane op wsize turn old next new after s p = starts-machine mounted lane op (machine_of mounted lane op) wsize turn old next new after refl s p
 
   -- ---- a step of a lane
 
-  settled : (next : Next) (new : Machine) (state : State) → Settles next new state → StatePast state → MachinePast new
+  settled : (next : Step) (new : Machine) (state : State) → Settles next new state → StatePast state → MachinePast new
   settled (nexts.Send call) new state is p = subst StatePast is p
   settled nexts.Wait new state is p = subst StatePast is p
   settled (nexts.Done answer) new state is p = absurd (subst StatePast is p)
 
-  refused : (next : Next) (new : Machine) (state : State) → IsRefused new next state → StatePast state → MachinePast new
+  refused : (next : Step) (new : Machine) (state : State) → IsRefused new next state → StatePast state → MachinePast new
   refused (nexts.Send call) new state is p = absurd is
   refused nexts.Wait new state is p = subst StatePast is p
   refused (nexts.Done answer) new state is p = absurd (subst StatePast is p)
 
   -- A holds of the operation before, where it was past its sync
-  pub led-past : (A : Type 0) (wsize : ℕ) (old : Opens) (S : Next → Machine → Shelf → Type 0)
-      → ((next : Next) (new : Machine) (after : Shelf) → S next new after → MachinePast new → PastOr A old after.opens) → (state : State) (after : Shelf) → Leading wsize S state after
+  pub led-past : (A : Type 0) (wsize : ℕ) (old : Opens) (S : Step → Machine → Shelf → Type 0)
+      → ((next : Step) (new : Machine) (after : Shelf) → S next new after → MachinePast new → PastOr A old after.opens) → (state : State) (after : Shelf) → Leading wsize S state after
       → StatePast state → PastOr A old after.opens
   led-past A wsize old S step state after (settles next new s is) p = step next new after s (settled next new state is p)
   led-past A wsize old S step state after (unmade call mid between sent turn fault next new s takes is) p =

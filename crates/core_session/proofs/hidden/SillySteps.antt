@@ -1,5 +1,5 @@
 -- What holds of each place where a file is hidden holds of those that closes take from there: which steps change them.
-use Rattle.core_session.proofs.Prelude.{◌≡◌, ◌-◌, ◌⊎◌, inl, inr, ℕ, Bool, true, false, cond, List, Option, Some, None, Result, Ok, Err, refl, sym, ap, subst, ◌∙◌, if◌then◌else◌, Fault, Reply, of_file, last_end, Next, Shelf, Turn, is_first, goes_again, Removal, CloseFile, Closing, Saving, remove_busy, refusal_of, file_to_write, file_at, joined, by-step, RemoveFile, WalkNext, FileMachine, Machine, Opener, PathMachine, file_of, begun_at, slot_taken, Starts, Resumes, Takes}
+use Rattle.core_session.proofs.Prelude.{◌≡◌, ◌-◌, ◌⊎◌, inl, inr, ℕ, Bool, true, false, cond, List, Option, Some, None, Result, Ok, Err, refl, sym, ap, subst, ◌∙◌, if◌then◌else◌, Fault, Reply, of_file, last_end, Step, Shelf, Turn, is_first, goes_again, Removal, CloseFile, Closing, Saving, remove_busy, refusal_of, file_to_write, file_at, joined, by-step, RemoveFile, WalkStep, FileMachine, Machine, Opener, PathMachine, file_of, begun_at, slot_taken, Starts, Resumes, Takes}
 use Rattle.file_ops.specs.Closings.{Places}
 use Rattle.op_machines.specs.Openers.{placed}
 use Rattle.std.specs.FinMap as finite
@@ -10,7 +10,7 @@ use Rattle.file_ops.specs.declared.close_file.Closing.TheVariants as closing
 use Rattle.file_ops.specs.Closes as closes
 use Rattle.file_ops.specs.Saves as saves
 use Rattle.file_ops.specs.TruncateFile as truncates
-use Rattle.name_ops.specs.declared.walk.WalkNext.TheVariants as walks
+use Rattle.name_ops.specs.declared.walk.WalkStep.TheVariants as walks
 use Rattle.name_ops.specs.Walking as walking
 use Rattle.op_machines.specs.declared.file_machine.FileMachine.TheVariants as files
 use Rattle.op_machines.specs.declared.machine.Machine.TheVariants as machines
@@ -92,14 +92,14 @@ module _ (B : List ℕ → List ℕ → List ℕ → Type 0) where
   asks-as true removal has = has
   asks-as false removal has = has
 
-  ends-at : (place : Option (List ℕ × List ℕ)) (lane : ℕ) (room : Bool) (file : List ℕ) (refusal : Option Fault) (old : Shelf) (next : Next) (state : Closing) (new : Shelf)
+  ends-at : (place : Option (List ℕ × List ℕ)) (lane : ℕ) (room : Bool) (file : List ℕ) (refusal : Option Fault) (old : Shelf) (next : Step) (state : Closing) (new : Shelf)
       → ((d name : List ℕ) → place ≡ Some (d, name) → B file d name) → AllHidden old.silly → closes.EndsAt place lane room file refusal old next state new → After state new
   ends-at None lane room file refusal old next state new at all e = to-state closing.Idle state old new e.state_is (ap (λ (k : Shelf). k.silly) e.others) all tt
   ends-at (Some place) lane room file refusal old next state new at all e =
       to-state (closes.ask_state room (record { file = file; dir = place.0; name = place.1; refusal = refusal })) state old new e.state_is (ap (λ (k : Shelf). k.silly) e.shelf_is) all
       (asks-as room (record { file = file; dir = place.0; name = place.1; refusal = refusal }) (at place.0 place.1 refl))
 
-  frees : (lane slot : ℕ) (room : Bool) (file : List ℕ) (refusal : Option Fault) (old : Shelf) (next : Next) (state : Closing) (new : Shelf) → AllHidden old.silly
+  frees : (lane slot : ℕ) (room : Bool) (file : List ℕ) (refusal : Option Fault) (old : Shelf) (next : Step) (state : Closing) (new : Shelf) → AllHidden old.silly
       → closes.Frees lane slot room file refusal old next state new → After state new
   frees lane slot room file refusal old next state new all f = ends-at f.place lane room file refusal f.freed next state new told freed f.ends
     where
@@ -121,7 +121,7 @@ module _ (B : List ℕ → List ℕ → List ℕ → Type 0) where
   waits-as true saving = tt
   waits-as false saving = tt
 
-  follows : (gives : _) (lane slot : ℕ) (room begun : Bool) (saving : Saving) (old : Shelf) (next : Next) (state : Closing) (new : Shelf) → AllHidden old.silly
+  follows : (gives : _) (lane slot : ℕ) (room begun : Bool) (saving : Saving) (old : Shelf) (next : Step) (state : Closing) (new : Shelf) → AllHidden old.silly
       → closes.Follows gives lane slot room begun saving old next state new → After state new
   follows gives lane slot room begun saving old next state new all f = by-step (λ g. closes.Follows g lane slot room begun saving old next state new → After state new)
       (λ call l. to-state (closing.Saves saving) state old new l.1 (ap (λ (k : Shelf). k.silly) l.2) all tt)
@@ -129,12 +129,12 @@ module _ (B : List ℕ → List ℕ → List ℕ → Type 0) where
       (λ result l. frees lane slot room saving.file (refusal_of result) old next state new all l)
       gives f
 
-  goes-on : (wsize lane slot : ℕ) (turn : Turn) (begun : Bool) (saving : Saving) (old : Shelf) (next : Next) (state : Closing) (new : Shelf) → AllHidden old.silly
+  goes-on : (wsize lane slot : ℕ) (turn : Turn) (begun : Bool) (saving : Saving) (old : Shelf) (next : Step) (state : Closing) (new : Shelf) → AllHidden old.silly
       → closes.GoesOn wsize lane slot turn begun saving old next state new → After state new
   goes-on wsize lane slot turn begun saving old next state new all g =
       follows g.gives lane slot turn.room begun g.saved g.gone next state new (same-all old g.gone (ap (λ (k : Shelf). k.silly) g.others) all) g.follows
 
-  queues : (b : Bool) (wsize lane slot : ℕ) (turn : Turn) (saving : Saving) (old : Shelf) (next : Next) (state : Closing) (new : Shelf) → AllHidden old.silly
+  queues : (b : Bool) (wsize lane slot : ℕ) (turn : Turn) (saving : Saving) (old : Shelf) (next : Step) (state : Closing) (new : Shelf) → AllHidden old.silly
       → closes.QueuesIf b wsize lane slot turn saving old next state new → After state new
   queues false wsize lane slot turn saving old next state new all q = to-state (closing.Queued saving) state old new q.state_is (ap (λ (k : Shelf). k.silly) q.shelf_is) all tt
   queues true wsize lane slot turn saving old next state new all q = by (last_end (of_file saving.file old.back).segments) q
@@ -143,7 +143,7 @@ module _ (B : List ℕ → List ℕ → List ℕ → Type 0) where
       by None b = frees lane slot turn.room saving.file None old next state new all b
       by (Some end) b = goes-on wsize lane slot turn false saving old next state new all b
 
-  close-starts : (wsize : ℕ) (m : CloseFile) (turn : Turn) (old : Shelf) (next : Next) (state : Closing) (new : Shelf) → AllHidden old.silly → CloseHas m.state
+  close-starts : (wsize : ℕ) (m : CloseFile) (turn : Turn) (old : Shelf) (next : Step) (state : Closing) (new : Shelf) → AllHidden old.silly → CloseHas m.state
       → closes.Starts wsize m turn old next state new → After state new
   close-starts wsize m turn old next state new all has s = by (file_at m.lane m.slot old.opens) s
     where
@@ -151,7 +151,7 @@ module _ (B : List ℕ → List ℕ → List ℕ → Type 0) where
       by None s = to-state m.state state old new s.state_is (ap (λ (k : Shelf). k.silly) s.shelf_is) all has
       by (Some file) s = queues (is_first m.lane (joined m.lane file old).order) wsize m.lane m.slot turn (saves.begun file old.seq) (joined m.lane file old) next state new all s
 
-  close-resumes : (at : Closing) (wsize : ℕ) (m : CloseFile) (turn : Turn) (old : Shelf) (next : Next) (state : Closing) (new : Shelf) → AllHidden old.silly → CloseHas at
+  close-resumes : (at : Closing) (wsize : ℕ) (m : CloseFile) (turn : Turn) (old : Shelf) (next : Step) (state : Closing) (new : Shelf) → AllHidden old.silly → CloseHas at
       → closes.Resumes at wsize m turn old next state new → After state new
   close-resumes closing.Idle wsize m turn old next state new all has r = to-state closing.Idle state old new r.state_is (ap (λ (k : Shelf). k.silly) r.shelf_is) all tt
   close-resumes (closing.Queued saving) wsize m turn old next state new all has r = queues (is_first m.lane old.order) wsize m.lane m.slot turn saving old next state new all r
@@ -165,7 +165,7 @@ module _ (B : List ℕ → List ℕ → List ℕ → Type 0) where
   close-resumes (closing.Removing removal) wsize m turn old next state new all has r =
       to-state (closing.Removing removal) state old new r.state_is (ap (λ (k : Shelf). k.silly) r.shelf_is) all has
 
-  close-takes : (at : Closing) (wsize : ℕ) (m : CloseFile) (sent turn : Turn) (came : Result Reply Fault) (old : Shelf) (next : Next) (state : Closing) (new : Shelf) → AllHidden old.silly
+  close-takes : (at : Closing) (wsize : ℕ) (m : CloseFile) (sent turn : Turn) (came : Result Reply Fault) (old : Shelf) (next : Step) (state : Closing) (new : Shelf) → AllHidden old.silly
       → CloseHas at → closes.Takes at wsize m sent turn came old next state new → After state new
   close-takes closing.Idle wsize m sent turn came old next state new all has t = to-state closing.Idle state old new t.state_is (ap (λ (k : Shelf). k.silly) t.shelf_is) all tt
   close-takes (closing.Queued saving) wsize m sent turn came old next state new all has t =
@@ -196,7 +196,7 @@ module _ (B : List ℕ → List ℕ → List ℕ → Type 0) where
   begun-silly (Ok file) m old = refl
   begun-silly (Err fault) m old = refl
 
-  file-starts : (wsize : ℕ) (m : FileMachine) (turn : Turn) (old : Shelf) (next : Next) (new : FileMachine) (after : Shelf) → steps.Starts wsize m turn old next new after → AllHidden old.silly
+  file-starts : (wsize : ℕ) (m : FileMachine) (turn : Turn) (old : Shelf) (next : Step) (new : FileMachine) (after : Shelf) → steps.Starts wsize m turn old next new after → AllHidden old.silly
       → FileHas m → FileLeft new after
   file-starts wsize (files.Open m) turn old next new after s all has = file-to _ new after s.machine_is (same-all old after (ap (λ (k : Shelf). k.silly) s.shelf_is) all) tt
   file-starts wsize (files.Read m) turn old next new after s all has = file-to _ new after s.machine_is (same-all old after (ap (λ (k : Shelf). k.silly) s.others) all) tt
@@ -210,7 +210,7 @@ module _ (B : List ℕ → List ℕ → List ℕ → Type 0) where
       file-to _ new after s.machine_is (same-all old after (ap (λ (k : Shelf). k.silly) s.shelf_is ∙ begun-silly (truncates.found_file m old) m old) all) tt
   file-starts wsize (files.Put m) turn old next new after s all has = file-to _ new after s.machine_is (same-all old after (ap (λ (k : Shelf). k.silly) s.shelf_is) all) tt
 
-  file-resumes : (wsize : ℕ) (m : FileMachine) (turn : Turn) (old : Shelf) (next : Next) (new : FileMachine) (after : Shelf) → steps.Resumes wsize m turn old next new after → AllHidden old.silly
+  file-resumes : (wsize : ℕ) (m : FileMachine) (turn : Turn) (old : Shelf) (next : Step) (new : FileMachine) (after : Shelf) → steps.Resumes wsize m turn old next new after → AllHidden old.silly
       → FileHas m → FileLeft new after
   file-resumes wsize (files.Open m) turn old next new after s all has = file-to _ new after s.machine_is (same-all old after (ap (λ (k : Shelf). k.silly) s.shelf_is) all) tt
   file-resumes wsize (files.Read m) turn old next new after s all has = file-to _ new after s.machine_is (same-all old after (ap (λ (k : Shelf). k.silly) s.others) all) tt
@@ -224,7 +224,7 @@ module _ (B : List ℕ → List ℕ → List ℕ → Type 0) where
   file-resumes wsize (files.Put m) turn old next new after s all has =
       file-to (files.Put s.machine) new after s.machine_is (same-all old after (on_files.put-resumes m.state wsize m turn old next s.machine after s.step) all) tt
 
-  file-takes : (wsize : ℕ) (m : FileMachine) (sent turn : Turn) (came : Result Reply Fault) (old : Shelf) (next : Next) (new : FileMachine) (after : Shelf)
+  file-takes : (wsize : ℕ) (m : FileMachine) (sent turn : Turn) (came : Result Reply Fault) (old : Shelf) (next : Step) (new : FileMachine) (after : Shelf)
       → steps.Takes wsize m sent turn came old next new after → AllHidden old.silly → FileHas m → FileLeft new after
   file-takes wsize (files.Open m) sent turn came old next new after s all has = file-to _ new after s.machine_is (same-all old after (ap (λ (k : Shelf). k.silly) s.others) all) tt
   file-takes wsize (files.Read m) sent turn came old next new after s all has = file-to _ new after s.machine_is (same-all old after (ap (λ (k : Shelf). k.silly) s.others) all) tt
@@ -252,7 +252,7 @@ module _ (B : List ℕ → List ℕ → List ℕ → Type 0) where
   machine-to : (to new : Machine) (shelf : Shelf) → new ≡ to → AllHidden shelf.silly → Removes to → Left new shelf
   machine-to to new shelf is all has = (all, subst Removes (sym is) has)
 
-  follows-path : (step : WalkNext) (wsize : ℕ) (m : PathMachine) (turn : Turn) (old : Shelf) (next : Next) (new : PathMachine) (after : Shelf) → paths.Follows step wsize m turn old next new after
+  follows-path : (step : WalkStep) (wsize : ℕ) (m : PathMachine) (turn : Turn) (old : Shelf) (next : Step) (new : PathMachine) (after : Shelf) → paths.Follows step wsize m turn old next new after
       → AllHidden old.silly → AllHidden after.silly
   follows-path (walks.Send call) wsize m turn old next new after f all = same-all old after (ap (λ (k : Shelf). k.silly) f.2) all
   follows-path walks.Wait wsize m turn old next new after f all = same-all old after (ap (λ (k : Shelf). k.silly) f.2) all
@@ -260,25 +260,25 @@ module _ (B : List ℕ → List ℕ → List ℕ → Type 0) where
       (file-resumes wsize (file_of (placed dir m.opener)) turn old next (file_of f.opener) after f.step all (no-close (placed dir m.opener))).0
   follows-path (walks.Refused fault) wsize m turn old next new after f all = same-all old after (ap (λ (k : Shelf). k.silly) f.2) all
 
-  path-resumes : (b : Bool) (wsize : ℕ) (m : PathMachine) (turn : Turn) (old : Shelf) (next : Next) (new : PathMachine) (after : Shelf) → paths.PathResumes b wsize m turn old next new after
+  path-resumes : (b : Bool) (wsize : ℕ) (m : PathMachine) (turn : Turn) (old : Shelf) (next : Step) (new : PathMachine) (after : Shelf) → paths.PathResumes b wsize m turn old next new after
       → AllHidden old.silly → AllHidden after.silly
   path-resumes true wsize m turn old next new after r all = (file-resumes wsize (file_of m.opener) turn old next (file_of r.opener) after r.step all (no-close m.opener)).0
   path-resumes false wsize m turn old next new after r all =
       follows-path (walking.go_next m.walk turn old) wsize (record m { walk = walking.go_after m.walk turn old }) turn (walking.go_shelf m.walk turn old) next new after r all
 
-  path-starts : (taken : Bool) (wsize : ℕ) (m : PathMachine) (turn : Turn) (old : Shelf) (next : Next) (new : PathMachine) (after : Shelf) → paths.StartsIf taken wsize m turn old next new after
+  path-starts : (taken : Bool) (wsize : ℕ) (m : PathMachine) (turn : Turn) (old : Shelf) (next : Step) (new : PathMachine) (after : Shelf) → paths.StartsIf taken wsize m turn old next new after
       → AllHidden old.silly → AllHidden after.silly
   path-starts true wsize m turn old next new after s all = same-all old after (ap (λ (k : Shelf). k.silly) s.2) all
   path-starts false wsize m turn old next new after s all = path-resumes m.arrived wsize (record m { opener = begun_at (turn.moment - 1) m.opener }) turn old next new after s all
 
-  path-takes : (b : Bool) (wsize : ℕ) (m : PathMachine) (sent turn : Turn) (came : Result Reply Fault) (old : Shelf) (next : Next) (new : PathMachine) (after : Shelf)
+  path-takes : (b : Bool) (wsize : ℕ) (m : PathMachine) (sent turn : Turn) (came : Result Reply Fault) (old : Shelf) (next : Step) (new : PathMachine) (after : Shelf)
       → paths.PathTakes b wsize m sent turn came old next new after → AllHidden old.silly → AllHidden after.silly
   path-takes true wsize m sent turn came old next new after t all = (file-takes wsize (file_of m.opener) sent turn came old next (file_of t.opener) after t.step all (no-close m.opener)).0
   path-takes false wsize m sent turn came old next new after t all =
       follows-path t.step wsize t.walked turn t.heard next new after t.follows
       (same-all old t.heard (on_names.walk-silly (walking.waiting_name m.walk) m.walk sent turn came old t.step t.walked.walk t.heard t.takes) all)
 
-  pub starts-silly : (wsize : ℕ) (m : Machine) (turn : Turn) (old : Shelf) (next : Next) (new : Machine) (after : Shelf) → Starts wsize m turn old next new after → AllHidden old.silly → Removes m
+  pub starts-silly : (wsize : ℕ) (m : Machine) (turn : Turn) (old : Shelf) (next : Step) (new : Machine) (after : Shelf) → Starts wsize m turn old next new after → AllHidden old.silly → Removes m
       → Left new after
   starts-silly wsize (machines.File m) turn old next new after s all has =
       let k = file-starts wsize m turn old next s.machine after s.step all has in machine-to (machines.File s.machine) new after s.machine_is k.0 k.1
@@ -287,7 +287,7 @@ module _ (B : List ℕ → List ℕ → List ℕ → Type 0) where
   starts-silly wsize (machines.Name m) turn old next new after s all has =
       machine-to (machines.Name s.machine) new after s.machine_is (same-all old after (on_names.name-goes m turn old next s.machine after s.step) all) tt
 
-  pub resumes-silly : (wsize : ℕ) (m : Machine) (turn : Turn) (old : Shelf) (next : Next) (new : Machine) (after : Shelf) → Resumes wsize m turn old next new after → AllHidden old.silly → Removes m
+  pub resumes-silly : (wsize : ℕ) (m : Machine) (turn : Turn) (old : Shelf) (next : Step) (new : Machine) (after : Shelf) → Resumes wsize m turn old next new after → AllHidden old.silly → Removes m
       → Left new after
   resumes-silly wsize (machines.File m) turn old next new after s all has =
       let k = file-resumes wsize m turn old next s.machine after s.step all has in machine-to (machines.File s.machine) new after s.machine_is k.0 k.1
@@ -297,7 +297,7 @@ module _ (B : List ℕ → List ℕ → List ℕ → Type 0) where
       machine-to (machines.Name s.machine) new after s.machine_is (same-all old after (on_names.name-goes m turn old next s.machine after s.step) all) tt
 
   -- where a remove has hidden its file, that is one of those too
-  pub takes-silly : (wsize : ℕ) (m : Machine) (sent turn : Turn) (came : Result Reply Fault) (old : Shelf) (next : Next) (new : Machine) (after : Shelf) → Takes wsize m sent turn came old next new after
+  pub takes-silly : (wsize : ℕ) (m : Machine) (sent turn : Turn) (came : Result Reply Fault) (old : Shelf) (next : Step) (new : Machine) (after : Shelf) → Takes wsize m sent turn came old next new after
       → ((r : RemoveFile) → m ≡ machines.Name (names.Remove r) → Moved r sent turn came old next after → AllHidden after.silly) → AllHidden old.silly → Removes m → Left new after
   takes-silly wsize (machines.File m) sent turn came old next new after t moved all has =
       let k = file-takes wsize m sent turn came old next t.machine after t.step all has in machine-to (machines.File t.machine) new after t.machine_is k.0 k.1

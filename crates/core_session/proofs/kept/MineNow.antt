@@ -1,11 +1,11 @@
 -- The call that a record answers, and the machine that waits for it, as in `current.Good` of core_session.
-use Rattle.core_session.proofs.Prelude.{◌≡◌, false, ℕ, List, Some, option_map, slice_get, sym, ap, Waiting, waiting_at, Pending, Entry, Next, Mounted, Machine, machine_of, Purpose, Busy, Setup, View, Reaches, IsMade, begins-unbegun, reached-kept, ThenOf, IsSentAs, Both, both-asks}
-use Rattle.client_shelf.specs.declared.next.Next.TheVariants as nexts
+use Rattle.core_session.proofs.Prelude.{◌≡◌, false, ℕ, List, Some, option_map, slice_get, sym, ap, Waiting, waiting_at, Pending, Entry, Step, Mounted, Machine, machine_of, Purpose, Busy, Setup, View, Reaches, IsMade, begins-unbegun, reached-kept, ThenOf, IsSentAs, Both, both-asks}
+use Rattle.client_shelf.specs.declared.step.Step.TheVariants as nexts
 use Rattle.core_facts.proofs.Flown.{Flown, keeps-flown}
 use Rattle.core_answers.proofs.pages.Keeping as keeping
 use Rattle.core_answers.proofs.pages.PiecesCalled.{called-sent}
 
-no-story : (next : Next) (new : Machine) → ThenOf (λ k. Unit {0}) (λ a. Unit {0}) next new
+no-story : (next : Step) (new : Machine) → ThenOf (λ k. Unit {0}) (λ a. Unit {0}) next new
 no-story (nexts.Send call) new = tt
 no-story nexts.Wait new = tt
 no-story (nexts.Done answer) new = tt

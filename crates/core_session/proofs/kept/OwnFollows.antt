@@ -1,5 +1,5 @@
 -- What a step makes of the pages of its file, at the reply to an own change.
-use Rattle.core_session.proofs.Prelude.{◌≡◌, ◌-◌, ℕ, true, false, List, [], Some, slice_get, Result, Ok, Err, refl, sym, subst, ◌∙◌, Verf, Wcc, FileCall, FileKept, Waiting, waiting_at, Pages, cut, Fault, Entry, Call, Reply, SpellsCall, one_file_call, Next, Shelf, Turn, Mounted, Machine, machine_of, Takes, Purpose, Busy, Setup, View, Reaches, IsMade, begins-unbegun, flies_of, Known, reached-good, NoCall, NoShelf, NoStory, no-laws, CallFits, fits-laws}
+use Rattle.core_session.proofs.Prelude.{◌≡◌, ◌-◌, ℕ, true, false, List, [], Some, slice_get, Result, Ok, Err, refl, sym, subst, ◌∙◌, Verf, Wcc, FileCall, FileKept, Waiting, waiting_at, Pages, cut, Fault, Entry, Call, Reply, SpellsCall, one_file_call, Step, Shelf, Turn, Mounted, Machine, machine_of, Takes, Purpose, Busy, Setup, View, Reaches, IsMade, begins-unbegun, flies_of, Known, reached-good, NoCall, NoShelf, NoStory, no-laws, CallFits, fits-laws}
 use Rattle.page_cache.specs.Pages.{wrote}
 use Rattle.nfs_file_calls.specs.declared.call.FileCall.TheVariants as files
 use Rattle.nfs_file_calls.specs.declared.owned.FileKept.TheVariants as kept
@@ -18,7 +18,7 @@ Follows mounted setup f change reply wcc = (T : Pages → Type 0) → (h : List 
     → (came : Result Reply Fault) → ((its : FileKept) → came ≡ Ok (replies.File its) → replies.File its ≡ replies.File reply)
     → came_unmade came ≡ false → ((status : ℕ) → came ≡ Err (faults.Nfs status) → ⊥) → (turn : Turn)
     → T (wrote f saves.untold 0 [] (turn.moment - 1) old.shelf.pages) → ((place : ℕ) (bytes : List ℕ) → T (wrote f wcc place bytes (turn.moment - 1) old.shelf.pages))
-    → ((size : ℕ) → T (cut f wcc size (turn.moment - 1) old.shelf.pages)) → (next : Next) (after : Machine) (shelf : Shelf)
+    → ((size : ℕ) → T (cut f wcc size (turn.moment - 1) old.shelf.pages)) → (next : Step) (after : Machine) (shelf : Shelf)
     → Takes old.wsize machine call.purpose.sent turn came old.shelf next after shelf → T shelf.pages
 
 wcc-of : (a b : Wcc) (p q x y : ℕ) (u v : Verf) → replies.File (kept.Write a p x u) ≡ replies.File (kept.Write b q y v) → a ≡ b

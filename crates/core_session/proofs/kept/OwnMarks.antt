@@ -1,5 +1,5 @@
 -- Since the reply to an own change came, the file's known stamp is one that the server showed since.
-use Rattle.core_session.proofs.Prelude.{◌≡◌, ◌<◌, ◌≤◌, ◌+◌, ◌-◌, ◌⊎◌, inl, inr, ℕ, Bool, true, false, nat_eq, List, [], ◌∷◌, ◌++◌, length, Option, Some, None, option_map, position, Result, Ok, Err, refl, sym, ap, subst, ◌∙◌, arith, append_assoc, eqb-true, cases_lt, Attr, Stamp, Wcc, stamp_of, FileCall, FileKept, xid_at, Waiting, next_xid, made_call, waiting_at, without, at_made, others_made, others_taken, gone, FileState, state_of, cut, Answer, Fault, Entry, Began, Answered, Delivered, Sent, Call, Reply, Op, At, Asked, HasXid, SpellsCall, SpellsReply, proc_of, Modes, At-back, At-below, At-grow, At-last, At-one, length_last, Numbered, one_file_call, said_of, Next, Shelf, Mounted, Machine, machine_of, Purpose, State, Busy, Over, Setup, is_busy, with_state, record_of, Makes, Leads, Stirs, counted, StartsLane, TakesAt, AnswersAt, View, turn_at, unmade_turn, HearsRecord, Reaches, IsMade, IsUnsent, Tried, begins-unbegun, taken_one, was-sent, Known, at-position, Rows, rows-stay, same-rows, silent-grow, rows-grow, taken-quiet, not-sent, taken-rows, LastAtMost, SameCalls}
+use Rattle.core_session.proofs.Prelude.{◌≡◌, ◌<◌, ◌≤◌, ◌+◌, ◌-◌, ◌⊎◌, inl, inr, ℕ, Bool, true, false, nat_eq, List, [], ◌∷◌, ◌++◌, length, Option, Some, None, option_map, position, Result, Ok, Err, refl, sym, ap, subst, ◌∙◌, arith, append_assoc, eqb-true, cases_lt, Attr, Stamp, Wcc, stamp_of, FileCall, FileKept, xid_at, Waiting, next_xid, made_call, waiting_at, without, at_made, others_made, others_taken, gone, FileState, state_of, cut, Answer, Fault, Entry, Began, Answered, Delivered, Sent, Call, Reply, Op, At, Asked, HasXid, SpellsCall, SpellsReply, proc_of, Modes, At-back, At-below, At-grow, At-last, At-one, length_last, Numbered, one_file_call, said_of, Step, Shelf, Mounted, Machine, machine_of, Purpose, State, Busy, Over, Setup, is_busy, with_state, record_of, Makes, Leads, Stirs, counted, StartsLane, TakesAt, AnswersAt, View, turn_at, unmade_turn, HearsRecord, Reaches, IsMade, IsUnsent, Tried, begins-unbegun, taken_one, was-sent, Known, at-position, Rows, rows-stay, same-rows, silent-grow, rows-grow, taken-quiet, not-sent, taken-rows, LastAtMost, SameCalls}
 use Rattle.std.proofs.Common.{if◌then◌else◌}
 use Rattle.page_cache.specs.Pages.{wrote, both_same, led_to}
 use Rattle.law_stable.proofs.OneFileCall.{one_file_reply}
@@ -9,7 +9,7 @@ use Rattle.page_cache.proofs.States.{state_changed, state-cut, state-wrote}
 use Rattle.world_model.specs.declared.message.Call.TheVariants as calls
 use Rattle.world_model.specs.declared.message.Reply.TheVariants as replies
 use Rattle.world_model.specs.Waiting.{Waits}
-use Rattle.client_shelf.specs.declared.next.Next.TheVariants as nexts
+use Rattle.client_shelf.specs.declared.step.Step.TheVariants as nexts
 use Rattle.file_ops.specs.Saves as saves
 use Rattle.core_facts.specs.Tries as tries
 use Rattle.core_facts.proofs.SaidNone.{said-made, said-none}
@@ -88,13 +88,13 @@ module _ (wcc : Wcc) (d : ℕ) (f : List ℕ) (setup : Setup) where
   no-reply fault reply e = cc
 
   -- what a step leads to
-  leads-goes : (h : List Entry) (v new : View) (at number : ℕ) (machine : Machine) (next : Next) → Rows setup h v → Leads v at number machine next new → GoesOn h v new
+  leads-goes : (h : List Entry) (v new : View) (at number : ℕ) (machine : Machine) (next : Step) → Rows setup h v → Leads v at number machine next new → GoesOn h v new
   leads-goes h v new at number machine (nexts.Send call) r (inl m) = made-goes h v number call new m r
   leads-goes h v new at number machine (nexts.Send call) r (inr f_) = subst (GoesOn h v) (sym f_.is) (goes-state h v at number f_.state f_.left)
   leads-goes h v new at number machine nexts.Wait r is = subst (GoesOn h v) (sym is) (goes-itself h v)
   leads-goes h v new at number machine (nexts.Done answer) r is = subst (GoesOn h v) (sym is) (goes-state h v at number (Over answer) v.shelf)
 
-  leads-marked : (h : List Entry) (v new : View) (at number : ℕ) (machine : Machine) (next : Next) → Rows setup h v → Leads v at number machine next new → Marked wcc d f h v → Marked wcc d f h new
+  leads-marked : (h : List Entry) (v new : View) (at number : ℕ) (machine : Machine) (next : Step) → Rows setup h v → Leads v at number machine next new → Marked wcc d f h v → Marked wcc d f h new
   leads-marked h v new at number machine (nexts.Send call) r (inl m) k = same-marked h v new (made-goes h v number call new m r) (ap (λ (z : View). z.shelf) m.is) k
   leads-marked h v new at number machine (nexts.Send call) r (inr g) k = subst (Marked wcc d f h) (sym g.is) (record {
     k = k.k;

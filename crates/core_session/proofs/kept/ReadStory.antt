@@ -1,5 +1,5 @@
 -- What a read has found at each step and what it answers, as `shown.Story` of core_session; with any fact of the stamps under which it takes pages.
-use Rattle.core_session.proofs.Prelude.{◌≡◌, ◌<◌, ◌≤◌, ◌+◌, ◌-◌, ◌/◌, ◌||◌, ◌==◌, ◌⊎◌, inl, inr, ℕ, zero, suc, not, Bool, true, false, nat_le, List, ◌++◌, length, take, slice_get, Option, Some, None, Result, Ok, Err, refl, sym, ap, subst, ◌∙◌, arith, if◌then◌else◌, cases_lt, eqb-true, nat_tests, length-take, length-drop, slice_get-get_or, slice_get_within, Attr, Stamp, FileKept, IsOpen, start_of, Pages, page_of, known_of, after_page, Pending, of_file, newest_at, last_end, end-some, EachSound, Answer, Fault, Entry, Call, Reply, Op, Modes, IsOf, Next, Repeat, Shelf, Turn, Found, Phase, Reading, place_after, is_whole, nothing_of, Gathered, was_pending, shown_over, part, refusal, said_to, said_by, breaks_rule, PagesOpened, opened_pages, got_by, Machine, Setup, View, ThenOf, IsAnswered, IsPage, pending_in, PhaseAwaits, Good, quiet-good, HasOr, IsSound, HasPassed}
+use Rattle.core_session.proofs.Prelude.{◌≡◌, ◌<◌, ◌≤◌, ◌+◌, ◌-◌, ◌/◌, ◌||◌, ◌==◌, ◌⊎◌, inl, inr, ℕ, zero, suc, not, Bool, true, false, nat_le, List, ◌++◌, length, take, slice_get, Option, Some, None, Result, Ok, Err, refl, sym, ap, subst, ◌∙◌, arith, if◌then◌else◌, cases_lt, eqb-true, nat_tests, length-take, length-drop, slice_get-get_or, slice_get_within, Attr, Stamp, FileKept, IsOpen, start_of, Pages, page_of, known_of, after_page, Pending, of_file, newest_at, last_end, end-some, EachSound, Answer, Fault, Entry, Call, Reply, Op, Modes, IsOf, Step, Repeat, Shelf, Turn, Found, Phase, Reading, place_after, is_whole, nothing_of, Gathered, was_pending, shown_over, part, refusal, said_to, said_by, breaks_rule, PagesOpened, opened_pages, got_by, Machine, Setup, View, ThenOf, IsAnswered, IsPage, pending_in, PhaseAwaits, Good, quiet-good, HasOr, IsSound, HasPassed}
 use Rattle.std.proofs.Common.{◌*◌, ◌%◌, min, nat_lt, IsSome}
 use Rattle.std.proofs.lemmas.List.{length-append}
 use Rattle.file_ops.specs.Base.{Bytes, with_more}
@@ -16,7 +16,7 @@ use Rattle.world_model.specs.declared.answer.Fault.TheVariants as faults
 use Rattle.world_model.specs.declared.answer.Value.TheVariants as values
 use Rattle.world_model.specs.declared.message.Call.TheVariants as calls
 use Rattle.world_model.specs.declared.message.Reply.TheVariants as replies
-use Rattle.client_shelf.specs.declared.next.Next.TheVariants as nexts
+use Rattle.client_shelf.specs.declared.step.Step.TheVariants as nexts
 use Rattle.file_ops.specs.declared.gather.Found.TheVariants as founds
 use Rattle.file_ops.specs.declared.reading.Phase.TheVariants as phases
 use Rattle.file_ops.specs.Gather as gather
@@ -425,13 +425,13 @@ module _ (mo : ℕ → Op → Machine) (setup : Setup) (modes : Modes) (R : List
 
     -- ---- steps
 
-    abbrev Goes : Next → Reading → Type 0
+    abbrev Goes : Step → Reading → Type 0
     Goes next r = ThenOf (ReadAt h x op offset count) (Answered h x op offset count) next r
 
-    goes-as : (to next : Next) (state new : Reading) → next ≡ to → new ≡ state → Goes to state → Goes next new
+    goes-as : (to next : Step) (state new : Reading) → next ≡ to → new ≡ state → Goes to state → Goes next new
     goes-as to next state new is at g = subst (λ n. Goes n new) (sym is) (subst (λ s. Goes to s) (sym at) g)
 
-    stays : (p : Phase) (r : Reading) (back : Pending) (next : Next) → r.phase ≡ p → ReadAt h x op offset count r → HadBack h x back → reading.Stays p r back next
+    stays : (p : Phase) (r : Reading) (back : Pending) (next : Step) → r.phase ≡ p → ReadAt h x op offset count r → HadBack h x back → reading.Stays p r back next
         → Goes next (reading.answered p r)
     stays phases.Attrs r back next in_ a passed is = goes-as nexts.Wait next r r is refl a
     stays phases.AskedAttrs r back next in_ a passed is = goes-as nexts.Wait next r r is refl a
@@ -459,16 +459,16 @@ module _ (mo : ℕ → Op → Machine) (setup : Setup) (modes : Modes) (R : List
     asked-at true s is a = in-phase h x op offset count s.reading phases.AskedAttrs a (asks-aligned s.reading.phase s.reading.file s.reading.base is a.aligned)
     asked-at false s is a = in-phase h x op offset count s.reading _ a tt
 
-    abbrev GoesTo : Next → reading.State → Type 0
+    abbrev GoesTo : Step → reading.State → Type 0
     GoesTo next s = Goes next s.reading
 
-    goes-if : (b : Bool) (back : Pending) (s : reading.State) (next : Next) → OfState s → HadBack h x back → reading.GoesIf b back s next
+    goes-if : (b : Bool) (back : Pending) (s : reading.State) (next : Step) → OfState s → HadBack h x back → reading.GoesIf b back s next
         → GoesTo next (if b then reading.asked s else record { reading = reading.answered s.reading.phase s.reading; pages = s.pages })
     goes-if true back s next a passed g =
         goes-as (nexts.Send (reading.asked_call s)) next (reading.asked s).reading (reading.asked s).reading g refl (asked-at (reading.asks_attrs s.reading.phase) s refl a)
     goes-if false back s next a passed g = stays s.reading.phase s.reading back next refl a passed g
 
-    pub goes-on : (room : Bool) (back : Pending) (s : reading.State) (next : Next) → OfState s → HadBack h x back → reading.Goes room back s next
+    pub goes-on : (room : Bool) (back : Pending) (s : reading.State) (next : Step) → OfState s → HadBack h x back → reading.Goes room back s next
         → Goes next (reading.gone room s).reading
     goes-on room back s next a passed g = goes-if (reading.asks room s) back s next a passed g
 
@@ -501,19 +501,19 @@ module _ (mo : ℕ → Op → Machine) (setup : Setup) (modes : Modes) (R : List
     settled-in (phases.Asked size) r c is good a = a
     settled-in phases.Ended r c is good a = a
 
-    pub from-settled : (room : Bool) (back : Pending) (r : Reading) (c : Pages) (next : Next) (new : reading.State) → ReadAt h x op offset count r → (past r.phase ≡ true → GoodFor setup.pages R h x r.file c) → HadBack h x back
+    pub from-settled : (room : Bool) (back : Pending) (r : Reading) (c : Pages) (next : Step) (new : reading.State) → ReadAt h x op offset count r → (past r.phase ≡ true → GoodFor setup.pages R h x r.file c) → HadBack h x back
         → reading.Goes room back (reading.settled r c) next → new ≡ reading.gone room (reading.settled r c) → Goes next new.reading
     from-settled room back r c next new a good passed g is =
         goes-as next next (reading.gone room (reading.settled r c)).reading new.reading refl (ap (λ (s : reading.State). s.reading) is)
         (goes-on room back (reading.settled r c) next (settled-in r.phase r c refl good a) passed g)
 
-    again-read : (again : Bool) (call : Call) (fault : Fault) (r : Reading) (c : Pages) (next : Next) (new : reading.State) → ReadAt h x op offset count r
+    again-read : (again : Bool) (call : Call) (fault : Fault) (r : Reading) (c : Pages) (next : Step) (new : reading.State) → ReadAt h x op offset count r
         → next ≡ reading.again_next again call fault → new ≡ record { reading = r; pages = c } → Goes next new.reading
     again-read true call fault r c next new a is same = goes-as (nexts.Send call) next r new.reading is (ap (λ (s : reading.State). s.reading) same) a
     again-read false call fault r c next new a is same =
         goes-as (reading.refused fault) next r new.reading is (ap (λ (s : reading.State). s.reading) same) (λ bytes no_way. absurd cc)
 
-    after-opened : (result : Result (Unit {0}) memory.Memory) (turn : Turn) (r : Reading) (c : Pages) (back : Pending) (next : Next) (new : reading.State) → ReadAt h x op offset count r
+    after-opened : (result : Result (Unit {0}) memory.Memory) (turn : Turn) (r : Reading) (c : Pages) (back : Pending) (next : Step) (new : reading.State) → ReadAt h x op offset count r
         → Aligned setup.pages R h x r.file r.base → (result ≡ Ok tt → GoodFor setup.pages R h x r.file c) → HadBack h x back → reading.AfterOpened result turn r c back next new → Goes next new.reading
     after-opened (Ok tt) turn r c back next new a aligned good passed o =
         from-settled turn.room back (record r { phase = phases.Pages }) c next new (in-phase h x op offset count r phases.Pages a aligned) (λ far. good refl) passed o.0 o.1
@@ -528,7 +528,7 @@ module _ (mo : ℕ → Op → Machine) (setup : Setup) (modes : Modes) (R : List
     waits-aligned (phases.Asked size) file b is a = absurd cc
     waits-aligned phases.Ended file b is a = absurd cc
 
-    attrs-read : (told : Result Attr Fault) (again : Bool) (sent turn : Turn) (r : Reading) (c : Pages) (back : Pending) (next : Next) (new : reading.State) → ReadAt h x op offset count r
+    attrs-read : (told : Result Attr Fault) (again : Bool) (sent turn : Turn) (r : Reading) (c : Pages) (back : Pending) (next : Step) (new : reading.State) → ReadAt h x op offset count r
         → Aligned setup.pages R h x r.file r.base → ((attr : Attr) (later : Pages) → told ≡ Ok attr → later ≡ opened_pages r.file attr r.moment sent turn c → GoodFor setup.pages R h x r.file later)
         → ((attr : Attr) → told ≡ Ok attr → HadBack h x back) → reading.TakesAttrs again told sent turn r c back next new → Goes next new.reading
     attrs-read (Ok attr) again sent turn r c back next new a aligned good passed t =
@@ -583,7 +583,7 @@ module _ (mo : ℕ → Op → Machine) (setup : Setup) (modes : Modes) (R : List
                   (by_reply w.since.told.since (place_after r.base) size counted attr given w.since.later (subst (λ (z : Bool). IsAnswered h w.since.told.since (length h) (calls.File (file_calls.Read r.file (place_after r.base) size)) (replies.File (kept.Read attr counted z given))) ends answered) (omega arith)));
             }
 
-        part-if : past r.phase ≡ true → (b : Bool) (attr : Option Attr) (counted : ℕ) (eof : Bool) (given : List ℕ) (size : ℕ) (again : Bool) (next : Next) (new : reading.State)
+        part-if : past r.phase ≡ true → (b : Bool) (attr : Option Attr) (counted : ℕ) (eof : Bool) (given : List ℕ) (size : ℕ) (again : Bool) (next : Step) (new : reading.State)
             → came ≡ Ok (replies.File (kept.Read attr counted eof given)) → call ≡ calls.File (file_calls.Read r.file (place_after r.base) size)
             → reading.Tells again sent turn (if b then refusal attr (faults.Bad 5) else part attr eof given) r c shelf.back next
             → new ≡ reading.told sent turn (if b then refusal attr (faults.Bad 5) else part attr eof given) r c → Goes next new.reading
@@ -593,14 +593,14 @@ module _ (mo : ℕ → Op → Machine) (setup : Setup) (modes : Modes) (R : List
             (added-at attr counted eof given size is asked)
             (λ more. noted attr counted eof given size is asked far) (had (replies.File (kept.Read attr counted eof given)) is) t same
 
-        file-part : past r.phase ≡ true → (k : FileKept) (size : ℕ) (again : Bool) (next : Next) (new : reading.State) → came ≡ Ok (replies.File k)
+        file-part : past r.phase ≡ true → (k : FileKept) (size : ℕ) (again : Bool) (next : Step) (new : reading.State) → came ≡ Ok (replies.File k)
             → call ≡ calls.File (file_calls.Read r.file (place_after r.base) size) → reading.Tells again sent turn (said_by size (replies.File k)) r c shelf.back next
             → new ≡ reading.told sent turn (said_by size (replies.File k)) r c → Goes next new.reading
         file-part far (kept.Read attr counted eof given) size again next new is asked t same = part-if far (breaks_rule size counted eof given) attr counted eof given size again next new is asked t same
         file-part far (kept.ReadFail status attr) size again next new is asked t same = again-read again (reading.part_call r) _ r c next new a t same
         file-part far k size again next new is asked t same = again-read again (reading.part_call r) _ r c next new a t same
 
-        part-came : past r.phase ≡ true → (what : Result Reply Fault) (size : ℕ) (again : Bool) (next : Next) (new : reading.State) → came ≡ what
+        part-came : past r.phase ≡ true → (what : Result Reply Fault) (size : ℕ) (again : Bool) (next : Step) (new : reading.State) → came ≡ what
             → call ≡ calls.File (file_calls.Read r.file (place_after r.base) size) → reading.Tells again sent turn (said_to size what) r c shelf.back next
             → new ≡ reading.told sent turn (said_to size what) r c → Goes next new.reading
         part-came far (Ok (replies.File k)) size again next new is asked t same = file-part far k size again next new is asked t same
@@ -608,10 +608,10 @@ module _ (mo : ℕ → Op → Machine) (setup : Setup) (modes : Modes) (R : List
         part-came far (Ok (replies.Mount k)) size again next new is asked t same = again-read again (reading.part_call r) _ r c next new a t same
         part-came far (Err fault) size again next new is asked t same = again-read again (reading.part_call r) _ r c next new a t same
 
-        waits-still : (next : Next) (new : reading.State) → next ≡ nexts.Wait → new ≡ record { reading = r; pages = c } → Goes next new.reading
+        waits-still : (next : Step) (new : reading.State) → next ≡ nexts.Wait → new ≡ record { reading = r; pages = c } → Goes next new.reading
         waits-still next new is same = goes-as nexts.Wait next r new.reading is (ap (λ (s : reading.State). s.reading) same) a
 
-        heard-part : (p : Phase) (repeats : List Repeat) (next : Next) (new : reading.State) → r.phase ≡ p → PhaseAwaits p r call
+        heard-part : (p : Phase) (repeats : List Repeat) (next : Step) (new : reading.State) → r.phase ≡ p → PhaseAwaits p r call
             → reading.TakesPart (reading.heard p came) sent turn repeats r c shelf.back next new → Goes next new.reading
         heard-part phases.Attrs repeats next new at asked t = waits-still next new t.0 t.1
         heard-part phases.AskedAttrs repeats next new at asked t = waits-still next new t.0 t.1
@@ -624,7 +624,7 @@ module _ (mo : ℕ → Op → Machine) (setup : Setup) (modes : Modes) (R : List
         got-ok (Ok reply) attr is got = had reply is
         got-ok (Err fault) attr is got = absurd cc
 
-        pub takes-read : (waits : Bool) (repeats : List Repeat) (next : Next) (new : reading.State) → reading.waits_attrs r.phase ≡ waits → PhaseAwaits r.phase r call
+        pub takes-read : (waits : Bool) (repeats : List Repeat) (next : Step) (new : reading.State) → reading.waits_attrs r.phase ≡ waits → PhaseAwaits r.phase r call
             → reading.TakesIf waits sent turn came repeats r c shelf.back next new → Goes next new.reading
         takes-read true repeats next new is asked t =
             attrs-read (got_by came) _ sent turn r c shelf.back next new a (waits-aligned r.phase r.file r.base is a.aligned)

@@ -1,5 +1,5 @@
 -- Each file with pending bytes has a state in the page cache.
-use Rattle.core_session.proofs.Prelude.{◌≡◌, ◌⊎◌, inl, inr, ℕ, List, [], ◌∷◌, ◌++◌, length, Bool, true, false, Option, Some, None, slice_get, slice_set, position, Result, Ok, Err, refl, sym, ap, subst, ◌∙◌, arith, Putting, Writing, FileMachine, Opener, file_of, Pages, Flown, fly_at, nothing, Cell, cell_at, covers, IsSound, IsOver, fly-some, IsMade, LastAtMost, written_file, IsInFlight, writes-whole, After, CarriesReply, RoomIs, any-saves, eqb-true, Waiting, waiting_at, Pending, of_file, Fault, Entry, Began, Reply, Op, Modes, IsOf, said_of, Next, Shelf, Turn, Mounted, Machine, machine_of, Starts, Resumes, Takes, Lane, Purpose, State, Busy, Over, Setup, is_busy, IsOther, numbers_of, IsIdle, with_state, IsRefused, Leads, Stirs, counted, StartsLane, TakesAt, View, turn_at, unmade_turn, Reaches, begins-unbegun, taken_one, Given, is-given, at-set, at-push, at-position, get-push, get-remove, skip, by-place, set-other}
+use Rattle.core_session.proofs.Prelude.{◌≡◌, ◌⊎◌, inl, inr, ℕ, List, [], ◌∷◌, ◌++◌, length, Bool, true, false, Option, Some, None, slice_get, slice_set, position, Result, Ok, Err, refl, sym, ap, subst, ◌∙◌, arith, Putting, Writing, FileMachine, Opener, file_of, Pages, Flown, fly_at, nothing, Cell, cell_at, covers, IsSound, IsOver, fly-some, IsMade, LastAtMost, written_file, IsInFlight, writes-whole, After, CarriesReply, RoomIs, any-saves, eqb-true, Waiting, waiting_at, Pending, of_file, Fault, Entry, Began, Reply, Op, Modes, IsOf, said_of, Step, Shelf, Turn, Mounted, Machine, machine_of, Starts, Resumes, Takes, Lane, Purpose, State, Busy, Over, Setup, is_busy, IsOther, numbers_of, IsIdle, with_state, IsRefused, Leads, Stirs, counted, StartsLane, TakesAt, View, turn_at, unmade_turn, Reaches, begins-unbegun, taken_one, Given, is-given, at-set, at-push, at-position, get-push, get-remove, skip, by-place, set-other}
 use Rattle.core_answers.proofs.writes.Mapped.{back-map}
 use Rattle.file_ops.specs.declared.put_file.Putting.TheVariants as putting
 use Rattle.file_ops.specs.declared.write_file.Writing.TheVariants as writing
@@ -21,7 +21,7 @@ use Rattle.core_session.proofs.kept.MineNow.{Mine, mine-of}
 use Rattle.core_session.proofs.kept.StateBrings.{PutOf, FileOf, PathOf, MachineOf, MachineBegins, MachineFound, found-stated, takes-has, starts-has, starts-brings, resumes-brings, takes-brings}
 use Rattle.core_session.proofs.kept.StateOpened.{St, stated-shown, fed-stated}
 use Rattle.world_model.specs.declared.op.Op.TheVariants as ops
-use Rattle.client_shelf.specs.declared.next.Next.TheVariants as nexts
+use Rattle.client_shelf.specs.declared.step.Step.TheVariants as nexts
 use Rattle.file_ops.specs.Syncs as syncs
 use Rattle.core_answers.proofs.writes.SaveChanges.{IsKept, goes-kept, takes-kept}
 
@@ -79,12 +79,12 @@ module _ (c : Pages) where
     decides = λ file upto verf old new on p. on-file-given (S c) old new file _ on (λ g. decided-given (S c file) upto verf (of_file file old) g) p;
   }
 
-  back-after : (next : Next) (back : Pending) → Now c back → After (Now c) (λ call. Now c) next back
+  back-after : (next : Step) (back : Pending) → Now c back → After (Now c) (λ call. Now c) next back
   back-after (nexts.Send call) back p = p
   back-after nexts.Wait back p = p
   back-after (nexts.Done answer) back p = p
 
-  after-back : (next : Next) (back : Pending) → After (Now c) (λ call. Now c) next back → Now c back
+  after-back : (next : Step) (back : Pending) → After (Now c) (λ call. Now c) next back → Now c back
   after-back (nexts.Send call) back p = p
   after-back nexts.Wait back p = p
   after-back (nexts.Done answer) back p = p
@@ -112,15 +112,15 @@ module _ (c : Pages) where
         back-after (syncs.sync_next next) after (takes-kept (Now c) sent turn (kept-so sent.xid turn.xid) wsize came repeats s back next new after later t p);
   }
 
-  start-back : (wsize : ℕ) (turn : Turn) (machine : Machine) (old : Shelf) (next : Next) (new : Machine) (after : Shelf) → MachineBegins (St c) machine old.opens
+  start-back : (wsize : ℕ) (turn : Turn) (machine : Machine) (old : Shelf) (next : Step) (new : Machine) (after : Shelf) → MachineBegins (St c) machine old.opens
       → Starts wsize machine turn old next new after → Now c old.back → Now c after.back
   start-back wsize turn machine old next new after has s p =
       after-back next after.back (all-starts wsize turn (λ f o b n. St c f) (Now c) (Now c) (λ call. Now c) (bears wsize turn) machine old next new after (starts-has (St c) machine old.opens next has) p s)
 
-  resume-back : (wsize : ℕ) (turn : Turn) (machine : Machine) (old : Shelf) (next : Next) (new : Machine) (after : Shelf) → Resumes wsize machine turn old next new after → Now c old.back → Now c after.back
+  resume-back : (wsize : ℕ) (turn : Turn) (machine : Machine) (old : Shelf) (next : Step) (new : Machine) (after : Shelf) → Resumes wsize machine turn old next new after → Now c old.back → Now c after.back
   resume-back wsize turn machine old next new after s p = after-back next after.back (all-resumes wsize turn (Now c) (λ call. Now c) (moves wsize turn) machine old next new after p s)
 
-  take-back : (wsize : ℕ) (sent turn : Turn) (came : Result Reply Fault) (machine : Machine) (old : Shelf) (next : Next) (new : Machine) (after : Shelf)
+  take-back : (wsize : ℕ) (sent turn : Turn) (came : Result Reply Fault) (machine : Machine) (old : Shelf) (next : Step) (new : Machine) (after : Shelf)
       (t : Takes wsize machine sent turn came old next new after) → TakesHas (λ f o b. St c f) wsize machine sent turn came old next new after t → Now c old.back → Now c after.back
   take-back wsize sent turn came machine old next new after t has p =
       after-back next after.back
@@ -160,7 +160,7 @@ module _ (m : Mounted) (modes : Modes) (same : m.nocto ≡ modes.nocto) (setup :
   no-reply : (fault : Fault) (reply : Reply) → ◌≡◌ {A = Result Reply Fault} (Err fault) (Ok reply) → ⊥
   no-reply fault reply e = cc
 
-  leads-st : (v new : View) (at number : ℕ) (machine : Machine) (next : Next) → slice_get v.lanes at ≡ Some (record { number = number; state = Busy machine }) → Stately v → Leads v at number machine next new
+  leads-st : (v new : View) (at number : ℕ) (machine : Machine) (next : Step) → slice_get v.lanes at ≡ Some (record { number = number; state = Busy machine }) → Stately v → Leads v at number machine next new
       → Stately new
   leads-st v new at number machine (nexts.Send call) there b (inl k) = subst Stately (sym k.is) (record { back = b.back; lanes = b.lanes })
   leads-st v new at number machine (nexts.Send call) there b (inr f) = subst Stately (sym f.is) (record {
@@ -183,7 +183,7 @@ module _ (m : Mounted) (modes : Modes) (same : m.nocto ≡ modes.nocto) (setup :
       after : MachineOf (St f.left.pages) f.after
       after = takes-brings (St f.left.pages) v.wsize machine (turn_at v) (unmade_turn v) (Err f.fault) v.shelf f.next f.after f.left own f.takes found
 
-      by : (next : Next) (state : State) → IsRefused f.after next state → MachineOf (St f.left.pages) f.after → StateOf f.left.pages state
+      by : (next : Step) (state : State) → IsRefused f.after next state → MachineOf (St f.left.pages) f.after → StateOf f.left.pages state
       by (nexts.Send again) state is k = absurd is
       by nexts.Wait state is k = subst (StateOf f.left.pages) (sym is) k
       by (nexts.Done answer) state is k = subst (StateOf f.left.pages) (sym is) tt

@@ -1,5 +1,5 @@
 -- A file whose state the page cache has keeps one, and an opening that goes well gives it one.
-use Rattle.core_session.proofs.Prelude.{◌≡◌, ◌-◌, ℕ, Bool, true, false, List, [], take, Option, Some, None, option_map, Result, Ok, Err, refl, sym, ap, subst, ◌∙◌, arith, if◌then◌else◌, option_map_or, Attr, Stamp, stamp_of, FileState, Pages, state_of, after_page, Fault, Call, Reply, Turn, Led, Opening, OpeningNext, offered, opened_pages}
+use Rattle.core_session.proofs.Prelude.{◌≡◌, ◌-◌, ℕ, Bool, true, false, List, [], take, Option, Some, None, option_map, Result, Ok, Err, refl, sym, ap, subst, ◌∙◌, arith, if◌then◌else◌, option_map_or, Attr, Stamp, stamp_of, FileState, Pages, state_of, after_page, Fault, Call, Reply, Turn, Led, Opening, OpeningStep, offered, opened_pages}
 use Rattle.std.specs.Prelude.{nat_le}
 use Rattle.page_cache.specs.Pages.{opened, wrote}
 use Rattle.file_ops.specs.Kept.{told_of, is_given, kept_page, offered_told}
@@ -7,7 +7,7 @@ use Rattle.file_ops.specs.PagesOpened.{is_late, no_wcc}
 use Rattle.page_cache.proofs.Inserts.{same-self}
 use Rattle.page_cache.proofs.States.{state_opened, state-opened}
 use Rattle.file_ops.specs.declared.opening.Led.TheVariants as leads
-use Rattle.file_ops.specs.declared.opening.OpeningNext.TheVariants as openings
+use Rattle.file_ops.specs.declared.opening.OpeningStep.TheVariants as openings
 use Rattle.file_ops.specs.Opening as opening
 use Rattle.file_ops.specs.Saves.{untold}
 use Rattle.core_session.proofs.current.FedPages.{FedLaws}
@@ -102,7 +102,7 @@ by-led (leads.Knows found stamp) o sent turn file old new l =
     subst (λ (c : Pages). St c file) (sym l.1) (subst (St (opened found stamp o.moment old)) (sym l.0) (opened-stated found stamp o.moment old))
 by-led (leads.Ends fault) o sent turn file old new l = absurd (let no_way : openings.Ended (Ok file) ≡ openings.Ended (Err fault) = l.0 in cc)
 
-pub led-stated : (b : Bool) (o : Opening) (sent turn : Turn) (led : Led) (step : OpeningNext) (old new : Pages) → opening.LedIf b o sent turn led step old new → (file : List ℕ)
+pub led-stated : (b : Bool) (o : Opening) (sent turn : Turn) (led : Led) (step : OpeningStep) (old new : Pages) → opening.LedIf b o sent turn led step old new → (file : List ℕ)
     → step ≡ openings.Ended (Ok file) → St new file
 led-stated true o sent turn led step old new l file is = absurd (let no_way : openings.Ended (Ok file) ≡ openings.Send _ = sym is ∙ l.0 in cc)
-led-stated false o sent turn led step old new l file is = by-led led o sent turn file old new (subst (λ (s : OpeningNext). opening.LedTo o sent turn led s old new) is l)
+led-stated false o sent turn led step old new l file is = by-led led o sent turn file old new (subst (λ (s : OpeningStep). opening.LedTo o sent turn led s old new) is l)

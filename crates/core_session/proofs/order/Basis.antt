@@ -1,8 +1,8 @@
 -- Along a history what is pending of each file is sound, and numbered below the next write.
-use Rattle.core_session.proofs.Prelude.{◌≡◌, ◌≤◌, ◌+◌, ◌⊎◌, inl, inr, ℕ, List, [], ◌∷◌, ◌++◌, length, false, Option, Some, None, option_map, position, slice_get, Err, refl, sym, ap, subst, ◌∙◌, arith, Waiting, next_xid, waiting_at, waits_early, Entry, Began, Delivered, Call, Op, said_of, Next, Shelf, IsUnused, Mounted, Machine, machine_of, Fits, Starts, Resumes, Takes, EachSound, nothing-sound, Lane, Purpose, Busy, Over, Setup, is_busy, IsIdle, with_state, IsRefused, Leads, Stirs, counted, StartsLane, TakesAt, View, turn_at, unmade_turn, Reaches, begins-unbegun, taken_one, Known, purpose_at, at-push, at-set, Rows, waits-late}
+use Rattle.core_session.proofs.Prelude.{◌≡◌, ◌≤◌, ◌+◌, ◌⊎◌, inl, inr, ℕ, List, [], ◌∷◌, ◌++◌, length, false, Option, Some, None, option_map, position, slice_get, Err, refl, sym, ap, subst, ◌∙◌, arith, Waiting, next_xid, waiting_at, waits_early, Entry, Began, Delivered, Call, Op, said_of, Step, Shelf, IsUnused, Mounted, Machine, machine_of, Fits, Starts, Resumes, Takes, EachSound, nothing-sound, Lane, Purpose, Busy, Over, Setup, is_busy, IsIdle, with_state, IsRefused, Leads, Stirs, counted, StartsLane, TakesAt, View, turn_at, unmade_turn, Reaches, begins-unbegun, taken_one, Known, purpose_at, at-push, at-set, Rows, waits-late}
 use Rattle.core_answers.proofs.writes.PiecesCarried.{Flying, keeps-flying}
 use Rattle.write_back.specs.Files.{IsNewest}
-use Rattle.client_shelf.specs.declared.next.Next.TheVariants as nexts
+use Rattle.client_shelf.specs.declared.step.Step.TheVariants as nexts
 use Rattle.file_ops.specs.Ready.{IsReady}
 use Rattle.file_ops.proofs.Nothing.{none_newest}
 use Rattle.op_machines.specs.Laws.{LeavesNothing}
@@ -44,7 +44,7 @@ basis-ready setup h v r b = record {
 -- ---- what a step leads to
 
 -- after the step of a machine
-record Stepped (v : View) (machine : Machine) (next : Next) : Type 0 where
+record Stepped (v : View) (machine : Machine) (next : Step) : Type 0 where
   pub fits : LanesHave Fits v.lanes
   pub own : Fits machine
   pub sound : EachSound v.shelf.back
@@ -57,7 +57,7 @@ record Rest (v : View) : Type 0 where
   pub sound : EachSound v.shelf.back
   pub newest : IsNewest (v.shelf.seq + 1) v.shelf.back
 
-leads-rest : (v new : View) (at number : ℕ) (machine : Machine) (next : Next) → slice_get v.lanes at ≡ Some (record { number = number; state = Busy machine }) → Stepped v machine next
+leads-rest : (v new : View) (at number : ℕ) (machine : Machine) (next : Step) → slice_get v.lanes at ≡ Some (record { number = number; state = Busy machine }) → Stepped v machine next
     → Leads v at number machine next new → Rest new
 leads-rest v new at number machine (nexts.Send call) there s (inl m) = subst Rest (sym m.is) (record { fits = s.fits; sound = s.sound; newest = s.ready.numbers })
 leads-rest v new at number machine (nexts.Send call) there s (inr f) = subst Rest (sym f.is) (record {
@@ -69,7 +69,7 @@ leads-rest v new at number machine (nexts.Send call) there s (inr f) = subst Res
     after : Fits f.after
     after = laws.takes-fit v.wsize machine (turn_at v) (unmade_turn v) (Err f.fault) v.shelf f.next f.after f.left f.takes s.own
 
-    by : (next : Next) → IsRefused f.after next f.state → StateHas Fits f.state
+    by : (next : Step) → IsRefused f.after next f.state → StateHas Fits f.state
     by (nexts.Send again) is = absurd is
     by nexts.Wait is = subst (StateHas Fits) (sym is) after
     by (nexts.Done answer) is = subst (StateHas Fits) (sym is) tt
@@ -101,7 +101,7 @@ module _ (m : Mounted) (setup : Setup) where
             sound = resumes-sound old.wsize (turn_at old) t.machine old.shelf t.next t.after t.shelf i.sound (ready.xids (next_xid old.calls) (inr (omega arith))) t.resumes;
             ready = laws.resumes-ready old.wsize t.machine (turn_at old) old.shelf t.next t.after t.shelf t.resumes ready;
             unmade = λ call is. laws.resumes-unmade old.wsize t.machine (turn_at old) old.shelf call t.after t.shelf
-                (subst (λ (n : Next). Resumes old.wsize t.machine (turn_at old) old.shelf n t.after t.shelf) is t.resumes) ready;
+                (subst (λ (n : Step). Resumes old.wsize t.machine (turn_at old) old.shelf n t.after t.shelf) is t.resumes) ready;
           }) t.leads
 
   pub starts-basis : (h : List Entry) (old new : View) (lane line : ℕ) (op : Op) (now : ℕ) → Reaches (machine_of m) setup h old → old.lost ≡ false → Known setup h old
@@ -127,7 +127,7 @@ module _ (m : Mounted) (setup : Setup) where
                 t.starts;
             ready = laws.starts-ready old.wsize (machine_of m lane op) (turn_at (counted old now)) old.shelf t.next t.after t.shelf t.starts ready;
             unmade = λ call is. laws.starts-unmade old.wsize (machine_of m lane op) (turn_at (counted old now)) old.shelf call t.after t.shelf
-                (subst (λ (n : Next). Starts old.wsize (machine_of m lane op) (turn_at (counted old now)) old.shelf n t.after t.shelf) is t.starts) ready;
+                (subst (λ (n : Step). Starts old.wsize (machine_of m lane op) (turn_at (counted old now)) old.shelf n t.after t.shelf) is t.starts) ready;
           }) t.leads
 
   pub takes-basis : (h : List Entry) (old new : View) (rec : List ℕ) (xid : ℕ) (call : Waiting Purpose) (at : ℕ) → Reaches (machine_of m) setup h old → old.lost ≡ false
@@ -158,7 +158,7 @@ module _ (m : Mounted) (setup : Setup) where
                 (ready.xids (next_xid old.calls) (inr (omega arith))) i.newest t.takes;
             ready = laws.takes-ready old.wsize t.machine call.purpose.sent (turn_at (taken_one old xid)) (said_of call.purpose.proc rec) old.shelf t.next t.after t.shelf t.takes ready;
             unmade = λ c is. laws.takes-unmade old.wsize t.machine call.purpose.sent (turn_at (taken_one old xid)) (said_of call.purpose.proc rec) old.shelf c t.after t.shelf
-                (subst (λ (n : Next). Takes old.wsize t.machine call.purpose.sent (turn_at (taken_one old xid)) (said_of call.purpose.proc rec) old.shelf n t.after t.shelf) is t.takes) ready;
+                (subst (λ (n : Step). Takes old.wsize t.machine call.purpose.sent (turn_at (taken_one old xid)) (said_of call.purpose.proc rec) old.shelf n t.after t.shelf) is t.takes) ready;
           }) t.leads
 
   pub keeps-basis : KeepsHearing (machine_of m) setup (Basis setup)

@@ -1,5 +1,5 @@
 -- Each SETATTR with a size is that of a truncate of the file, and no CREATE has a size.
-use Rattle.core_session.proofs.Prelude.{◌≡◌, ◌⊎◌, inl, inr, ℕ, Bool, true, false, List, [], ◌∷◌, ◌++◌, length, Option, Some, None, Result, refl, sym, ap, subst, ◌∙◌, SetAttr, Time, Fault, Entry, Began, Reply, Op, SpellsCall, UnderWay, IsOf, Terms, Next, Shelf, Turn, TruncateFile, Truncating, Mounted, FileMachine, Machine, machine_of, Starts, Resumes, Takes, State, Busy, Over, Setup, begins-unbegun, Held, held-later, always-later, Given, is-given, ThenOf, Always, over-laws, good-over, one-call, Expects, expects-laws, SentFor, of-slot, WorksAt, SlotRuns, SlotStory, slot-laws}
+use Rattle.core_session.proofs.Prelude.{◌≡◌, ◌⊎◌, inl, inr, ℕ, Bool, true, false, List, [], ◌∷◌, ◌++◌, length, Option, Some, None, Result, refl, sym, ap, subst, ◌∙◌, SetAttr, Time, Fault, Entry, Began, Reply, Op, SpellsCall, UnderWay, IsOf, Terms, Step, Shelf, Turn, TruncateFile, Truncating, Mounted, FileMachine, Machine, machine_of, Starts, Resumes, Takes, State, Busy, Over, Setup, begins-unbegun, Held, held-later, always-later, Given, is-given, ThenOf, Always, over-laws, good-over, one-call, Expects, expects-laws, SentFor, of-slot, WorksAt, SlotRuns, SlotStory, slot-laws}
 use Rattle.core_facts.proofs.Stories.{StoryLaws}
 use Rattle.core_answers.proofs.asks.Sendings.{under-until, reached-sent}
 use Rattle.core_answers.proofs.asks.SlotFiles.{CutAt}
@@ -8,7 +8,7 @@ use Rattle.nfs_dir_calls.specs.declared.create.Making.TheVariants as makings
 use Rattle.nfs_file_calls.specs.declared.call.FileCall.TheVariants as file_calls
 use Rattle.world_model.specs.declared.message.Call.TheVariants as calls
 use Rattle.world_model.specs.declared.op.Op.TheVariants as ops
-use Rattle.client_shelf.specs.declared.next.Next.TheVariants as nexts
+use Rattle.client_shelf.specs.declared.step.Step.TheVariants as nexts
 use Rattle.file_ops.specs.declared.truncate_file.Truncating.TheVariants as truncating
 use Rattle.file_ops.specs.TruncateFile as truncates
 use Rattle.op_machines.specs.declared.file_machine.FileMachine.TheVariants as files
@@ -37,7 +37,7 @@ as-file new n is = ap IsCutter is
 as-machine : (new : Machine) (n m : FileMachine) → new ≡ machines.File n → IsCutter n ≡ IsCutter m → cuts new ≡ cuts (machines.File m)
 as-machine new n m is same = ap cuts is ∙ same
 
-starts-cuts : (wsize : ℕ) (m : Machine) (turn : Turn) (old : Shelf) (next : Next) (new : Machine) (after : Shelf) → Starts wsize m turn old next new after → cuts new ≡ cuts m
+starts-cuts : (wsize : ℕ) (m : Machine) (turn : Turn) (old : Shelf) (next : Step) (new : Machine) (after : Shelf) → Starts wsize m turn old next new after → cuts new ≡ cuts m
 starts-cuts wsize (machines.File (files.Open m)) turn old next new after s = as-machine new s.machine (files.Open m) s.machine_is (as-file s.machine _ s.step.machine_is)
 starts-cuts wsize (machines.File (files.Read m)) turn old next new after s = as-machine new s.machine (files.Read m) s.machine_is (as-file s.machine _ s.step.machine_is)
 starts-cuts wsize (machines.File (files.Write m)) turn old next new after s = as-machine new s.machine (files.Write m) s.machine_is (as-file s.machine _ s.step.machine_is)
@@ -48,7 +48,7 @@ starts-cuts wsize (machines.File (files.Put m)) turn old next new after s = as-m
 starts-cuts wsize (machines.Path m) turn old next new after s = ap cuts s.machine_is
 starts-cuts wsize (machines.Name m) turn old next new after s = ap cuts s.machine_is
 
-resumes-cuts : (wsize : ℕ) (m : Machine) (turn : Turn) (old : Shelf) (next : Next) (new : Machine) (after : Shelf) → Resumes wsize m turn old next new after → cuts new ≡ cuts m
+resumes-cuts : (wsize : ℕ) (m : Machine) (turn : Turn) (old : Shelf) (next : Step) (new : Machine) (after : Shelf) → Resumes wsize m turn old next new after → cuts new ≡ cuts m
 resumes-cuts wsize (machines.File (files.Open m)) turn old next new after s = as-machine new s.machine (files.Open m) s.machine_is (as-file s.machine _ s.step.machine_is)
 resumes-cuts wsize (machines.File (files.Read m)) turn old next new after s = as-machine new s.machine (files.Read m) s.machine_is (as-file s.machine _ s.step.machine_is)
 resumes-cuts wsize (machines.File (files.Write m)) turn old next new after s = as-machine new s.machine (files.Write m) s.machine_is (as-file s.machine _ s.step.machine_is)
@@ -59,7 +59,7 @@ resumes-cuts wsize (machines.File (files.Put m)) turn old next new after s = as-
 resumes-cuts wsize (machines.Path m) turn old next new after s = ap cuts s.machine_is
 resumes-cuts wsize (machines.Name m) turn old next new after s = ap cuts s.machine_is
 
-takes-cuts : (wsize : ℕ) (m : Machine) (sent turn : Turn) (came : Result Reply Fault) (old : Shelf) (next : Next) (new : Machine) (after : Shelf)
+takes-cuts : (wsize : ℕ) (m : Machine) (sent turn : Turn) (came : Result Reply Fault) (old : Shelf) (next : Step) (new : Machine) (after : Shelf)
     → Takes wsize m sent turn came old next new after → cuts new ≡ cuts m
 takes-cuts wsize (machines.File (files.Open m)) sent turn came old next new after s = as-machine new s.machine (files.Open m) s.machine_is (as-file s.machine _ s.step.machine_is)
 takes-cuts wsize (machines.File (files.Read m)) sent turn came old next new after s = as-machine new s.machine (files.Read m) s.machine_is (as-file s.machine _ s.step.machine_is)
@@ -97,7 +97,7 @@ abbrev CutStory : List Entry → ℕ → Op → State → Type 0
 CutStory h x op (Busy machine) = cuts machine ≡ cuts_op op
 CutStory h x op (Over answer) = Unit {0}
 
-then-cuts : (h : List Entry) (x : ℕ) (op : Op) (next : Next) (new : Machine) → cuts new ≡ cuts_op op → ThenOf (λ m. CutStory h x op (Busy m)) (λ a. CutStory h x op (Over a)) next new
+then-cuts : (h : List Entry) (x : ℕ) (op : Op) (next : Step) (new : Machine) → cuts new ≡ cuts_op op → ThenOf (λ m. CutStory h x op (Busy m)) (λ a. CutStory h x op (Over a)) next new
 then-cuts h x op (nexts.Send call) new is = is
 then-cuts h x op nexts.Wait new is = is
 then-cuts h x op (nexts.Done answer) new is = tt

@@ -1,12 +1,12 @@
 -- A put, step by step: its walk leads to its directory, its opening to its file, and its bytes are of that file.
-use Rattle.core_session.proofs.Prelude.{◌≡◌, ◌-◌, ℕ, Bool, true, false, List, [], ◌∷◌, ◌++◌, length, take, Result, Ok, Err, refl, sym, ap, subst, ◌∙◌, arith, Fault, Entry, Call, Reply, is_first, Next, Shelf, Turn, Opening, OpeningNext, PutFile, Putting, Saving, WriteFile, Writing, joined, by-step, Walk, WalkNext, walk_of, Machine, Opener, PathMachine, IsNamed, front_of, last_of, PathOr, NamesTold, LeadsTo, leads-later, WalkLeads, end-leads, IsHeard, RoomIs}
+use Rattle.core_session.proofs.Prelude.{◌≡◌, ◌-◌, ℕ, Bool, true, false, List, [], ◌∷◌, ◌++◌, length, take, Result, Ok, Err, refl, sym, ap, subst, ◌∙◌, arith, Fault, Entry, Call, Reply, is_first, Step, Shelf, Turn, Opening, OpeningStep, PutFile, Putting, Saving, WriteFile, Writing, joined, by-step, Walk, WalkStep, walk_of, Machine, Opener, PathMachine, IsNamed, front_of, last_of, PathOr, NamesTold, LeadsTo, leads-later, WalkLeads, end-leads, IsHeard, RoomIs}
 use Rattle.core_facts.proofs.AllAwaited.{PutAwaits}
 use Rattle.core_facts.proofs.Leading.{walk-later, go-leads, took-leads}
 use Rattle.nfs_types.specs.declared.mode.Mode.TheVariants as modes
 use Rattle.world_model.specs.declared.answer.Answer.TheVariants as answers
 use Rattle.world_model.specs.Leads as leads
-use Rattle.client_shelf.specs.declared.next.Next.TheVariants as nexts
-use Rattle.file_ops.specs.declared.opening.OpeningNext.TheVariants as openings
+use Rattle.client_shelf.specs.declared.step.Step.TheVariants as nexts
+use Rattle.file_ops.specs.declared.opening.OpeningStep.TheVariants as openings
 use Rattle.file_ops.specs.declared.put_file.Putting.TheVariants as putting
 use Rattle.file_ops.specs.declared.write_file.Writing.TheVariants as writing
 use Rattle.file_ops.specs.Opening as opening
@@ -14,12 +14,12 @@ use Rattle.file_ops.specs.PutFile as puts
 use Rattle.file_ops.specs.Saves as saves
 use Rattle.file_ops.specs.Syncs as syncs
 use Rattle.file_ops.specs.WriteFile as writes
-use Rattle.name_ops.specs.declared.walk.WalkNext.TheVariants as walks
+use Rattle.name_ops.specs.declared.walk.WalkStep.TheVariants as walks
 use Rattle.name_ops.specs.Walking as walking
 use Rattle.op_machines.specs.declared.machine.Machine.TheVariants as machines
 use Rattle.op_machines.specs.declared.opener.Opener.TheVariants as openers
 use Rattle.op_machines.specs.PathSteps as paths
-use Rattle.core_facts.proofs.Awaited.{WalkStep, go-step, took-step}
+use Rattle.core_facts.proofs.Awaited.{WalkMoves, go-step, took-step}
 use Rattle.core_answers.proofs.asks.PutOpenings.{PutOpening, PutNext, go-opening, took-next, first-opening, opening-later}
 use Rattle.core_answers.proofs.asks.SavedCalls.{SavesOn, goes-on, takes-on}
 use Rattle.core_answers.proofs.asks.PutSteps.{put-of}
@@ -39,7 +39,7 @@ module _ (top : List ℕ) (h : List Entry) (path : List (List ℕ)) where
   state-as : (o : Opening) (w : Writing) (to state : Putting) → state ≡ to → PutAt to o w → PutAt state o w
   state-as o w to state is k = subst (λ (s : Putting). PutAt s o w) (sym is) k
 
-  follows-at : (o : Opening) (w : Writing) (f : List ℕ) (gives : _) (saved : Saving) (lane : ℕ) (was : Shelf) (next : Next) (state : Putting) (after : Shelf) → LeadsTo top h path f
+  follows-at : (o : Opening) (w : Writing) (f : List ℕ) (gives : _) (saved : Saving) (lane : ℕ) (was : Shelf) (next : Step) (state : Putting) (after : Shelf) → LeadsTo top h path f
       → SavesOn f (syncs.sync_next gives) saved → puts.Follows gives lane saved was next state after → PutAt state o w
   follows-at o w f gives saved lane was next state after l k e = by-step
       (λ g. SavesOn f (syncs.sync_next g) saved → puts.Follows g lane saved was next state after → PutAt state o w)
@@ -48,13 +48,13 @@ module _ (top : List ℕ) (h : List Entry) (path : List (List ℕ)) where
       (λ result j e. state-as o w putting.Idle state e.state_is tt)
       gives k e
 
-  queues-at : (b : Bool) (o : Opening) (w : Writing) (wsize lane : ℕ) (turn : Turn) (s : Saving) (was : Shelf) (next : Next) (state : Putting) (after : Shelf) → LeadsTo top h path s.file
+  queues-at : (b : Bool) (o : Opening) (w : Writing) (wsize lane : ℕ) (turn : Turn) (s : Saving) (was : Shelf) (next : Step) (state : Putting) (after : Shelf) → LeadsTo top h path s.file
       → puts.QueuesIf b wsize lane turn s was next state after → PutAt state o w
   queues-at true o w wsize lane turn s was next state after l q =
       follows-at o w s.file q.gives q.saved lane q.gone next state after l (goes-on s.file wsize turn.xid turn.room false s was.back q.gives q.saved q.gone.back refl q.goes) q.follows
   queues-at false o w wsize lane turn s was next state after l q = state-as o w (putting.Saves s) state q.state_is l
 
-  write-at : (told : Next) (o : Opening) (w : Writing) (wsize lane : ℕ) (file : List ℕ) (turn : Turn) (was : Shelf) (next : Next) (state : Putting) (after : Shelf) → LeadsTo top h path file
+  write-at : (told : Step) (o : Opening) (w : Writing) (wsize lane : ℕ) (file : List ℕ) (turn : Turn) (was : Shelf) (next : Step) (state : Putting) (after : Shelf) → LeadsTo top h path file
       → RoomIs (λ f. LeadsTo top h path f) w → puts.AfterWrite told wsize lane file turn was next state after → PutAt state o w
   write-at (nexts.Send call) o w wsize lane file turn was next state after l r a = state-as o w (putting.Adds file) state a.1 (l, r)
   write-at nexts.Wait o w wsize lane file turn was next state after l r a = state-as o w (putting.Adds file) state a.1 (l, r)
@@ -62,7 +62,7 @@ module _ (top : List ℕ) (h : List Entry) (path : List (List ℕ)) where
       queues-at (is_first lane (joined lane file was).order) o w wsize lane turn (saves.begun file was.seq) (joined lane file was) next state after l a
   write-at (nexts.Done (answers.Refused fault)) o w wsize lane file turn was next state after l r a = state-as o w putting.Idle state a.state_is tt
 
-  writes-at : (wsize : ℕ) (m : PutFile) (file : List ℕ) (turn : Turn) (told : Next) (written : Writing) (mid : Shelf) (next : Next) (new : PutFile) (after : Shelf) → LeadsTo top h path file
+  writes-at : (wsize : ℕ) (m : PutFile) (file : List ℕ) (turn : Turn) (told : Step) (written : Writing) (mid : Shelf) (next : Step) (new : PutFile) (after : Shelf) → LeadsTo top h path file
       → RoomIs (λ f. LeadsTo top h path f) written → puts.WritesOn wsize m file turn told written mid next new after → PutAt new.state new.opening new.write.state
   writes-at wsize m file turn told written mid next new after l r w =
       subst (λ (o : Opening). PutAt new.state o new.write.state) (sym (ap (λ (p : PutFile). p.opening) w.machine_is))
@@ -79,7 +79,7 @@ module _ (top : List ℕ) (h : List Entry) (path : List (List ℕ)) where
   was-at : (m : PutFile) (at : Putting) → m.state ≡ at → PutStands m → PutAt at m.opening m.write.state
   was-at m at is k = subst (λ (s : Putting). PutAt s m.opening m.write.state) is k
 
-  resumes-at : (at : Putting) (wsize : ℕ) (m : PutFile) (turn : Turn) (was : Shelf) (next : Next) (new : PutFile) (after : Shelf) → m.state ≡ at → PutStands m
+  resumes-at : (at : Putting) (wsize : ℕ) (m : PutFile) (turn : Turn) (was : Shelf) (next : Step) (new : PutFile) (after : Shelf) → m.state ≡ at → PutStands m
       → puts.Resumes at wsize m turn was next new after → PutStands new
   resumes-at putting.Idle wsize m turn was next new after is k r = same-put m new r.machine_is k
   resumes-at putting.Opens wsize m turn was next new after is k r =
@@ -93,7 +93,7 @@ module _ (top : List ℕ) (h : List Entry) (path : List (List ℕ)) where
       same-put (record m { state = new.state }) new r.1
       (queues-at (is_first m.write.lane was.order) m.opening m.write.state wsize m.write.lane turn s was next new.state after (was-at m (putting.Saves s) is k) r.0)
 
-  opening-at : (step : OpeningNext) (wsize : ℕ) (m : PutFile) (turn : Turn) (was : Shelf) (next : Next) (new : PutFile) (after : Shelf) → m.state ≡ putting.Opens
+  opening-at : (step : OpeningStep) (wsize : ℕ) (m : PutFile) (turn : Turn) (was : Shelf) (next : Step) (new : PutFile) (after : Shelf) → m.state ≡ putting.Opens
       → PutNext top h path step m.opening → puts.AfterOpening step wsize m turn was next new after → PutStands new
   opening-at (openings.Send call) wsize m turn was next new after is k a = same-put m new a.1 (state-as m.opening m.write.state putting.Opens m.state is k)
   opening-at openings.Wait wsize m turn was next new after is k a = same-put m new a.machine_is (state-as m.opening m.write.state putting.Opens m.state is k)
@@ -103,13 +103,13 @@ module _ (top : List ℕ) (h : List Entry) (path : List (List ℕ)) where
   opening-at (openings.Ended (Err fault)) wsize m turn was next new after is k a = same-put (record m { state = putting.Idle }) new a.1 tt
 
   -- what its opening comes to
-  pub opens-next : (wsize : ℕ) (m : PutFile) (sent turn : Turn) (came : Result Reply Fault) (was : Shelf) (next : Next) (new : PutFile) (after : Shelf) → IsNamed path
+  pub opens-next : (wsize : ℕ) (m : PutFile) (sent turn : Turn) (came : Result Reply Fault) (was : Shelf) (next : Step) (new : PutFile) (after : Shelf) → IsNamed path
       → PutOpening top h path m.opening → IsHeard top h came (opening.call_of m.opening m.opening.step) → (t : puts.Takes putting.Opens wsize m sent turn came was next new after)
       → PutNext top h path t.step (opening.opening_after (opening.opening_again m.opening sent turn came was.repeats) m.opening turn (opening.led_on m.opening turn.now came t.took.attrs was.pages))
   opens-next wsize m sent turn came was next new after named k heard t =
       took-next top h path (opening.opening_again m.opening sent turn came was.repeats) m.opening sent turn turn.now came t.took.attrs was.pages t.step was.pages t.took.pages named k heard t.leads
 
-  takes-at : (at : Putting) (wsize : ℕ) (m : PutFile) (sent turn : Turn) (came : Result Reply Fault) (was : Shelf) (next : Next) (new : PutFile) (after : Shelf) → IsNamed path
+  takes-at : (at : Putting) (wsize : ℕ) (m : PutFile) (sent turn : Turn) (came : Result Reply Fault) (was : Shelf) (next : Step) (new : PutFile) (after : Shelf) → IsNamed path
       → m.state ≡ at → PutStands m → (at ≡ putting.Opens → IsHeard top h came (opening.call_of m.opening m.opening.step))
       → puts.Takes at wsize m sent turn came was next new after → PutStands new
   takes-at putting.Idle wsize m sent turn came was next new after named is k heard t = same-put m new t.machine_is k
@@ -127,15 +127,15 @@ module _ (top : List ℕ) (h : List Entry) (path : List (List ℕ)) where
 
   -- ---- the file to which it adds its bytes
 
-  next-leads : (step : OpeningNext) (o : Opening) (file : List ℕ) → step ≡ openings.Ended (Ok file) → PutNext top h path step o → LeadsTo top h path file
-  next-leads step o file is k = subst (λ (s : OpeningNext). PutNext top h path s o) is k
+  next-leads : (step : OpeningStep) (o : Opening) (file : List ℕ) → step ≡ openings.Ended (Ok file) → PutNext top h path step o → LeadsTo top h path file
+  next-leads step o file is k = subst (λ (s : OpeningStep). PutNext top h path s o) is k
 
-  room-leads : (at : Writing) (wsize : ℕ) (m : WriteFile) (sent turn : Turn) (came : Result Reply Fault) (old : Shelf) (next : Next) (state : Writing) (after : Shelf)
+  room-leads : (at : Writing) (wsize : ℕ) (m : WriteFile) (sent turn : Turn) (came : Result Reply Fault) (old : Shelf) (next : Step) (state : Writing) (after : Shelf)
       (t : writes.TakesIn at wsize m sent turn came old next state after) → RoomIs (λ f. LeadsTo top h path f) at → RoomHas (λ f. LeadsTo top h path f) at wsize m sent turn came old next state after t
   room-leads writing.Idle wsize m sent turn came old next state after t r = tt
   room-leads (writing.Room file saving) wsize m sent turn came old next state after t r = λ well. r
 
-  pub put-has : (at : Putting) (wsize : ℕ) (m : PutFile) (sent turn : Turn) (came : Result Reply Fault) (was : Shelf) (next : Next) (new : PutFile) (after : Shelf) → IsNamed path
+  pub put-has : (at : Putting) (wsize : ℕ) (m : PutFile) (sent turn : Turn) (came : Result Reply Fault) (was : Shelf) (next : Step) (new : PutFile) (after : Shelf) → IsNamed path
       → m.state ≡ at → PutStands m → (at ≡ putting.Opens → IsHeard top h came (opening.call_of m.opening m.opening.step))
       → (t : puts.Takes at wsize m sent turn came was next new after) → PutHas (λ f. LeadsTo top h path f) at wsize m sent turn came was next new after t
   put-has putting.Idle wsize m sent turn came was next new after named is k heard t = tt
@@ -162,7 +162,7 @@ module _ (top : List ℕ) (h : List Entry) (path : List (List ℕ)) where
     pub on_way : arrived ≡ false → OnWay walk p.opening
     pub there : arrived ≡ true → PutStands p
 
-  then-put : (wsize : ℕ) (walk : Walk) (p : PutFile) (turn : Turn) (old : Shelf) (next : Next) (new : PathMachine) (after : Shelf) → PutStands p
+  then-put : (wsize : ℕ) (walk : Walk) (p : PutFile) (turn : Turn) (old : Shelf) (next : Step) (new : PathMachine) (after : Shelf) → PutStands p
       → paths.ThenResumes wsize (record { walk = walk; opener = openers.Put p; arrived = true }) turn old next new after → PutRuns (machines.Path new)
   then-put wsize walk p turn old next new after k t = record {
     walk = walk;
@@ -174,14 +174,14 @@ module _ (top : List ℕ) (h : List Entry) (path : List (List ℕ)) where
   }
 
   -- where its walk ends with a refusal it has its answer
-  follows-put : (step : WalkNext) (wsize : ℕ) (walk : Walk) (p : PutFile) (turn : Turn) (old : Shelf) (next : Next) (new : PathMachine) (after : Shelf) → OnWay walk p.opening → WalkStep step walk
+  follows-put : (step : WalkStep) (wsize : ℕ) (walk : Walk) (p : PutFile) (turn : Turn) (old : Shelf) (next : Step) (new : PathMachine) (after : Shelf) → OnWay walk p.opening → WalkMoves step walk
       → paths.Follows step wsize (record { walk = walk; opener = openers.Put p; arrived = false }) turn old next new after → PutRuns (machines.Path new)
   follows-put step wsize walk p turn old next new after way s f = by step s f
     where
       runs : new ≡ record { walk = walk; opener = openers.Put p; arrived = false } → PutRuns (machines.Path new)
       runs is = record { walk = walk; p = p; arrived = false; is = ap machines.Path is; on_way = λ yes_is. way; there = λ no_way. absurd (cc) }
 
-      by : (w : WalkNext) → WalkStep w walk → paths.Follows w wsize (record { walk = walk; opener = openers.Put p; arrived = false }) turn old next new after → PutRuns (machines.Path new)
+      by : (w : WalkStep) → WalkMoves w walk → paths.Follows w wsize (record { walk = walk; opener = openers.Put p; arrived = false }) turn old next new after → PutRuns (machines.Path new)
       by (walks.Send call) k g = runs g.1
       by walks.Wait k g = runs g.1
       by (walks.At dir) k g =
@@ -193,7 +193,7 @@ module _ (top : List ℕ) (h : List Entry) (path : List (List ℕ)) where
           (subst (λ (d : List ℕ). LeadsTo top h (front_of path) d) (sym k.0) (end-leads top h (front_of path) walk way.walk k.1))) g
       by (walks.Refused fault) k g = runs g.1
 
-  pub put-resumes : (b : Bool) (wsize : ℕ) (walk : Walk) (p : PutFile) (turn : Turn) (old : Shelf) (next : Next) (new : PathMachine) (after : Shelf) → (b ≡ false → OnWay walk p.opening)
+  pub put-resumes : (b : Bool) (wsize : ℕ) (walk : Walk) (p : PutFile) (turn : Turn) (old : Shelf) (next : Step) (new : PathMachine) (after : Shelf) → (b ≡ false → OnWay walk p.opening)
       → (b ≡ true → PutStands p) → NamesTold h old.names → paths.PathResumes b wsize (record { walk = walk; opener = openers.Put p; arrived = b }) turn old next new after
       → PutRuns (machines.Path new)
   put-resumes true wsize walk p turn old next new after way there t r = then-put wsize walk p turn old next new after (there refl) r
@@ -208,7 +208,7 @@ module _ (top : List ℕ) (h : List Entry) (path : List (List ℕ)) where
       of : (s : Putting) → s ≡ putting.Opens → PutAwaits s p.opening call → call ≡ opening.call_of p.opening p.opening.step
       of s at w = subst (λ (q : Putting). PutAwaits q p.opening call) at w
 
-  pub put-takes : (b : Bool) (wsize : ℕ) (walk : Walk) (p : PutFile) (sent turn : Turn) (came : Result Reply Fault) (old : Shelf) (next : Next) (new : PathMachine) (after : Shelf) (call : Call)
+  pub put-takes : (b : Bool) (wsize : ℕ) (walk : Walk) (p : PutFile) (sent turn : Turn) (came : Result Reply Fault) (old : Shelf) (next : Step) (new : PathMachine) (after : Shelf) (call : Call)
       → IsNamed path → (b ≡ false → OnWay walk p.opening) → (b ≡ true → PutStands p) → NamesTold h old.names
       → PathOr b (record { walk = walk; opener = openers.Put p; arrived = b }) call → IsHeard top h came call
       → paths.PathTakes b wsize (record { walk = walk; opener = openers.Put p; arrived = b }) sent turn came old next new after → PutRuns (machines.Path new)

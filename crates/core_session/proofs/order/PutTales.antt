@@ -1,11 +1,11 @@
 -- Along a history: at the step with a reply in which a put adds its bytes, its path leads to the file that they are added to.
-use Rattle.core_session.proofs.Prelude.{◌≡◌, ◌+◌, ℕ, Bool, true, false, List, [], ◌∷◌, ◌++◌, length, Some, slice_get, Result, refl, sym, subst, arith, All-nil, xid_at, Waiting, waiting_at, Fault, Entry, Began, Delivered, Call, Reply, Op, UnderWay, Asked-wide, said_of, Says, Next, Shelf, Turn, PutFile, Walk, walk_of, Mounted, Machine, PathMachine, IsNamed, front_of, machine_of, Starts, Resumes, Takes, Purpose, State, Busy, Over, Setup, View, HearsRecord, Reaches, IsOutstanding, Tried, unsent, PathOr, begins-unbegun, all-starts, all-resumes, all-takes, was-sent, says-of, IsNameTold, NamesTold, names-later, LeadsTo, IsHeard, heard-tells, reached-rows, Did, IsTold, TaleLaws, IsExpected, reached-good, Expects, expects-laws, NoCall}
+use Rattle.core_session.proofs.Prelude.{◌≡◌, ◌+◌, ℕ, Bool, true, false, List, [], ◌∷◌, ◌++◌, length, Some, slice_get, Result, refl, sym, subst, arith, All-nil, xid_at, Waiting, waiting_at, Fault, Entry, Began, Delivered, Call, Reply, Op, UnderWay, Asked-wide, said_of, Says, Step, Shelf, Turn, PutFile, Walk, walk_of, Mounted, Machine, PathMachine, IsNamed, front_of, machine_of, Starts, Resumes, Takes, Purpose, State, Busy, Over, Setup, View, HearsRecord, Reaches, IsOutstanding, Tried, unsent, PathOr, begins-unbegun, all-starts, all-resumes, all-takes, was-sent, says-of, IsNameTold, NamesTold, names-later, LeadsTo, IsHeard, heard-tells, reached-rows, Did, IsTold, TaleLaws, IsExpected, reached-good, Expects, expects-laws, NoCall}
 use Rattle.core_facts.specs.Tries.{runs, ended}
 use Rattle.core_facts.proofs.Hearing.{heard-of}
 use Rattle.core_facts.proofs.Owning.{reached-since}
 use Rattle.world_model.specs.declared.op.Op.TheVariants as ops
 use Rattle.world_model.specs.Heard.{Heard}
-use Rattle.client_shelf.specs.declared.next.Next.TheVariants as nexts
+use Rattle.client_shelf.specs.declared.step.Step.TheVariants as nexts
 use Rattle.op_machines.specs.declared.machine.Machine.TheVariants as machines
 use Rattle.op_machines.specs.declared.opener.Opener.TheVariants as openers
 use Rattle.op_machines.specs.PathSteps as paths
@@ -27,7 +27,7 @@ module _ (m : Mounted) where
   Shelved h shelf = NamesTold h shelf.names
 
   -- what a step leaves
-  did : (h : List Entry) (x : ℕ) (op : Op) (next : Next) (new : Machine) (after : Shelf) → Shelved h after → PutStory h x op (Busy new) → Did NoCall Shelved PutStory h x op next new after
+  did : (h : List Entry) (x : ℕ) (op : Op) (next : Step) (new : Machine) (after : Shelf) → Shelved h after → PutStory h x op (Busy new) → Did NoCall Shelved PutStory h x op next new after
   did h x op (nexts.Send call) new after kept story = record { shelf = kept; asks = tt; then_ = story }
   did h x op nexts.Wait new after kept story = record { shelf = kept; asks = tt; then_ = story }
   did h x op (nexts.Done answer) new after kept story = record { shelf = kept; asks = tt; then_ = λ path offset text is named. tt }
@@ -80,7 +80,7 @@ module _ (m : Mounted) where
   abbrev pub LeadsIn : List Entry → List (List ℕ) → List ℕ → ℕ → List ℕ → Type 0
   LeadsIn h path f offset bytes = LeadsTo m.root h path f
 
-  path-has : (h : List Entry) (path : List (List ℕ)) (b : Bool) (wsize : ℕ) (walk : Walk) (p : PutFile) (sent turn : Turn) (came : Result Reply Fault) (old : Shelf) (next : Next) (new : PathMachine)
+  path-has : (h : List Entry) (path : List (List ℕ)) (b : Bool) (wsize : ℕ) (walk : Walk) (p : PutFile) (sent turn : Turn) (came : Result Reply Fault) (old : Shelf) (next : Step) (new : PathMachine)
       (after : Shelf) (call : Call) → IsNamed path → (b ≡ true → PutStands m.root h path p) → PathOr b (record { walk = walk; opener = openers.Put p; arrived = b }) call → IsHeard m.root h came call
       → (t : paths.PathTakes b wsize (record { walk = walk; opener = openers.Put p; arrived = b }) sent turn came old next new after)
       → PathHas (LeadsIn h path) b wsize (record { walk = walk; opener = openers.Put p; arrived = b }) sent turn came old next new after t
@@ -88,11 +88,11 @@ module _ (m : Mounted) where
       put-has m.root h path p.state wsize p sent turn came old next t.step.machine after named refl (there refl) (λ opens. subst (IsHeard m.root h came) (awaited m.root h path p call opens e) heard) t.step.step
   path-has h path false wsize walk p sent turn came old next new after call named there e heard t = tt
 
-  abbrev Reached : List Entry → List (List ℕ) → ℕ → Turn → Turn → Result Reply Fault → Shelf → Next → Machine → Shelf → Call → Machine → Type 0
+  abbrev Reached : List Entry → List (List ℕ) → ℕ → Turn → Turn → Result Reply Fault → Shelf → Step → Machine → Shelf → Call → Machine → Type 0
   Reached h path wsize sent turn came old next new after call n =
       Expects n call → (t : Takes wsize n sent turn came old next new after) → TakesHas (LeadsIn h path) wsize n sent turn came old next new after t
 
-  pub runs-has : (h : List Entry) (path : List (List ℕ)) (wsize : ℕ) (machine : Machine) (sent turn : Turn) (came : Result Reply Fault) (old : Shelf) (next : Next) (new : Machine) (after : Shelf)
+  pub runs-has : (h : List Entry) (path : List (List ℕ)) (wsize : ℕ) (machine : Machine) (sent turn : Turn) (came : Result Reply Fault) (old : Shelf) (next : Step) (new : Machine) (after : Shelf)
       (call : Call) → IsNamed path → PutRuns m.root h path machine → Expects machine call → IsHeard m.root h came call → (t : Takes wsize machine sent turn came old next new after)
       → TakesHas (LeadsIn h path) wsize machine sent turn came old next new after t
   runs-has h path wsize machine sent turn came old next new after call named k e heard = subst (Reached h path wsize sent turn came old next new after call) (sym k.is) here e
@@ -147,7 +147,7 @@ module _ (m : Mounted) where
         → HearsRecord old rec fin → xid_at rec ≡ Some xid → waiting_at xid old.calls.calls ≡ Some call
         → slice_get old.lanes at ≡ Some (record { number = call.purpose.lane; state = Busy machine })
         → (x : ℕ) (path : List (List ℕ)) (offset : ℕ) (text : List ℕ) → UnderWay h call.purpose.lane x (length h) (ops.Put path offset text) → IsNamed path
-        → (wsize : ℕ) (sent turn : Turn) (next : Next) (new : Machine) (after : Shelf) (t : Takes wsize machine sent turn (said_of call.purpose.proc rec) old.shelf next new after)
+        → (wsize : ℕ) (sent turn : Turn) (next : Step) (new : Machine) (after : Shelf) (t : Takes wsize machine sent turn (said_of call.purpose.proc rec) old.shelf next new after)
         → TakesHas (LeadsIn (h ++ Delivered rec ∷ []) path) wsize machine sent turn (said_of call.purpose.proc rec) old.shelf next new after t
     put-finds h old rec fin xid call at machine r found t named waits there x path offset text u is wsize sent turn next new after step =
         let good = (reached-good (machine_of m) (begins-unbegun m) setup Expects expects-laws NoCall Shelved PutStory (put-laws setup) h old r).each at

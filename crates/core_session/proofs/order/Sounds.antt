@@ -1,5 +1,5 @@
 -- Each step of any operation leaves what is pending of each file sound, as long as it began so.
-use Rattle.core_session.proofs.Prelude.{◌≡◌, ◌≢◌, ◌≤◌, ◌<◌, ◌+◌, ◌-◌, ◌^◌, ◌||◌, ◌⊎◌, inl, inr, ℕ, Bool, true, false, List, [], ◌∷◌, length, Result, refl, sym, subst, ◌∙◌, arith, nat_lt, if◌then◌else◌, ltb-false, Fault, Call, Reply, Segments, Pending, of_file, all_pending, OnFile, with_cut, FilePending, nothing, same-or, Next, Repeat, Shelf, Turn, Opens, PutFile, Putting, Saving, WriteFile, Writing, is_full, is_quiet, IsUnused, by-step, FileMachine, Machine, PathMachine, Fits, file_of, Starts, Resumes, Takes, EachSound, After, CarriesReply, any-saves}
+use Rattle.core_session.proofs.Prelude.{◌≡◌, ◌≢◌, ◌≤◌, ◌<◌, ◌+◌, ◌-◌, ◌^◌, ◌||◌, ◌⊎◌, inl, inr, ℕ, Bool, true, false, List, [], ◌∷◌, length, Result, refl, sym, subst, ◌∙◌, arith, nat_lt, if◌then◌else◌, ltb-false, Fault, Call, Reply, Segments, Pending, of_file, all_pending, OnFile, with_cut, FilePending, nothing, same-or, Step, Repeat, Shelf, Turn, Opens, PutFile, Putting, Saving, WriteFile, Writing, is_full, is_quiet, IsUnused, by-step, FileMachine, Machine, PathMachine, Fits, file_of, Starts, Resumes, Takes, EachSound, After, CarriesReply, any-saves}
 use Rattle.std.specs.Prelude.{nat_le, Contains}
 use Rattle.write_back.specs.Segments.{cut_from, head_of, end_of}
 use Rattle.write_back.specs.Files.{numbers_of, IsNewest}
@@ -8,7 +8,7 @@ use Rattle.file_ops.specs.Quiet.{are_none}
 use Rattle.std.proofs.lemmas.List.Elements.{Contains-append_cases, Contains-append_left, Contains-append_right}
 use Rattle.write_back.specs.Sound.{most_pending}
 use Rattle.write_back.proofs.Adding.{sound-cut}
-use Rattle.client_shelf.specs.declared.next.Next.TheVariants as nexts
+use Rattle.client_shelf.specs.declared.step.Step.TheVariants as nexts
 use Rattle.file_ops.specs.declared.put_file.Putting.TheVariants as putting
 use Rattle.file_ops.specs.declared.write_file.Text.{Text}
 use Rattle.file_ops.specs.declared.write_file.Text.TheVariants as texts
@@ -171,7 +171,7 @@ module _ (wsize : ℕ) (turn : Turn) where
                   newest = fewer-newest n back after few p.newest;
                 }
 
-  pub after-sound : (P : Pending → Type 0) → ((back : Pending) → P back → EachSound back) → (next : Next) (back : Pending) → After P SoundCall next back → EachSound back
+  pub after-sound : (P : Pending → Type 0) → ((back : Pending) → P back → EachSound back) → (next : Step) (back : Pending) → After P SoundCall next back → EachSound back
   after-sound P of (nexts.Send call) back p = p
   after-sound P of nexts.Wait back p = of back p
   after-sound P of (nexts.Done answer) back p = of back p
@@ -183,19 +183,19 @@ made-near offset (texts.Given bytes) fits = fits
 made-near offset (texts.Fill count byte) fits = omega (arith, fits)
 
 module _ (n wsize : ℕ) (sent turn : Turn) (came : Result Reply Fault) where
-  room-near : (B : List ℕ → Type 0) → ((f : List ℕ) → B f) → (at : Writing) (m : WriteFile) (old : Shelf) (next : Next) (state : Writing) (after : Shelf)
+  room-near : (B : List ℕ → Type 0) → ((f : List ℕ) → B f) → (at : Writing) (m : WriteFile) (old : Shelf) (next : Step) (state : Writing) (after : Shelf)
       (t : writes.TakesIn at wsize m sent turn came old next state after) → RoomHas B at wsize m sent turn came old next state after t
   room-near B b writing.Idle m old next state after t = tt
   room-near B b (writing.Room file saving) m old next state after t = λ well. b file
 
-  put-near : (B : List ℕ → Type 0) → ((f : List ℕ) → B f) → (at : Putting) (m : PutFile) (old : Shelf) (next : Next) (new : PutFile) (after : Shelf)
+  put-near : (B : List ℕ → Type 0) → ((f : List ℕ) → B f) → (at : Putting) (m : PutFile) (old : Shelf) (next : Step) (new : PutFile) (after : Shelf)
       (t : puts.Takes at wsize m sent turn came old next new after) → PutHas B at wsize m sent turn came old next new after t
   put-near B b putting.Idle m old next new after t = tt
   put-near B b putting.Opens m old next new after t = λ file is. b file
   put-near B b (putting.Adds file) m old next new after t = room-near B b m.write.state m.write old t.told t.written t.mid t.takes
   put-near B b (putting.Saves saving) m old next new after t = tt
 
-  file-near : (m : FileMachine) (old : Shelf) (next : Next) (new : FileMachine) (after : Shelf) (t : steps.Takes wsize m sent turn came old next new after) → FileFits m
+  file-near : (m : FileMachine) (old : Shelf) (next : Step) (new : FileMachine) (after : Shelf) (t : steps.Takes wsize m sent turn came old next new after) → FileFits m
       → FileHas (λ f o b. NearAs wsize turn n f o b n) wsize m sent turn came old next new after t
   file-near (files.Open m) old next new after t fits = tt
   file-near (files.Read m) old next new after t fits = tt
@@ -205,18 +205,18 @@ module _ (n wsize : ℕ) (sent turn : Turn) (came : Result Reply Fault) where
   file-near (files.Truncate m) old next new after t fits = tt
   file-near (files.Put m) old next new after t fits = put-near _ (λ f. (refl, made-near m.write.offset m.write.text fits)) m.state m old next t.machine after t.step
 
-  path-near : (b : Bool) (m : PathMachine) (old : Shelf) (next : Next) (new : PathMachine) (after : Shelf) (t : paths.PathTakes b wsize m sent turn came old next new after) → FileFits (file_of m.opener)
+  path-near : (b : Bool) (m : PathMachine) (old : Shelf) (next : Step) (new : PathMachine) (after : Shelf) (t : paths.PathTakes b wsize m sent turn came old next new after) → FileFits (file_of m.opener)
       → PathHas (λ f o b. NearAs wsize turn n f o b n) b wsize m sent turn came old next new after t
   path-near true m old next new after t fits = file-near (file_of m.opener) old next (file_of t.opener) after t.step fits
   path-near false m old next new after t fits = tt
 
-  near-has : (m : Machine) (old : Shelf) (next : Next) (new : Machine) (after : Shelf) (t : Takes wsize m sent turn came old next new after) → Fits m
+  near-has : (m : Machine) (old : Shelf) (next : Step) (new : Machine) (after : Shelf) (t : Takes wsize m sent turn came old next new after) → Fits m
       → TakesHas (λ f o b. NearAs wsize turn n f o b n) wsize m sent turn came old next new after t
   near-has (machines.File m) old next new after t fits = file-near m old next t.machine after t.step fits
   near-has (machines.Path m) old next new after t fits = path-near m.arrived m old next t.machine after t.step fits
   near-has (machines.Name m) old next new after t fits = tt
 
-near-starts : (n wsize : ℕ) (turn : Turn) (m : Machine) (slots : Opens) (next : Next) → Fits m → StartsHas (λ f o b. NearAs wsize turn n f o b n) m slots next
+near-starts : (n wsize : ℕ) (turn : Turn) (m : Machine) (slots : Opens) (next : Step) → Fits m → StartsHas (λ f o b. NearAs wsize turn n f o b n) m slots next
 near-starts n wsize turn (machines.File (files.Open m)) slots next fits = tt
 near-starts n wsize turn (machines.File (files.Read m)) slots next fits = tt
 near-starts n wsize turn (machines.File (files.Write m)) slots next fits = λ file found ends. (refl, fits)
@@ -230,20 +230,20 @@ near-starts n wsize turn (machines.Name m) slots next fits = tt
 -- ---- each step
 
 module _ (wsize : ℕ) (turn : Turn) where
-  pub starts-sound : (m : Machine) (old : Shelf) (next : Next) (new : Machine) (after : Shelf) → Fits m → EachSound old.back → IsUnused turn.xid old.back → IsNewest (old.seq + 1) old.back
+  pub starts-sound : (m : Machine) (old : Shelf) (next : Step) (new : Machine) (after : Shelf) → Fits m → EachSound old.back → IsUnused turn.xid old.back → IsNewest (old.seq + 1) old.back
       → Starts wsize m turn old next new after → EachSound after.back
   starts-sound m old next new after fits sound free newest s =
       after-sound wsize turn (Sounds wsize turn) (λ back p. p.sound) next after.back
       (all-starts wsize turn (NearAs wsize turn (old.seq + 1)) (SoundsFirst wsize turn (old.seq + 1)) (Sounds wsize turn) (SoundCall wsize turn) (bears-sounds wsize turn (old.seq + 1)) m old next new after
       (near-starts (old.seq + 1) wsize turn m old.opens next fits) (record { sounds = record { sound = sound; free = free }; newest = newest }) s)
 
-  pub resumes-sound : (m : Machine) (old : Shelf) (next : Next) (new : Machine) (after : Shelf) → EachSound old.back → IsUnused turn.xid old.back → Resumes wsize m turn old next new after
+  pub resumes-sound : (m : Machine) (old : Shelf) (next : Step) (new : Machine) (after : Shelf) → EachSound old.back → IsUnused turn.xid old.back → Resumes wsize m turn old next new after
       → EachSound after.back
   resumes-sound m old next new after sound free s =
       after-sound wsize turn (Sounds wsize turn) (λ back p. p.sound) next after.back
       (all-resumes wsize turn (Sounds wsize turn) (SoundCall wsize turn) (moves-sounds wsize turn) m old next new after (record { sound = sound; free = free }) s)
 
-  pub takes-sounds : (sent : Turn) (came : Result Reply Fault) (m : Machine) (old : Shelf) (next : Next) (new : Machine) (after : Shelf) → Fits m → EachSound old.back
+  pub takes-sounds : (sent : Turn) (came : Result Reply Fault) (m : Machine) (old : Shelf) (next : Step) (new : Machine) (after : Shelf) → Fits m → EachSound old.back
       → IsUnused turn.xid old.back → IsNewest (old.seq + 1) old.back → Takes wsize m sent turn came old next new after → EachSound after.back
   takes-sounds sent came m old next new after fits sound free newest t =
       after-sound wsize turn (Sounds wsize turn) (λ back p. p.sound) next after.back

@@ -1,5 +1,5 @@
 -- Which calls set a size: the SETATTR of a truncate alone.
-use Rattle.core_session.proofs.Prelude.{◌≡◌, ◌≤◌, ◌⊎◌, inl, inr, ℕ, Bool, true, false, List, Option, Some, None, refl, sym, ap, subst, arith, Mode, Call, look_up, Closing, Opening, OpeningStep, Putting, Phase, Reading, Syncing, TruncateFile, Truncating, Writing, Pair, Deed, RemoveFile, Visit, Walk, deed_call, Machine, NameMachine, Opener, PathMachine, file_of, of_name, of_walk, removal_by, of_writing, of_putting, of_syncing, of_closing, of_truncating, path_by, in_flight, PathOr, WalkAwaits, OwnOr, RemoveAwaits, Expects, PathNames, SyncNames, WriteNames, CloseNames, StateNames, Saves}
+use Rattle.core_session.proofs.Prelude.{◌≡◌, ◌≤◌, ◌⊎◌, inl, inr, ℕ, Bool, true, false, List, Option, Some, None, refl, sym, ap, subst, arith, Mode, Call, look_up, Closing, Opening, OpeningPhase, Putting, Phase, Reading, Syncing, TruncateFile, Truncating, Writing, Pair, Deed, RemoveFile, Visit, Walk, deed_call, Machine, NameMachine, Opener, PathMachine, file_of, of_name, of_walk, removal_by, of_writing, of_putting, of_syncing, of_closing, of_truncating, path_by, in_flight, PathOr, WalkAwaits, OwnOr, RemoveAwaits, Expects, PathNames, SyncNames, WriteNames, CloseNames, StateNames, Saves}
 use Rattle.core_facts.specs.InFlight.{of_visit, visit_by, of_pair, pair_by, own_or, of_reading, of_phase, of_file, of_names}
 use Rattle.core_facts.proofs.AllAwaited.{OpeningAwaits, PutAwaits}
 use Rattle.core_facts.proofs.Awaited.{VisitAwaits, PairOr, PairAwaits}
@@ -11,7 +11,7 @@ use Rattle.nfs_dir_calls.specs.declared.create.Making.TheVariants as makings
 use Rattle.nfs_file_calls.specs.declared.call.FileCall.TheVariants as file_calls
 use Rattle.world_model.specs.declared.message.Call.TheVariants as calls
 use Rattle.file_ops.specs.declared.close_file.Closing.TheVariants as closing
-use Rattle.file_ops.specs.declared.opening.OpeningStep.TheVariants as opening_steps
+use Rattle.file_ops.specs.declared.opening.OpeningPhase.TheVariants as opening_steps
 use Rattle.file_ops.specs.declared.put_file.Putting.TheVariants as putting
 use Rattle.file_ops.specs.declared.reading.Phase.TheVariants as phases
 use Rattle.file_ops.specs.declared.sync_file.Syncing.TheVariants as syncing
@@ -105,7 +105,7 @@ making-tame o modes.X = tt
 opening-tame : (o : Opening) (call : Call) → OpeningAwaits o call → Tame call
 opening-tame o call e = as-call (opening.call_of o o.step) call e (by o.step)
   where
-    by : (step : OpeningStep) → Tame (opening.call_of o step)
+    by : (step : OpeningPhase) → Tame (opening.call_of o step)
     by opening_steps.Look = tt
     by opening_steps.Make = making-tame o o.mode
     by opening_steps.Find = tt

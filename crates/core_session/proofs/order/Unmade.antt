@@ -1,9 +1,9 @@
 -- A call that came to nothing lets no operation add its bytes.
-use Rattle.core_session.proofs.Prelude.{◌≡◌, ℕ, Bool, true, false, List, Ok, Err, refl, sym, subst, ◌∙◌, Mode, Fault, Next, Shelf, Turn, Led, Opening, OpeningNext, OpeningStep, PutFile, Putting, WriteFile, Writing, FileMachine, Machine, PathMachine, file_of, Takes, EndsSo, takes-not}
+use Rattle.core_session.proofs.Prelude.{◌≡◌, ℕ, Bool, true, false, List, Ok, Err, refl, sym, subst, ◌∙◌, Mode, Fault, Step, Shelf, Turn, Led, Opening, OpeningStep, OpeningPhase, PutFile, Putting, WriteFile, Writing, FileMachine, Machine, PathMachine, file_of, Takes, EndsSo, takes-not}
 use Rattle.nfs_types.specs.declared.mode.Mode.TheVariants as modes
 use Rattle.file_ops.specs.declared.opening.Led.TheVariants as leads
-use Rattle.file_ops.specs.declared.opening.OpeningNext.TheVariants as openings
-use Rattle.file_ops.specs.declared.opening.OpeningStep.TheVariants as opening_steps
+use Rattle.file_ops.specs.declared.opening.OpeningStep.TheVariants as openings
+use Rattle.file_ops.specs.declared.opening.OpeningPhase.TheVariants as opening_steps
 use Rattle.file_ops.specs.declared.put_file.Putting.TheVariants as putting
 use Rattle.file_ops.specs.declared.write_file.Writing.TheVariants as writing
 use Rattle.file_ops.specs.Opening as opening
@@ -35,7 +35,7 @@ missed modes.RW fault = tt
 missed modes.C fault = tt
 missed modes.X fault = tt
 
-told-not : (m : Mode) (step : OpeningStep) (fault : Fault) → NotOpened (opening.led_to m step (Err fault))
+told-not : (m : Mode) (step : OpeningPhase) (fault : Fault) → NotOpened (opening.led_to m step (Err fault))
 told-not m opening_steps.Look fault = missed m fault
 told-not m opening_steps.Make fault = tt
 told-not m opening_steps.Find fault = tt
@@ -58,7 +58,7 @@ go-not o turn file is = by (opening.waits o turn) refl
     by true w = let no_way : openings.Wait ≡ openings.Ended (Ok file) = (rw w at is) in absurd cc
     by false w = let no_way : openings.Send (opening.call_of o o.step) ≡ openings.Ended (Ok file) = (rw w at is) in absurd cc
 
-led-not : (again : Bool) (o : Opening) (sent turn : Turn) (led : Led) (step : OpeningNext) (pages later : _) (file : List ℕ) → NotOpened led → opening.LedIf again o sent turn led step pages later
+led-not : (again : Bool) (o : Opening) (sent turn : Turn) (led : Led) (step : OpeningStep) (pages later : _) (file : List ℕ) → NotOpened led → opening.LedIf again o sent turn led step pages later
     → step ≡ openings.Ended (Ok file) → ⊥
 led-not true o sent turn led step pages later file n l is = let no_way : openings.Send (opening.call_of o o.step) ≡ openings.Ended (Ok file) = sym l.0 ∙ is in absurd cc
 led-not false o sent turn (leads.Goes to) step pages later file n l is = go-not (opening.at_step o to) turn file (sym l.0 ∙ is)
@@ -69,13 +69,13 @@ led-not false o sent turn (leads.Ends fault) step pages later file n l is = let 
 -- ---- each operation
 
 module _ (A : List ℕ → ℕ → List ℕ → Type 0) (wsize : ℕ) (sent turn : Turn) (fault : Fault) where
-  room-unmade : (B : List ℕ → Type 0) (at : Writing) (m : WriteFile) (old : Shelf) (next : Next) (state : Writing) (after : Shelf)
+  room-unmade : (B : List ℕ → Type 0) (at : Writing) (m : WriteFile) (old : Shelf) (next : Step) (state : Writing) (after : Shelf)
       (t : writes.TakesIn at wsize m sent turn (Err fault) old next state after) → RoomHas B at wsize m sent turn (Err fault) old next state after t
   room-unmade B writing.Idle m old next state after t = tt
   room-unmade B (writing.Room file saving) m old next state after t = λ well.
       absurd (subst (λ n. EndsSo ⊥ (syncs.sync_next n)) well (takes-not wsize sent turn fault old.repeats saving old.back t.told t.saved t.back t.repeats t.takes))
 
-  put-unmade : (B : List ℕ → Type 0) (at : Putting) (m : PutFile) (old : Shelf) (next : Next) (new : PutFile) (after : Shelf)
+  put-unmade : (B : List ℕ → Type 0) (at : Putting) (m : PutFile) (old : Shelf) (next : Step) (new : PutFile) (after : Shelf)
       (t : puts.Takes at wsize m sent turn (Err fault) old next new after) → PutHas B at wsize m sent turn (Err fault) old next new after t
   put-unmade B putting.Idle m old next new after t = tt
   put-unmade B putting.Opens m old next new after t = λ file is.
@@ -84,7 +84,7 @@ module _ (A : List ℕ → ℕ → List ℕ → Type 0) (wsize : ℕ) (sent turn
   put-unmade B (putting.Adds file) m old next new after t = room-unmade B m.write.state m.write old t.told t.written t.mid t.takes
   put-unmade B (putting.Saves saving) m old next new after t = tt
 
-  file-unmade : (m : FileMachine) (old : Shelf) (next : Next) (new : FileMachine) (after : Shelf) (t : steps.Takes wsize m sent turn (Err fault) old next new after)
+  file-unmade : (m : FileMachine) (old : Shelf) (next : Step) (new : FileMachine) (after : Shelf) (t : steps.Takes wsize m sent turn (Err fault) old next new after)
       → FileHas A wsize m sent turn (Err fault) old next new after t
   file-unmade (files.Open m) old next new after t = tt
   file-unmade (files.Read m) old next new after t = tt
@@ -94,13 +94,13 @@ module _ (A : List ℕ → ℕ → List ℕ → Type 0) (wsize : ℕ) (sent turn
   file-unmade (files.Truncate m) old next new after t = tt
   file-unmade (files.Put m) old next new after t = put-unmade _ m.state m old next t.machine after t.step
 
-  path-unmade : (b : Bool) (m : PathMachine) (old : Shelf) (next : Next) (new : PathMachine) (after : Shelf) (t : paths.PathTakes b wsize m sent turn (Err fault) old next new after)
+  path-unmade : (b : Bool) (m : PathMachine) (old : Shelf) (next : Step) (new : PathMachine) (after : Shelf) (t : paths.PathTakes b wsize m sent turn (Err fault) old next new after)
       → PathHas A b wsize m sent turn (Err fault) old next new after t
   path-unmade true m old next new after t = file-unmade (file_of m.opener) old next (file_of t.opener) after t.step
   path-unmade false m old next new after t = tt
 
   -- so it has any A of what it adds
-  pub unmade-has : (m : Machine) (old : Shelf) (next : Next) (new : Machine) (after : Shelf) (t : Takes wsize m sent turn (Err fault) old next new after)
+  pub unmade-has : (m : Machine) (old : Shelf) (next : Step) (new : Machine) (after : Shelf) (t : Takes wsize m sent turn (Err fault) old next new after)
       → TakesHas A wsize m sent turn (Err fault) old next new after t
   unmade-has (machines.File m) old next new after t = file-unmade m old next t.machine after t.step
   unmade-has (machines.Path m) old next new after t = path-unmade m.arrived m old next t.machine after t.step

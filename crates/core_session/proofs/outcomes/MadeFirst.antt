@@ -1,5 +1,5 @@
 -- An open that looks up what it made, since the reply to its CREATE gave no file handle, made that CREATE before (RFC 1813, section 3.3.8).
-use Rattle.core_session.proofs.Prelude.{◌≡◌, ◌-◌, ◌==◌, ℕ, Bool, true, false, List, [], ◌∷◌, ◌++◌, length, Option, Some, None, Result, Ok, Err, refl, sym, ap, subst, ◌∙◌, arith, if◌then◌else◌, Attr, Mode, looked, known_of, Fault, Entry, Began, Call, Reply, Op, create_unchecked, Asked, FirstSent-grow, length_last, Next, Shelf, Turn, OpenFile, Led, Opening, OpeningStep, PutFile, made_by, got_by, WalkNext, Mounted, Machine, Opener, PathMachine, machine_of, file_of, slot_taken, begun_at, Starts, Resumes, Takes, State, Busy, Over, Setup, Awaits, PathOr, Did, TaleLaws, NoCall, NoShelf}
+use Rattle.core_session.proofs.Prelude.{◌≡◌, ◌-◌, ◌==◌, ℕ, Bool, true, false, List, [], ◌∷◌, ◌++◌, length, Option, Some, None, Result, Ok, Err, refl, sym, ap, subst, ◌∙◌, arith, if◌then◌else◌, Attr, Mode, looked, known_of, Fault, Entry, Began, Call, Reply, Op, create_unchecked, Asked, FirstSent-grow, length_last, Step, Shelf, Turn, OpenFile, Led, Opening, OpeningPhase, PutFile, made_by, got_by, WalkStep, Mounted, Machine, Opener, PathMachine, machine_of, file_of, slot_taken, begun_at, Starts, Resumes, Takes, State, Busy, Over, Setup, Awaits, PathOr, Did, TaleLaws, NoCall, NoShelf}
 use Rattle.file_ops.specs.Told.{found_by}
 use Rattle.op_machines.specs.Openers.{placed}
 use Rattle.core_facts.proofs.AllAwaited.{FileAwaits}
@@ -9,12 +9,12 @@ use Rattle.world_model.specs.declared.answer.Fault.TheVariants as faults
 use Rattle.world_model.specs.declared.message.Call.TheVariants as calls
 use Rattle.world_model.specs.declared.op.Op.TheVariants as ops
 use Rattle.claims.specs.GoesOn.{MadeWithin}
-use Rattle.client_shelf.specs.declared.next.Next.TheVariants as nexts
+use Rattle.client_shelf.specs.declared.step.Step.TheVariants as nexts
 use Rattle.file_ops.specs.declared.opening.Led.TheVariants as leads
-use Rattle.file_ops.specs.declared.opening.OpeningStep.TheVariants as opening_steps
+use Rattle.file_ops.specs.declared.opening.OpeningPhase.TheVariants as opening_steps
 use Rattle.file_ops.specs.OpenFile as opens
 use Rattle.file_ops.specs.Opening as opening
-use Rattle.name_ops.specs.declared.walk.WalkNext.TheVariants as walks
+use Rattle.name_ops.specs.declared.walk.WalkStep.TheVariants as walks
 use Rattle.name_ops.specs.Walking as walking
 use Rattle.op_machines.specs.declared.file_machine.FileMachine.TheVariants as files
 use Rattle.op_machines.specs.declared.machine.Machine.TheVariants as machines
@@ -53,11 +53,11 @@ made-by : (came : Result Reply Fault) → IsFind (opening.made (made_by came)) �
 made-by (Ok reply) f = tt
 made-by (Err fault) f = f
 
-record IsMade (step : OpeningStep) (came : Result Reply Fault) : Type 0 where
+record IsMade (step : OpeningPhase) (came : Result Reply Fault) : Type 0 where
   is : step ≡ opening_steps.Make
   replied : HasReply came
 
-led-find : (mode : Mode) (step : OpeningStep) (came : Result Reply Fault) → IsFind (opening.led_to mode step came) → IsMade step came
+led-find : (mode : Mode) (step : OpeningPhase) (came : Result Reply Fault) → IsFind (opening.led_to mode step came) → IsMade step came
 led-find mode opening_steps.Look came f = absurd (look-not (opening.makes mode came) (found_by came) f)
 led-find mode opening_steps.Make came f = record { is = refl; replied = made-by came f }
 led-find mode opening_steps.Find came f = absurd (found-not (found_by came) f)
@@ -213,12 +213,12 @@ module _ (h : List Entry) (x : ℕ) where
   begun-made true moment (openers.Put p) s = tt
   begun-made false moment k s = tt
 
-  opener-resumes : (k later : Opener) (wsize : ℕ) (turn : Turn) (old : Shelf) (next : Next) (after : Shelf) → OpenerMade k → steps.Resumes wsize (file_of k) turn old next (file_of later) after
+  opener-resumes : (k later : Opener) (wsize : ℕ) (turn : Turn) (old : Shelf) (next : Step) (after : Shelf) → OpenerMade k → steps.Resumes wsize (file_of k) turn old next (file_of later) after
       → OpenerMade later
   opener-resumes (openers.Open o) later wsize turn old next after s r = open-made later (opens.gone o turn) r.machine_is (go-made (opening.waits o.opening turn) o.opening s)
   opener-resumes (openers.Put p) later wsize turn old next after s r = put-made later r.machine r.machine_is
 
-  opener-takes : (k later : Opener) (wsize : ℕ) (sent turn : Turn) (came : Result Reply Fault) (old : Shelf) (next : Next) (after : Shelf) (call : Call) → OpenerMade k
+  opener-takes : (k later : Opener) (wsize : ℕ) (sent turn : Turn) (came : Result Reply Fault) (old : Shelf) (next : Step) (after : Shelf) (call : Call) → OpenerMade k
       → FileAwaits (file_of k) call → HearsSo came call → steps.Takes wsize (file_of k) sent turn came old next (file_of later) after → OpenerMade later
   opener-takes (openers.Open o) later wsize sent turn came old next after call s e heard t =
       let again = opening.opening_again o.opening sent turn came old.repeats in
@@ -229,12 +229,12 @@ module _ (h : List Entry) (x : ℕ) where
   path-as : (to new : PathMachine) → new ≡ to → PathMade to.arrived to.opener → PathMade new.arrived new.opener
   path-as to new is s = subst (λ (n : PathMachine). PathMade n.arrived n.opener) (sym is) s
 
-  then-made : (wsize : ℕ) (m : PathMachine) (turn : Turn) (old : Shelf) (next : Next) (new : PathMachine) (after : Shelf) → OpenerMade m.opener
+  then-made : (wsize : ℕ) (m : PathMachine) (turn : Turn) (old : Shelf) (next : Step) (new : PathMachine) (after : Shelf) → OpenerMade m.opener
       → paths.ThenResumes wsize m turn old next new after → PathMade new.arrived new.opener
   then-made wsize m turn old next new after s t =
       path-as (record m { opener = t.opener }) new t.machine_is (any-arrived m.arrived t.opener (opener-resumes m.opener t.opener wsize turn old next after s t.step))
 
-  follows-made : (step : WalkNext) (wsize : ℕ) (m : PathMachine) (turn : Turn) (old : Shelf) (next : Next) (new : PathMachine) (after : Shelf) → PathMade m.arrived m.opener
+  follows-made : (step : WalkStep) (wsize : ℕ) (m : PathMachine) (turn : Turn) (old : Shelf) (next : Step) (new : PathMachine) (after : Shelf) → PathMade m.arrived m.opener
       → paths.Follows step wsize m turn old next new after → PathMade new.arrived new.opener
   follows-made (walks.Send call) wsize m turn old next new after s f = path-as m new f.1 s
   follows-made walks.Wait wsize m turn old next new after s f = path-as m new f.1 s
@@ -242,19 +242,19 @@ module _ (h : List Entry) (x : ℕ) where
       then-made wsize (record m { opener = placed dir m.opener; arrived = true }) turn old next new after (placed-made dir m.opener) f
   follows-made (walks.Refused fault) wsize m turn old next new after s f = path-as m new f.1 s
 
-  path-resumes : (b : Bool) (wsize : ℕ) (m : PathMachine) (turn : Turn) (old : Shelf) (next : Next) (new : PathMachine) (after : Shelf) → m.arrived ≡ b → PathMade m.arrived m.opener
+  path-resumes : (b : Bool) (wsize : ℕ) (m : PathMachine) (turn : Turn) (old : Shelf) (next : Step) (new : PathMachine) (after : Shelf) → m.arrived ≡ b → PathMade m.arrived m.opener
       → paths.PathResumes b wsize m turn old next new after → PathMade new.arrived new.opener
   path-resumes true wsize m turn old next new after is s r = then-made wsize m turn old next new after (subst (λ (b : Bool). PathMade b m.opener) is s) r
   path-resumes false wsize m turn old next new after is s r =
       follows-made (walking.go_next m.walk turn old) wsize (record m { walk = walking.go_after m.walk turn old }) turn (walking.go_shelf m.walk turn old) next new after s r
 
-  path-starts : (taken : Bool) (wsize : ℕ) (m : PathMachine) (turn : Turn) (old : Shelf) (next : Next) (new : PathMachine) (after : Shelf) → PathMade m.arrived m.opener
+  path-starts : (taken : Bool) (wsize : ℕ) (m : PathMachine) (turn : Turn) (old : Shelf) (next : Step) (new : PathMachine) (after : Shelf) → PathMade m.arrived m.opener
       → paths.StartsIf taken wsize m turn old next new after → PathMade new.arrived new.opener
   path-starts true wsize m turn old next new after s t = path-as m new t.1 s
   path-starts false wsize m turn old next new after s t =
       path-resumes m.arrived wsize (record m { opener = begun_at (turn.moment - 1) m.opener }) turn old next new after refl (begun-made m.arrived (turn.moment - 1) m.opener s) t
 
-  path-takes : (b : Bool) (wsize : ℕ) (m : PathMachine) (sent turn : Turn) (came : Result Reply Fault) (old : Shelf) (next : Next) (new : PathMachine) (after : Shelf) (call : Call) → m.arrived ≡ b
+  path-takes : (b : Bool) (wsize : ℕ) (m : PathMachine) (sent turn : Turn) (came : Result Reply Fault) (old : Shelf) (next : Step) (new : PathMachine) (after : Shelf) (call : Call) → m.arrived ≡ b
       → PathMade m.arrived m.opener → PathOr m.arrived m call → HearsSo came call → paths.PathTakes b wsize m sent turn came old next new after → PathMade new.arrived new.opener
   path-takes true wsize m sent turn came old next new after call is s e heard t =
       path-as (record m { opener = t.opener }) new t.machine_is (any-arrived m.arrived t.opener
@@ -267,19 +267,19 @@ module _ (h : List Entry) (x : ℕ) where
   machine-as : (to new : Machine) → new ≡ to → FoundMade to → FoundMade new
   machine-as to new is s = subst FoundMade (sym is) s
 
-  starts-made : (m : Machine) (wsize : ℕ) (turn : Turn) (old : Shelf) (next : Next) (new : Machine) (after : Shelf) → FoundMade m → Starts wsize m turn old next new after → FoundMade new
+  starts-made : (m : Machine) (wsize : ℕ) (turn : Turn) (old : Shelf) (next : Step) (new : Machine) (after : Shelf) → FoundMade m → Starts wsize m turn old next new after → FoundMade new
   starts-made (machines.File m) wsize turn old next new after s t = machine-as (machines.File t.machine) new t.machine_is tt
   starts-made (machines.Path m) wsize turn old next new after s t =
       machine-as (machines.Path t.machine) new t.machine_is (path-starts (slot_taken m.opener old.opens) wsize m turn old next t.machine after s t.step)
   starts-made (machines.Name m) wsize turn old next new after s t = machine-as (machines.Name t.machine) new t.machine_is tt
 
-  resumes-made : (m : Machine) (wsize : ℕ) (turn : Turn) (old : Shelf) (next : Next) (new : Machine) (after : Shelf) → FoundMade m → Resumes wsize m turn old next new after → FoundMade new
+  resumes-made : (m : Machine) (wsize : ℕ) (turn : Turn) (old : Shelf) (next : Step) (new : Machine) (after : Shelf) → FoundMade m → Resumes wsize m turn old next new after → FoundMade new
   resumes-made (machines.File m) wsize turn old next new after s t = machine-as (machines.File t.machine) new t.machine_is tt
   resumes-made (machines.Path m) wsize turn old next new after s t =
       machine-as (machines.Path t.machine) new t.machine_is (path-resumes m.arrived wsize m turn old next t.machine after refl s t.step)
   resumes-made (machines.Name m) wsize turn old next new after s t = machine-as (machines.Name t.machine) new t.machine_is tt
 
-  takes-made : (m : Machine) (wsize : ℕ) (sent turn : Turn) (came : Result Reply Fault) (old : Shelf) (next : Next) (new : Machine) (after : Shelf) (call : Call) → FoundMade m → Awaits m call
+  takes-made : (m : Machine) (wsize : ℕ) (sent turn : Turn) (came : Result Reply Fault) (old : Shelf) (next : Step) (new : Machine) (after : Shelf) (call : Call) → FoundMade m → Awaits m call
       → HearsSo came call → Takes wsize m sent turn came old next new after → FoundMade new
   takes-made (machines.File m) wsize sent turn came old next new after call s e heard t = machine-as (machines.File t.machine) new t.machine_is tt
   takes-made (machines.Path m) wsize sent turn came old next new after call s e heard t =
@@ -333,7 +333,7 @@ state-later : (h : List Entry) (e : Entry) (x : ℕ) (state : State) → StateMa
 state-later h e x (Busy machine) s = machine-later h e x machine s
 state-later h e x (Over answer) s = tt
 
-did : (h : List Entry) (x : ℕ) (op : Op) (next : Next) (new : Machine) (after : Shelf) → FoundMade h x new → Did NoCall NoShelf MadeStory h x op next new after
+did : (h : List Entry) (x : ℕ) (op : Op) (next : Step) (new : Machine) (after : Shelf) → FoundMade h x new → Did NoCall NoShelf MadeStory h x op next new after
 did h x op (nexts.Send call) new after s = record { shelf = tt; asks = tt; then_ = s }
 did h x op nexts.Wait new after s = record { shelf = tt; asks = tt; then_ = s }
 did h x op (nexts.Done answer) new after s = record { shelf = tt; asks = tt; then_ = tt }

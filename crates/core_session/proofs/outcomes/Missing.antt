@@ -1,6 +1,6 @@
 -- An open that may make its file, and a remove, are refused with NFS3ERR_NOENT only where a record refused so a call from which they don't go on: the LOOKUP of
 -- a name on their way, a call that is no LOOKUP, or that of the last name, by an open that made it before and by a remove.
-use Rattle.core_session.proofs.Prelude.{◌≡◌, ◌≤◌, ◌+◌, inl, inr, ℕ, Bool, true, false, List, [], ◌∷◌, ◌++◌, length, Option, Some, None, Result, Ok, Err, refl, sym, ap, subst, ◌∙◌, arith, append_assoc, if◌then◌else◌, eqb-false, cases_lt, Mode, DirKept, Answer, Fault, Entry, Began, Delivered, Call, Reply, Op, look_up, create_unchecked, Modes, Ended, RefusesSo, FirstSent-grow, Answers-grow, length_last, Says, Next, Shelf, Turn, OpeningStep, Deed, Look, Seek, Move, Mounted, Machine, PathMachine, IsNamed, front_of, last_of, machine_of, file_of, Takes, State, Busy, Over, Setup, View, of_walk, path_by, removal_by, in_flight, Reaches, Awaits, PathOr, awaits-laws, begins-unbegun, FineAnswer, RemoveAwaits, ThenOf, AsksFor, Did, IsUnmadeFault, reached-good, Expects, expects-laws, RemoveRuns, NoCall, walk-looks, IsPiece, CallFaults, CallFits, fits-laws, CameOf, heard_of, unmade, SlotLaws, reached-answered, FineLed, FitsOpening, machine-fits, SentCall}
+use Rattle.core_session.proofs.Prelude.{◌≡◌, ◌≤◌, ◌+◌, inl, inr, ℕ, Bool, true, false, List, [], ◌∷◌, ◌++◌, length, Option, Some, None, Result, Ok, Err, refl, sym, ap, subst, ◌∙◌, arith, append_assoc, if◌then◌else◌, eqb-false, cases_lt, Mode, DirKept, Answer, Fault, Entry, Began, Delivered, Call, Reply, Op, look_up, create_unchecked, Modes, Ended, RefusesSo, FirstSent-grow, Answers-grow, length_last, Says, Step, Shelf, Turn, OpeningPhase, Deed, Look, Seek, Move, Mounted, Machine, PathMachine, IsNamed, front_of, last_of, machine_of, file_of, Takes, State, Busy, Over, Setup, View, of_walk, path_by, removal_by, in_flight, Reaches, Awaits, PathOr, awaits-laws, begins-unbegun, FineAnswer, RemoveAwaits, ThenOf, AsksFor, Did, IsUnmadeFault, reached-good, Expects, expects-laws, RemoveRuns, NoCall, walk-looks, IsPiece, CallFaults, CallFits, fits-laws, CameOf, heard_of, unmade, SlotLaws, reached-answered, FineLed, FitsOpening, machine-fits, SentCall}
 use Rattle.claims.specs.PageRules.{RefusedSo}
 use Rattle.name_ops.specs.declared.remove_file.Deed.TheVariants.{Remove}
 use Rattle.core_facts.specs.InFlight.{of_file}
@@ -19,9 +19,9 @@ use Rattle.world_model.specs.declared.message.Call.TheVariants as calls
 use Rattle.world_model.specs.declared.message.Reply.TheVariants as replies
 use Rattle.world_model.specs.declared.op.Op.TheVariants as ops
 use Rattle.claims.specs.GoesOn.{MadeWithin}
-use Rattle.client_shelf.specs.declared.next.Next.TheVariants as nexts
+use Rattle.client_shelf.specs.declared.step.Step.TheVariants as nexts
 use Rattle.file_ops.specs.declared.opening.Led.TheVariants as leads
-use Rattle.file_ops.specs.declared.opening.OpeningStep.TheVariants as opening_steps
+use Rattle.file_ops.specs.declared.opening.OpeningPhase.TheVariants as opening_steps
 use Rattle.file_ops.specs.Opening as opening
 use Rattle.file_ops.specs.Told as told
 use Rattle.name_ops.specs.RemoveFile as removals
@@ -184,7 +184,7 @@ module _ (m : Mounted) (setup : Setup) where
   abbrev Story : List Entry → ℕ → Op → State → Type 0
   Story h x op state = StateStory h x op state
 
-  asks-none : (h : List Entry) (x : ℕ) (op : Op) (next : Next) → AsksFor (NoWait h x op) next
+  asks-none : (h : List Entry) (x : ℕ) (op : Op) (next : Step) → AsksFor (NoWait h x op) next
   asks-none h x op (nexts.Send call) = tt
   asks-none h x op nexts.Wait = tt
   asks-none h x op (nexts.Done answer) = tt
@@ -193,13 +193,13 @@ module _ (m : Mounted) (setup : Setup) where
   answer-story h x op (answers.Done value) f = tt
   answer-story h x op (answers.Refused fault) f = f
 
-  abbrev StepsSo : List Entry → ℕ → Op → Next → Machine → Type 0
+  abbrev StepsSo : List Entry → ℕ → Op → Step → Machine → Type 0
   StepsSo h x op next new = steps.MachineStep (Shown h x op) (own-fault h x op) next new
 
-  did : (h : List Entry) (x : ℕ) (op : Op) (next : Next) (new : Machine) (after : Shelf) → StepsSo h x op next new → Did NoWait NoShelf Story h x op next new after
+  did : (h : List Entry) (x : ℕ) (op : Op) (next : Step) (new : Machine) (after : Shelf) → StepsSo h x op next new → Did NoWait NoShelf Story h x op next new after
   did h x op next new after s = record { shelf = tt; asks = asks-none h x op next; then_ = by next s }
     where
-      by : (n : Next) → StepsSo h x op n new → ThenOf (λ k. Story h x op (Busy k)) (λ a. Story h x op (Over a)) n new
+      by : (n : Step) → StepsSo h x op n new → ThenOf (λ k. Story h x op (Busy k)) (λ a. Story h x op (Over a)) n new
       by (nexts.Send call) k = k.1
       by nexts.Wait k = k.1
       by (nexts.Done answer) k = answer-story h x op answer k.0
@@ -286,7 +286,7 @@ module _ (m : Mounted) (setup : Setup) where
     seek-fits faults.Kind none = tt
     seek-fits faults.Many none = tt
 
-  module _ (h : List Entry) (x : ℕ) (op : Op) (machine : Machine) (wsize : ℕ) (sent turn : Turn) (came : Result Reply Fault) (old : Shelf) (next : Next) (new : Machine) (after : Shelf)
+  module _ (h : List Entry) (x : ℕ) (op : Op) (machine : Machine) (wsize : ℕ) (sent turn : Turn) (came : Result Reply Fault) (old : Shelf) (next : Step) (new : Machine) (after : Shelf)
       (others : ℕ) (story : steps.FineMachine (Shown h x op) (own-fault h x op) machine) (one : in_flight machine ≡ others + 1) (t : Takes wsize machine sent turn came old next new after) where
     any-step : steps.FitsMachine (Shown h x op) (own-fault h x op) sent came machine old.back → StepsSo h x op next new
     any-step n =
@@ -356,13 +356,13 @@ module _ (m : Mounted) (setup : Setup) where
               let led : FineLed (Shown h x op) (own-fault h x op) (opening.led_to modes.C opening_steps.Look came) =
               look-fits h x op k.call came k.now k.read k.seen.base.was (opening.is_missing came) refl in
               let stepped : FineLed (Shown h x op) (own-fault h x op) (opening.led_to modes.C c.opener.opening.step came) =
-              subst (λ (s : OpeningStep). FineLed (Shown h x op) (own-fault h x op) (opening.led_to modes.C s came)) (sym look) led in
+              subst (λ (s : OpeningPhase). FineLed (Shown h x op) (own-fault h x op) (opening.led_to modes.C s came)) (sym look) led in
               let fits : FitsOpening (Shown h x op) (own-fault h x op) c.opener.opening came =
               subst (λ (n : Mode). FineLed (Shown h x op) (own-fault h x op) (opening.led_to n c.opener.opening.step came)) (sym c.mode_is) stepped in
               any-step (subst (λ (n : Machine). steps.FitsMachine (Shown h x op) (own-fault h x op) sent came n old.back) (sym c.is)
               (subst (λ (b : Bool). steps.FitsPath (Shown h x op) (own-fault h x op) b sent came at old.back) (sym on) fits))
 
-          step : c.arrived ≡ true → (s : OpeningStep) → c.opener.opening.step ≡ s → StepsSo h x op next new
+          step : c.arrived ≡ true → (s : OpeningPhase) → c.opener.opening.step ≡ s → StepsSo h x op next new
           step on opening_steps.Look to = looks on to
           step on opening_steps.Make to =
               missed-by path may (other (no-create k.call c.opener.opening.dir c.opener.opening.name (opening.making_of c.opener.opening.mode)

@@ -1,5 +1,5 @@
 -- A step of an open ends it well only at the reply to its GETATTR, or at one that gave a file of which attributes are kept.
-use Rattle.core_session.proofs.Prelude.{◌≡◌, ◌==◌, ◌&&◌, inl, inr, ℕ, Bool, true, false, List, Option, Some, None, Result, Ok, Err, refl, sym, ap, subst, ◌∙◌, if◌then◌else◌, eqb-true, Attr, Mode, known_of, Fault, Value, Call, Reply, Next, Shelf, Turn, OpenFile, Led, Opening, OpeningNext, OpeningStep, made_by, got_by, Walk, WalkNext, PathMachine}
+use Rattle.core_session.proofs.Prelude.{◌≡◌, ◌==◌, ◌&&◌, inl, inr, ℕ, Bool, true, false, List, Option, Some, None, Result, Ok, Err, refl, sym, ap, subst, ◌∙◌, if◌then◌else◌, eqb-true, Attr, Mode, known_of, Fault, Value, Call, Reply, Step, Shelf, Turn, OpenFile, Led, Opening, OpeningStep, OpeningPhase, made_by, got_by, Walk, WalkStep, PathMachine}
 use Rattle.file_ops.specs.Told.{found_by}
 use Rattle.std.specs.FinMap as finite
 use Rattle.nfs_types.specs.declared.mode.Mode.TheVariants as modes
@@ -7,26 +7,26 @@ use Rattle.attr_cache.specs.Attrs as attrs
 use Rattle.world_model.specs.declared.answer.Answer.TheVariants as answers
 use Rattle.world_model.specs.declared.answer.Fault.TheVariants as faults
 use Rattle.world_model.specs.declared.answer.Value.TheVariants as values
-use Rattle.client_shelf.specs.declared.next.Next.TheVariants as nexts
+use Rattle.client_shelf.specs.declared.step.Step.TheVariants as nexts
 use Rattle.file_ops.specs.declared.opening.Led.TheVariants as leads
-use Rattle.file_ops.specs.declared.opening.OpeningNext.TheVariants as openings
-use Rattle.file_ops.specs.declared.opening.OpeningStep.TheVariants as opening_steps
+use Rattle.file_ops.specs.declared.opening.OpeningStep.TheVariants as openings
+use Rattle.file_ops.specs.declared.opening.OpeningPhase.TheVariants as opening_steps
 use Rattle.file_ops.specs.OpenFile as opens
 use Rattle.file_ops.specs.Opening as opening
-use Rattle.name_ops.specs.declared.walk.WalkNext.TheVariants as walks
+use Rattle.name_ops.specs.declared.walk.WalkStep.TheVariants as walks
 use Rattle.name_ops.specs.Walking as walking
 use Rattle.op_machines.specs.declared.opener.Opener.TheVariants as openers
 use Rattle.op_machines.specs.PathSteps as paths
 
 -- it ends, and well
-abbrev IsWell : Next → Value → Type 0
+abbrev IsWell : Step → Value → Type 0
 IsWell next value = next ≡ nexts.Done (answers.Done value)
 
 -- it doesn't
-abbrev pub IsUnwell : Next → Type 0
+abbrev pub IsUnwell : Step → Type 0
 IsUnwell next = (value : Value) → IsWell next value → ⊥
 
-unwell-as : (to next : Next) → next ≡ to → IsUnwell to → IsUnwell next
+unwell-as : (to next : Step) → next ≡ to → IsUnwell to → IsUnwell next
 unwell-as to next is u value well = u value (sym is ∙ well)
 
 sends-unwell : (call : Call) → IsUnwell (nexts.Send call)
@@ -47,11 +47,11 @@ asks-unwell false call = sends-unwell call
 go-unwell : (o : Opening) (turn : Turn) → IsUnwell (opens.goes_as (opening.go_next o turn))
 go-unwell o turn = asks-unwell (opening.waits o turn) (opening.call_of o o.step)
 
-then-unwell : (wsize : ℕ) (walk : Walk) (o : OpenFile) (arrived : Bool) (turn : Turn) (old : Shelf) (next : Next) (new : PathMachine) (after : Shelf)
+then-unwell : (wsize : ℕ) (walk : Walk) (o : OpenFile) (arrived : Bool) (turn : Turn) (old : Shelf) (next : Step) (new : PathMachine) (after : Shelf)
     → paths.ThenResumes wsize (record { walk = walk; opener = openers.Open o; arrived = arrived }) turn old next new after → IsUnwell next
 then-unwell wsize walk o arrived turn old next new after t = unwell-as (opens.goes_as (opening.go_next o.opening turn)) next t.step.next_is (go-unwell o.opening turn)
 
-follows-unwell : (step : WalkNext) (wsize : ℕ) (walk : Walk) (o : OpenFile) (turn : Turn) (old : Shelf) (next : Next) (new : PathMachine) (after : Shelf)
+follows-unwell : (step : WalkStep) (wsize : ℕ) (walk : Walk) (o : OpenFile) (turn : Turn) (old : Shelf) (next : Step) (new : PathMachine) (after : Shelf)
     → paths.Follows step wsize (record { walk = walk; opener = openers.Open o; arrived = false }) turn old next new after → IsUnwell next
 follows-unwell (walks.Send call) wsize walk o turn old next new after f = unwell-as (nexts.Send call) next f.0 (sends-unwell call)
 follows-unwell walks.Wait wsize walk o turn old next new after f = unwell-as nexts.Wait next f.0 waits-unwell
@@ -60,14 +60,14 @@ follows-unwell (walks.At dir) wsize walk o turn old next new after f =
     true turn old next new after f
 follows-unwell (walks.Refused fault) wsize walk o turn old next new after f = unwell-as (nexts.Done (answers.Refused fault)) next f.0 (refused-unwell fault)
 
-pub resumes-unwell : (b : Bool) (wsize : ℕ) (walk : Walk) (o : OpenFile) (turn : Turn) (old : Shelf) (next : Next) (new : PathMachine) (after : Shelf)
+pub resumes-unwell : (b : Bool) (wsize : ℕ) (walk : Walk) (o : OpenFile) (turn : Turn) (old : Shelf) (next : Step) (new : PathMachine) (after : Shelf)
     → paths.PathResumes b wsize (record { walk = walk; opener = openers.Open o; arrived = b }) turn old next new after → IsUnwell next
 resumes-unwell true wsize walk o turn old next new after r = then-unwell wsize walk o true turn old next new after r
 resumes-unwell false wsize walk o turn old next new after r =
     follows-unwell (walking.go_next walk turn old) wsize (walking.go_after walk turn old) o turn (walking.go_shelf walk turn old) next new after r
 
 -- the first step, of an open that begins
-pub starts-unwell : (b : Bool) (wsize : ℕ) (walk : Walk) (o : OpenFile) (turn : Turn) (old : Shelf) (next : Next) (new : PathMachine) (after : Shelf)
+pub starts-unwell : (b : Bool) (wsize : ℕ) (walk : Walk) (o : OpenFile) (turn : Turn) (old : Shelf) (next : Step) (new : PathMachine) (after : Shelf)
     → paths.StartsIf b wsize (record { walk = walk; opener = openers.Open o; arrived = false }) turn old next new after → IsUnwell next
 starts-unwell true wsize walk o turn old next new after s = unwell-as (nexts.Done (answers.Refused faults.Slot)) next s.0 (refused-unwell faults.Slot)
 starts-unwell false wsize walk o turn old next new after s = resumes-unwell false wsize walk (opens.begun o turn) turn old next new after s
@@ -96,7 +96,7 @@ look-knows : (b : Bool) (told : Result (List ℕ) Fault) (file : List ℕ) (stam
 look-knows true told file stamp is = absurd (cc)
 look-knows false told file stamp is = found-knows told file stamp is
 
-told-knows : (step : OpeningStep) (mode : Mode) (came : Result Reply Fault) (file : List ℕ) (stamp : _) → opening.led_to mode step came ≡ leads.Knows file stamp → ⊥
+told-knows : (step : OpeningPhase) (mode : Mode) (came : Result Reply Fault) (file : List ℕ) (stamp : _) → opening.led_to mode step came ≡ leads.Knows file stamp → ⊥
 told-knows opening_steps.Look mode came file stamp is = look-knows (opening.makes mode came) (found_by came) file stamp is
 told-knows opening_steps.Make mode came file stamp is = made-knows (made_by came) file stamp is
 told-knows opening_steps.Find mode came file stamp is = found-knows (found_by came) file stamp is
@@ -174,7 +174,7 @@ makes-none modes.W fault = refl
 makes-none modes.RW fault = refl
 makes-none modes.X fault = refl
 
-err-led : (step : OpeningStep) (mode : Mode) (fault : Fault) → opening.led_to mode step (Err fault) ≡ leads.Ends fault
+err-led : (step : OpeningPhase) (mode : Mode) (fault : Fault) → opening.led_to mode step (Err fault) ≡ leads.Ends fault
 err-led opening_steps.Look mode fault = ap (λ (b : Bool). if b then leads.Goes opening_steps.Make else leads.Ends fault) (makes-none mode fault)
 err-led opening_steps.Make mode fault = refl
 err-led opening_steps.Find mode fault = refl
@@ -201,7 +201,7 @@ led-well false o sent turn (leads.Ends fault) file pages later l = absurd (let i
 nothing-more : (value : Value) → nexts.Done (answers.Done values.Nothing) ≡ nexts.Done (answers.Done value) → value ≡ values.Nothing
 nothing-more value e = let same : values.Nothing ≡ value = cc in sym same
 
-puts-well : (other : Option _) (place of : _) (next : Next) (old new : _) (value : Value) → opens.PutsOver other place of next old new → IsWell next value → value ≡ values.Nothing
+puts-well : (other : Option _) (place of : _) (next : Step) (old new : _) (value : Value) → opens.PutsOver other place of next old new → IsWell next value → value ≡ values.Nothing
 puts-well (Some other) place of next old new value p well = absurd (unwell-as (opens.refused faults.Slot) next p.0 (refused-unwell faults.Slot) value well)
 puts-well None place of next old new value (inl p) well = nothing-more value (sym p.0 ∙ well)
 puts-well None place of next old new value (inr p) well = absurd (unwell-as (opens.refused faults.Memory) next p.0 (refused-unwell faults.Memory) value well)
@@ -211,7 +211,7 @@ pub record EndsWell (m : OpenFile) (came : Result Reply Fault) (now : ℕ) (c : 
   pub led : WellLed (opening.led_on m.opening now came c pages)
   pub gives : value ≡ values.Nothing
 
-follows-well : (m : OpenFile) (sent turn : Turn) (came : Result Reply Fault) (c : attrs.Attrs) (again : Bool) (step : OpeningNext) (next : Next) (pages later : _) (old new : _) (value : Value)
+follows-well : (m : OpenFile) (sent turn : Turn) (came : Result Reply Fault) (c : attrs.Attrs) (again : Bool) (step : OpeningStep) (next : Step) (pages later : _) (old new : _) (value : Value)
     → opening.LedIf again m.opening sent turn (opening.led_on m.opening turn.now came c pages) step pages later → opens.Follows m step next old new → IsWell next value
     → EndsWell m came turn.now c pages value
 follows-well m sent turn came c again (openings.Send call) next pages later old new value l f well = absurd (unwell-as (nexts.Send call) next f.0 (sends-unwell call) value well)
@@ -228,7 +228,7 @@ pub record ArrivedWell (b : Bool) (o : OpenFile) (came : Result Reply Fault) (tu
   pub arrived : b ≡ true
   pub ends : EndsWell o came turn.now after.attrs old.pages value
 
-pub takes-well : (b : Bool) (wsize : ℕ) (walk : Walk) (o : OpenFile) (sent turn : Turn) (came : Result Reply Fault) (old : Shelf) (next : Next) (new : PathMachine) (after : Shelf) (value : Value)
+pub takes-well : (b : Bool) (wsize : ℕ) (walk : Walk) (o : OpenFile) (sent turn : Turn) (came : Result Reply Fault) (old : Shelf) (next : Step) (new : PathMachine) (after : Shelf) (value : Value)
     → paths.PathTakes b wsize (record { walk = walk; opener = openers.Open o; arrived = b }) sent turn came old next new after → next ≡ nexts.Done (answers.Done value)
     → ArrivedWell b o came turn old after value
 takes-well true wsize walk o sent turn came old next new after value k well = record {

@@ -1,5 +1,5 @@
 -- The LOOKUP or CREATE of an open that gave its file, and kept attributes that a reply showed.
-use Rattle.core_session.proofs.Prelude.{◌≡◌, ℕ, Bool, true, false, List, [], ◌∷◌, ◌++◌, length, Option, Some, None, Result, Ok, Err, refl, ap, subst, arith, if◌then◌else◌, Attr, Mode, DirKept, Fault, Entry, Call, Reply, look_up, Asked, status_of, EndsWith, Asked-grow, Asked-wide, length_last, Opening, OpeningStep, made_by, got_by, last_of, IsAnswered}
+use Rattle.core_session.proofs.Prelude.{◌≡◌, ℕ, Bool, true, false, List, [], ◌∷◌, ◌++◌, length, Option, Some, None, Result, Ok, Err, refl, ap, subst, arith, if◌then◌else◌, Attr, Mode, DirKept, Fault, Entry, Call, Reply, look_up, Asked, status_of, EndsWith, Asked-grow, Asked-wide, length_last, Opening, OpeningPhase, made_by, got_by, last_of, IsAnswered}
 use Rattle.claims.specs.Asks.{MakesFile}
 use Rattle.world_model.proofs.Growth.{Heard-wide}
 use Rattle.file_ops.specs.Told.{found_by}
@@ -14,7 +14,7 @@ use Rattle.world_model.specs.declared.message.Call.TheVariants as calls
 use Rattle.world_model.specs.declared.message.Reply.TheVariants as replies
 use Rattle.claims.specs.Shown.{ShownWithin, given_object}
 use Rattle.file_ops.specs.declared.opening.Led.TheVariants as leads
-use Rattle.file_ops.specs.declared.opening.OpeningStep.TheVariants as opening_steps
+use Rattle.file_ops.specs.declared.opening.OpeningPhase.TheVariants as opening_steps
 use Rattle.file_ops.specs.Opening as opening
 use Rattle.core_facts.proofs.OpenStory.{OpeningStory, OpeningTold, StepStory, makes-file}
 use Rattle.core_answers.proofs.bonds.AttrsShown.{ShownIn}
@@ -136,10 +136,10 @@ module _ (top : List ℕ) (h : List Entry) (x : ℕ) (path : List (List ℕ)) (m
       → opening.told_led o came ≡ leads.Goes (opening_steps.Ask file) → GivenBy o.dir file
   gave-file o came file s t is = by o.step refl s.step is
     where
-      at : (k : OpeningStep) → o.step ≡ k → OpeningTold top h x path mode came (opening.call_of o k)
-      at k same = subst (λ (n : OpeningStep). OpeningTold top h x path mode came (opening.call_of o n)) same t
+      at : (k : OpeningPhase) → o.step ≡ k → OpeningTold top h x path mode came (opening.call_of o k)
+      at k same = subst (λ (n : OpeningPhase). OpeningTold top h x path mode came (opening.call_of o n)) same t
 
-      by : (k : OpeningStep) → o.step ≡ k → StepStory top h x path mode o.dir k → opening.led_to o.mode k came ≡ leads.Goes (opening_steps.Ask file) → GivenBy o.dir file
+      by : (k : OpeningPhase) → o.step ≡ k → StepStory top h x path mode o.dir k → opening.led_to o.mode k came ≡ leads.Goes (opening_steps.Ask file) → GivenBy o.dir file
       by opening_steps.Look same p e =
           given-by o came file (opening.call_of o opening_steps.Look) (looks (ap (look_up o.dir) s.name_is)) (at opening_steps.Look same)
           (found-gives came file (look-ok (opening.makes o.mode came) (found_by came) file e))

@@ -1,5 +1,5 @@
 -- How an open goes well: with the reply to its GETATTR, or with the one that gave its file, of which attributes are kept.
-use Rattle.core_session.proofs.Prelude.{◌≡◌, ◌≤◌, ◌+◌, ◌⊎◌, inl, inr, ℕ, Bool, true, false, List, [], ◌∷◌, ◌++◌, length, Result, refl, sym, subst, ◌∙◌, arith, Attr, Mode, Answer, Fault, Value, Entry, Began, Delivered, Call, Reply, Op, IsDelivered, Asked-grow, Asked-wide, length_last, Next, Shelf, Turn, OpenFile, Opening, walk_of, Mounted, Machine, PathMachine, IsNamed, front_of, last_of, machine_of, file_of, slot_taken, Starts, Resumes, Takes, State, Busy, Setup, of_walk, path_by, in_flight, Awaits, PathOr, LeadsTo, leads-later, ends-later, IsQuiet, Did, TaleLaws, walk-looks, LastAtMost, one-call, CameOf, heard_of, unmade, SlotLaws}
+use Rattle.core_session.proofs.Prelude.{◌≡◌, ◌≤◌, ◌+◌, ◌⊎◌, inl, inr, ℕ, Bool, true, false, List, [], ◌∷◌, ◌++◌, length, Result, refl, sym, subst, ◌∙◌, arith, Attr, Mode, Answer, Fault, Value, Entry, Began, Delivered, Call, Reply, Op, IsDelivered, Asked-grow, Asked-wide, length_last, Step, Shelf, Turn, OpenFile, Opening, walk_of, Mounted, Machine, PathMachine, IsNamed, front_of, last_of, machine_of, file_of, slot_taken, Starts, Resumes, Takes, State, Busy, Setup, of_walk, path_by, in_flight, Awaits, PathOr, LeadsTo, leads-later, ends-later, IsQuiet, Did, TaleLaws, walk-looks, LastAtMost, one-call, CameOf, heard_of, unmade, SlotLaws}
 use Rattle.core_facts.specs.InFlight.{of_file}
 use Rattle.core_facts.specs.Tries.{IsMade}
 use Rattle.core_answers.proofs.refusals.Answering.{IsSeen}
@@ -7,7 +7,7 @@ use Rattle.world_model.specs.declared.answer.Answer.TheVariants as answers
 use Rattle.world_model.specs.declared.answer.Value.TheVariants as values
 use Rattle.world_model.specs.declared.op.Op.TheVariants as ops
 use Rattle.claims.specs.Shown.{ShownWithin}
-use Rattle.client_shelf.specs.declared.next.Next.TheVariants as nexts
+use Rattle.client_shelf.specs.declared.step.Step.TheVariants as nexts
 use Rattle.file_ops.specs.Opening as opening
 use Rattle.op_machines.specs.declared.opener.Opener.TheVariants as openers
 use Rattle.client_core.specs.declared.lane.State.TheVariants.{Over as Ends}
@@ -109,19 +109,19 @@ module _ (m : Mounted) (most : ℕ) where
   Story h x op (Busy machine) = asking.Story m h x op (Busy machine)
   Story h x op (Ends answer) = OverStory h x op answer
 
-  abbrev DidOld : List Entry → ℕ → Op → Next → Machine → Shelf → Type 0
+  abbrev DidOld : List Entry → ℕ → Op → Step → Machine → Shelf → Type 0
   DidOld h x op next new after = Did (asking.Caused m) (asking.Shelved m) (asking.Story m) h x op next new after
 
-  abbrev DidSo : List Entry → ℕ → Op → Next → Machine → Shelf → Type 0
+  abbrev DidSo : List Entry → ℕ → Op → Step → Machine → Shelf → Type 0
   DidSo h x op next new after = Did (asking.Caused m) (asking.Shelved m) Story h x op next new after
 
-  did-so : (h : List Entry) (x : ℕ) (op : Op) (next : Next) (new : Machine) (after : Shelf) → DidOld h x op next new after
+  did-so : (h : List Entry) (x : ℕ) (op : Op) (next : Step) (new : Machine) (after : Shelf) → DidOld h x op next new after
       → ((answer : Answer) → next ≡ nexts.Done answer → OverStory h x op answer) → DidSo h x op next new after
   did-so h x op (nexts.Send call) new after d over = record { shelf = d.shelf; asks = d.asks; then_ = d.then_ }
   did-so h x op nexts.Wait new after d over = record { shelf = d.shelf; asks = d.asks; then_ = d.then_ }
   did-so h x op (nexts.Done answer) new after d over = record { shelf = d.shelf; asks = d.asks; then_ = over answer refl }
 
-  never-well : (h : List Entry) (x : ℕ) (path : List (List ℕ)) (mode : Mode) (next : Next) (answer : Answer) → IsUnwell next → next ≡ nexts.Done answer → AnswerStory h x path mode answer
+  never-well : (h : List Entry) (x : ℕ) (path : List (List ℕ)) (mode : Mode) (next : Step) (answer : Answer) → IsUnwell next → next ≡ nexts.Done answer → AnswerStory h x path mode answer
   never-well h x path mode next (answers.Done value) unwell is = absurd (unwell value is)
   never-well h x path mode next (answers.Refused fault) unwell is = tt
 
@@ -156,7 +156,7 @@ module _ (m : Mounted) (most : ℕ) where
         let mine : PathOr k.arrived at call = subst (λ (n : Machine). Awaits n call) k.is e in
         subst (λ (b : Bool). PathOr b at call) there mine
 
-    ends-so : (wsize : ℕ) (next : Next) (new : Machine) (value : Value) (k : OpenRuns m.root h x path mode m.nocto machine) → k.arrived ≡ true
+    ends-so : (wsize : ℕ) (next : Step) (new : Machine) (value : Value) (k : OpenRuns m.root h x path mode m.nocto machine) → k.arrived ≡ true
         → EndsWell k.opener came turn.now after.attrs old.pages value → CameOf Seen Awaits (asking.Caused m) h x op machine sent came old
         → Takes wsize machine sent turn came old next new after → WentWell h x path mode value
     ends-so wsize next new value k there w (unmade call e fault is u) t =
@@ -175,7 +175,7 @@ module _ (m : Mounted) (most : ℕ) where
         }
 
   over-after : (h : List Entry) (x : ℕ) (op : Op) (path : List (List ℕ)) (mode : Mode) (machine : Machine) (wsize : ℕ) (sent turn : Turn) (came : Result Reply Fault) (old : Shelf)
-      (next : Next) (new : Machine) (after : Shelf) (answer : Answer) → IsNamed path → OpenRuns m.root h x path mode m.nocto machine
+      (next : Step) (new : Machine) (after : Shelf) (answer : Answer) → IsNamed path → OpenRuns m.root h x path mode m.nocto machine
       → CameOf Seen Awaits (asking.Caused m) h x op machine sent came old → Takes wsize machine sent turn came old next new after → next ≡ nexts.Done answer
       → AnswerStory h x path mode answer
   over-after h x op path mode machine wsize sent turn came old next new after (answers.Refused fault) named k told t is = tt

@@ -1,11 +1,11 @@
 -- An operation is refused for the kind of a file only if it wants one, and for too many names only if it lists them.
-use Rattle.core_session.proofs.Prelude.{◌≡◌, ◌+◌, ℕ, List, [], ◌∷◌, ◌++◌, length, option_map, Result, Ok, Err, sym, ap, subst, ◌∙◌, Waiting, Answer, Fault, Entry, Began, Call, Reply, Op, RefusesSo, Says, Next, Shelf, Turn, Mounted, Machine, machine_of, Takes, Purpose, State, Busy, Over, Setup, in_flight, begins-unbegun, FineAnswer, ThenOf, AsksFor, Did, IsUnmadeFault, Expects, expects-laws, IsPiece, CallFaults, one-call, CallFits, fits-laws, machine-fits, CameOf, heard_of, unmade, SlotLaws, reached-answered}
+use Rattle.core_session.proofs.Prelude.{◌≡◌, ◌+◌, ℕ, List, [], ◌∷◌, ◌++◌, length, option_map, Result, Ok, Err, sym, ap, subst, ◌∙◌, Waiting, Answer, Fault, Entry, Began, Call, Reply, Op, RefusesSo, Says, Step, Shelf, Turn, Mounted, Machine, machine_of, Takes, Purpose, State, Busy, Over, Setup, in_flight, begins-unbegun, FineAnswer, ThenOf, AsksFor, Did, IsUnmadeFault, Expects, expects-laws, IsPiece, CallFaults, one-call, CallFits, fits-laws, machine-fits, CameOf, heard_of, unmade, SlotLaws, reached-answered}
 use Rattle.core_answers.proofs.refusals.Answering.{IsSeen}
 use Rattle.world_model.specs.declared.answer.Answer.TheVariants as answers
 use Rattle.world_model.specs.declared.answer.Fault.TheVariants as faults
 use Rattle.world_model.specs.Heard.{Refuses}
 use Rattle.claims.specs.PageRules as page_rules
-use Rattle.client_shelf.specs.declared.next.Next.TheVariants as nexts
+use Rattle.client_shelf.specs.declared.step.Step.TheVariants as nexts
 use Rattle.core_answers.proofs.answers.Both.{both-laws}
 use Rattle.core_answers.proofs.answers.Writing.{written-reached}
 use Rattle.core_answers.proofs.refusals.FitAll as steps
@@ -78,7 +78,7 @@ StateStory op (Over answer) = AnswerStory op answer
 abbrev Story : List Entry → ℕ → Op → State → Type 0
 Story h x op state = StateStory op state
 
-asks-none : (h : List Entry) (x : ℕ) (op : Op) (next : Next) → AsksFor (NoWait h x op) next
+asks-none : (h : List Entry) (x : ℕ) (op : Op) (next : Step) → AsksFor (NoWait h x op) next
 asks-none h x op (nexts.Send call) = tt
 asks-none h x op nexts.Wait = tt
 asks-none h x op (nexts.Done answer) = tt
@@ -87,20 +87,20 @@ answer-story : (op : Op) (answer : Answer) → FineAnswer (IsItsOwn op) answer �
 answer-story op (answers.Done value) f = tt
 answer-story op (answers.Refused fault) f = f
 
-abbrev StepsSo : Op → Next → Machine → Type 0
+abbrev StepsSo : Op → Step → Machine → Type 0
 StepsSo op next new = steps.MachineStep (IsItsOwn op) (own op) next new
 
-did : (h : List Entry) (x : ℕ) (op : Op) (next : Next) (new : Machine) (after : Shelf) → IsSort op new → StepsSo op next new → Did NoWait NoShelf Story h x op next new after
+did : (h : List Entry) (x : ℕ) (op : Op) (next : Step) (new : Machine) (after : Shelf) → IsSort op new → StepsSo op next new → Did NoWait NoShelf Story h x op next new after
 did h x op next new after sort s = record { shelf = tt; asks = asks-none h x op next; then_ = by next s }
   where
-    by : (n : Next) → StepsSo op n new → ThenOf (λ k. Story h x op (Busy k)) (λ a. Story h x op (Over a)) n new
+    by : (n : Step) → StepsSo op n new → ThenOf (λ k. Story h x op (Busy k)) (λ a. Story h x op (Over a)) n new
     by (nexts.Send call) k = (k.1, sort)
     by nexts.Wait k = (k.1, sort)
     by (nexts.Done answer) k = answer-story op answer k.0
 
 -- ---- a reply comes
 
-module _ (h : List Entry) (x : ℕ) (op : Op) (machine : Machine) (wsize : ℕ) (sent turn : Turn) (came : Result Reply Fault) (old : Shelf) (next : Next) (new : Machine) (after : Shelf)
+module _ (h : List Entry) (x : ℕ) (op : Op) (machine : Machine) (wsize : ℕ) (sent turn : Turn) (came : Result Reply Fault) (old : Shelf) (next : Step) (new : Machine) (after : Shelf)
     (others : ℕ) (story : Story h x op (Busy machine)) (one : in_flight machine ≡ others + 1) (t : Takes wsize machine sent turn came old next new after) where
   call-step : (call : Call) (xid : ℕ) (rec : List ℕ) → Calls machine call → ((reply : Reply) → came ≡ Ok reply → IsPiece sent.xid call old.back)
       → Given (IsItsOwn op) (own op) xid rec call came → StepsSo op next new

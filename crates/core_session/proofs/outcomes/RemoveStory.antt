@@ -1,5 +1,5 @@
 -- How a remove goes well: what its path leads to, and, of a file that it hides, that a slot held it and that nothing had its new name.
-use Rattle.core_session.proofs.Prelude.{◌≡◌, ◌≤◌, ℕ, List, [], ◌∷◌, ◌++◌, length, Option, Some, Result, Ok, Err, refl, sym, ap, subst, ◌∙◌, arith, Answer, Fault, Value, Entry, Began, Delivered, Call, Reply, Op, HeldOpen, look_up, status_of, EndsWith, Terms, IsDelivered, Asked-grow, Asked-wide, length_last, Next, Shelf, Turn, Deed, Look, Seek, Move, RemoveFile, Mounted, Machine, front_of, last_of, machine_of, Starts, Resumes, Takes, State, Busy, Over, Setup, LeadsTo, leads-later, end-leads, RemoveAwaits, ends-later, IsQuiet, Did, TaleLaws, Expects, RemoveRuns, NoCall, CameOf, heard_of, unmade, SlotLaws}
+use Rattle.core_session.proofs.Prelude.{◌≡◌, ◌≤◌, ℕ, List, [], ◌∷◌, ◌++◌, length, Option, Some, Result, Ok, Err, refl, sym, ap, subst, ◌∙◌, arith, Answer, Fault, Value, Entry, Began, Delivered, Call, Reply, Op, HeldOpen, look_up, status_of, EndsWith, Terms, IsDelivered, Asked-grow, Asked-wide, length_last, Step, Shelf, Turn, Deed, Look, Seek, Move, RemoveFile, Mounted, Machine, front_of, last_of, machine_of, Starts, Resumes, Takes, State, Busy, Over, Setup, LeadsTo, leads-later, end-leads, RemoveAwaits, ends-later, IsQuiet, Did, TaleLaws, Expects, RemoveRuns, NoCall, CameOf, heard_of, unmade, SlotLaws}
 use Rattle.name_ops.specs.declared.remove_file.Deed.TheVariants.{Remove}
 use Rattle.core_answers.proofs.asks.RemoveSteps.{IsFound, IsFree, IsFineOf, HasDeed}
 use Rattle.core_answers.proofs.refusals.Answering.{IsSeen}
@@ -11,7 +11,7 @@ use Rattle.claims.specs.Hidden.{IsHidden}
 use Rattle.claims.specs.OkRows.{value_of}
 use Rattle.nfs_dir_calls.specs.declared.keeping.DirKept.TheVariants as kept
 use Rattle.world_model.specs.declared.message.Reply.TheVariants as replies
-use Rattle.client_shelf.specs.declared.next.Next.TheVariants as nexts
+use Rattle.client_shelf.specs.declared.step.Step.TheVariants as nexts
 use Rattle.name_ops.specs.Moving.{move_call}
 use Rattle.name_ops.specs.RemoveFile as removals
 use Rattle.core_answers.proofs.asks.RemoveAsks.{RemoveStory, Shelved, remove-laws}
@@ -100,19 +100,19 @@ module _ (m : Mounted) (terms : Terms) where
   Story h x op (Busy machine) = RemoveStory m h x op (Busy machine)
   Story h x op (Over answer) = OverStory h x op answer
 
-  abbrev DidOld : List Entry → ℕ → Op → Next → Machine → Shelf → Type 0
+  abbrev DidOld : List Entry → ℕ → Op → Step → Machine → Shelf → Type 0
   DidOld h x op next new after = Did NoCall (Shelved m) (RemoveStory m) h x op next new after
 
-  abbrev DidSo : List Entry → ℕ → Op → Next → Machine → Shelf → Type 0
+  abbrev DidSo : List Entry → ℕ → Op → Step → Machine → Shelf → Type 0
   DidSo h x op next new after = Did NoCall (Shelved m) Story h x op next new after
 
-  did-so : (h : List Entry) (x : ℕ) (op : Op) (next : Next) (new : Machine) (after : Shelf) → DidOld h x op next new after
+  did-so : (h : List Entry) (x : ℕ) (op : Op) (next : Step) (new : Machine) (after : Shelf) → DidOld h x op next new after
       → ((answer : Answer) → next ≡ nexts.Done answer → OverStory h x op answer) → DidSo h x op next new after
   did-so h x op (nexts.Send call) new after d over = record { shelf = d.shelf; asks = d.asks; then_ = d.then_ }
   did-so h x op nexts.Wait new after d over = record { shelf = d.shelf; asks = d.asks; then_ = d.then_ }
   did-so h x op (nexts.Done answer) new after d over = record { shelf = d.shelf; asks = d.asks; then_ = over answer refl }
 
-  never-well : (h : List Entry) (x : ℕ) (path : List (List ℕ)) (next : Next) (answer : Answer) → IsUnwell next → next ≡ nexts.Done answer → AnswerStory h x path answer
+  never-well : (h : List Entry) (x : ℕ) (path : List (List ℕ)) (next : Step) (answer : Answer) → IsUnwell next → next ≡ nexts.Done answer → AnswerStory h x path answer
   never-well h x path next (answers.Done value) unwell is = absurd (unwell value is)
   never-well h x path next (answers.Refused fault) unwell is = tt
 
@@ -155,7 +155,7 @@ module _ (m : Mounted) (terms : Terms) where
       awaits : RemoveAwaits (Some w.deed) k.m s.call
       awaits = subst (λ (o : Option Deed). RemoveAwaits o k.m s.call) w.is (subst (λ (n : Machine). Expects n s.call) k.is s.expects).0
 
-  over-after : (h : List Entry) (x : ℕ) (op : Op) (path : List (List ℕ)) (machine : Machine) (wsize : ℕ) (sent turn : Turn) (came : Result Reply Fault) (old : Shelf) (next : Next)
+  over-after : (h : List Entry) (x : ℕ) (op : Op) (path : List (List ℕ)) (machine : Machine) (wsize : ℕ) (sent turn : Turn) (came : Result Reply Fault) (old : Shelf) (next : Step)
       (new : Machine) (after : Shelf) (answer : Answer) → RemoveRuns m.root h x (front_of path) (last_of path) machine → CameOf Seen Expects NoCall h x op machine sent came old
       → Takes wsize machine sent turn came old next new after → next ≡ nexts.Done answer → AnswerStory h x path answer
   over-after h x op path machine wsize sent turn came old next new after (answers.Refused fault) k told t is = tt

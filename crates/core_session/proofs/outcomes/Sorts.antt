@@ -1,5 +1,5 @@
 -- A machine goes on as one that opens a file, one that lists, or neither.
-use Rattle.core_session.proofs.Prelude.{◌≡◌, ℕ, Result, subst, Fault, Reply, Op, Next, Shelf, Turn, Mounted, FileMachine, Machine, NameMachine, machine_of, Starts, Resumes, Takes}
+use Rattle.core_session.proofs.Prelude.{◌≡◌, ℕ, Result, subst, Fault, Reply, Op, Step, Shelf, Turn, Mounted, FileMachine, Machine, NameMachine, machine_of, Starts, Resumes, Takes}
 use Rattle.world_model.specs.declared.op.Op.TheVariants as ops
 use Rattle.op_machines.specs.declared.file_machine.FileMachine.TheVariants as files
 use Rattle.op_machines.specs.declared.machine.Machine.TheVariants as machines
@@ -16,7 +16,7 @@ pub record StaysSo (old new : Machine) : Type 0 where
 
 -- ---- operations on files
 
-file-starts : (m : FileMachine) (wsize : ℕ) (turn : Turn) (old : Shelf) (next : Next) (new : FileMachine) (after : Shelf) → file_steps.Starts wsize m turn old next new after → OpensFile new
+file-starts : (m : FileMachine) (wsize : ℕ) (turn : Turn) (old : Shelf) (next : Step) (new : FileMachine) (after : Shelf) → file_steps.Starts wsize m turn old next new after → OpensFile new
     → OpensFile m
 file-starts (files.Open m) wsize turn old next new after s o = tt
 file-starts (files.Put m) wsize turn old next new after s o = tt
@@ -26,7 +26,7 @@ file-starts (files.Sync m) wsize turn old next new after s o = subst OpensFile s
 file-starts (files.Close m) wsize turn old next new after s o = subst OpensFile s.machine_is o
 file-starts (files.Truncate m) wsize turn old next new after s o = subst OpensFile s.machine_is o
 
-file-resumes : (m : FileMachine) (wsize : ℕ) (turn : Turn) (old : Shelf) (next : Next) (new : FileMachine) (after : Shelf) → file_steps.Resumes wsize m turn old next new after → OpensFile new
+file-resumes : (m : FileMachine) (wsize : ℕ) (turn : Turn) (old : Shelf) (next : Step) (new : FileMachine) (after : Shelf) → file_steps.Resumes wsize m turn old next new after → OpensFile new
     → OpensFile m
 file-resumes (files.Open m) wsize turn old next new after s o = tt
 file-resumes (files.Put m) wsize turn old next new after s o = tt
@@ -36,7 +36,7 @@ file-resumes (files.Sync m) wsize turn old next new after s o = subst OpensFile 
 file-resumes (files.Close m) wsize turn old next new after s o = subst OpensFile s.machine_is o
 file-resumes (files.Truncate m) wsize turn old next new after s o = subst OpensFile s.machine_is o
 
-file-takes : (m : FileMachine) (wsize : ℕ) (sent turn : Turn) (came : Result Reply Fault) (old : Shelf) (next : Next) (new : FileMachine) (after : Shelf)
+file-takes : (m : FileMachine) (wsize : ℕ) (sent turn : Turn) (came : Result Reply Fault) (old : Shelf) (next : Step) (new : FileMachine) (after : Shelf)
     → file_steps.Takes wsize m sent turn came old next new after → OpensFile new → OpensFile m
 file-takes (files.Open m) wsize sent turn came old next new after s o = tt
 file-takes (files.Put m) wsize sent turn came old next new after s o = tt
@@ -48,7 +48,7 @@ file-takes (files.Truncate m) wsize sent turn came old next new after s o = subs
 
 -- ---- operations on names
 
-name-goes : (m : NameMachine) (turn : Turn) (old : Shelf) (next : Next) (new : NameMachine) (after : Shelf) → name_steps.NameGoes m turn old next new after → ListsNames new → ListsNames m
+name-goes : (m : NameMachine) (turn : Turn) (old : Shelf) (next : Step) (new : NameMachine) (after : Shelf) → name_steps.NameGoes m turn old next new after → ListsNames new → ListsNames m
 name-goes (names.Change m) turn old next new after s l = subst ListsNames s.machine_is l
 name-goes (names.Stat m) turn old next new after s l = subst ListsNames s.machine_is l
 name-goes (names.Access m) turn old next new after s l = subst ListsNames s.machine_is l
@@ -59,7 +59,7 @@ name-goes (names.Link m) turn old next new after s l = subst ListsNames s.machin
 name-goes (names.SymLink m) turn old next new after s l = subst ListsNames s.machine_is l
 name-goes (names.List m) turn old next new after s l = tt
 
-name-takes : (m : NameMachine) (sent turn : Turn) (came : Result Reply Fault) (old : Shelf) (next : Next) (new : NameMachine) (after : Shelf)
+name-takes : (m : NameMachine) (sent turn : Turn) (came : Result Reply Fault) (old : Shelf) (next : Step) (new : NameMachine) (after : Shelf)
     → name_steps.NameTakes m sent turn came old next new after → ListsNames new → ListsNames m
 name-takes (names.Change m) sent turn came old next new after s l = subst ListsNames s.machine_is l
 name-takes (names.Stat m) sent turn came old next new after s l = subst ListsNames s.machine_is l
@@ -82,17 +82,17 @@ path-stays m to new is = record { opener = λ o. tt; lister = λ l. subst IsList
 name-stays : (m to : NameMachine) (new : Machine) → new ≡ machines.Name to → (ListsNames to → ListsNames m) → StaysSo (machines.Name m) new
 name-stays m to new is lists = record { opener = λ o. subst IsOpener is o; lister = λ l. lists (subst IsLister is l) }
 
-pub starts-so : (m : Machine) (wsize : ℕ) (turn : Turn) (old : Shelf) (next : Next) (new : Machine) (after : Shelf) → Starts wsize m turn old next new after → StaysSo m new
+pub starts-so : (m : Machine) (wsize : ℕ) (turn : Turn) (old : Shelf) (next : Step) (new : Machine) (after : Shelf) → Starts wsize m turn old next new after → StaysSo m new
 starts-so (machines.File m) wsize turn old next new after s = file-stays m s.machine new s.machine_is (file-starts m wsize turn old next s.machine after s.step)
 starts-so (machines.Path m) wsize turn old next new after s = path-stays m s.machine new s.machine_is
 starts-so (machines.Name m) wsize turn old next new after s = name-stays m s.machine new s.machine_is (name-goes m turn old next s.machine after s.step)
 
-pub resumes-so : (m : Machine) (wsize : ℕ) (turn : Turn) (old : Shelf) (next : Next) (new : Machine) (after : Shelf) → Resumes wsize m turn old next new after → StaysSo m new
+pub resumes-so : (m : Machine) (wsize : ℕ) (turn : Turn) (old : Shelf) (next : Step) (new : Machine) (after : Shelf) → Resumes wsize m turn old next new after → StaysSo m new
 resumes-so (machines.File m) wsize turn old next new after s = file-stays m s.machine new s.machine_is (file-resumes m wsize turn old next s.machine after s.step)
 resumes-so (machines.Path m) wsize turn old next new after s = path-stays m s.machine new s.machine_is
 resumes-so (machines.Name m) wsize turn old next new after s = name-stays m s.machine new s.machine_is (name-goes m turn old next s.machine after s.step)
 
-pub takes-so : (m : Machine) (wsize : ℕ) (sent turn : Turn) (came : Result Reply Fault) (old : Shelf) (next : Next) (new : Machine) (after : Shelf)
+pub takes-so : (m : Machine) (wsize : ℕ) (sent turn : Turn) (came : Result Reply Fault) (old : Shelf) (next : Step) (new : Machine) (after : Shelf)
     → Takes wsize m sent turn came old next new after → StaysSo m new
 takes-so (machines.File m) wsize sent turn came old next new after s = file-stays m s.machine new s.machine_is (file-takes m wsize sent turn came old next s.machine after s.step)
 takes-so (machines.Path m) wsize sent turn came old next new after s = path-stays m s.machine new s.machine_is

@@ -1,5 +1,5 @@
 -- Where answers are noted before records are sent, nothing is sent between the last record that came before the answer of a truncate that goes well and that answer.
-use Rattle.core_session.proofs.Prelude.{◌≡◌, ◌≤◌, ◌<◌, ◌⊎◌, inl, inr, ℕ, Bool, true, false, nat_eq, List, [], ◌∷◌, ◌++◌, length, map, Some, None, slice_get, slice_set, refl, sym, ap, subst, ◌∙◌, arith, eqb-true, eqb-false, Answer, Fault, Value, Entry, Began, Answered, Dialed, Sent, Executed, Foreign, Flushed, Reboot, Delivered, Failed, Clock, Op, At, Ended, UnderWay, Terms, At-grow, At-below, At-back, At-last, At-one, At-cases, length_last, Next, Shelf, Truncating, Mounted, FileMachine, Machine, machine_of, Starts, Resumes, Lane, State, Busy, Over, Setup, lost_lane, numbers_of, IsRefused, Moves, moves_none, moves_more, Stirs, StartsLane, BeginsIf, AnswersAt, counted, View, turn_at, NoneReady, Notes, StepsTo, Reaches, last_reading, begins-unbegun, sent_now, FailedNow, goes_on, gives_up, failed_now, answered_now, Given, is-given, idle-numbers, number_of, lanes-under-way, reached-lanes, at-set, get-push, get-remove, skip, to-map, notes-reach, good-over, ended-grow, set-other, WorksAt, SlotRuns, SlotStory, slot-laws}
+use Rattle.core_session.proofs.Prelude.{◌≡◌, ◌≤◌, ◌<◌, ◌⊎◌, inl, inr, ℕ, Bool, true, false, nat_eq, List, [], ◌∷◌, ◌++◌, length, map, Some, None, slice_get, slice_set, refl, sym, ap, subst, ◌∙◌, arith, eqb-true, eqb-false, Answer, Fault, Value, Entry, Began, Answered, Dialed, Sent, Executed, Foreign, Flushed, Reboot, Delivered, Failed, Clock, Op, At, Ended, UnderWay, Terms, At-grow, At-below, At-back, At-last, At-one, At-cases, length_last, Step, Shelf, Truncating, Mounted, FileMachine, Machine, machine_of, Starts, Resumes, Lane, State, Busy, Over, Setup, lost_lane, numbers_of, IsRefused, Moves, moves_none, moves_more, Stirs, StartsLane, BeginsIf, AnswersAt, counted, View, turn_at, NoneReady, Notes, StepsTo, Reaches, last_reading, begins-unbegun, sent_now, FailedNow, goes_on, gives_up, failed_now, answered_now, Given, is-given, idle-numbers, number_of, lanes-under-way, reached-lanes, at-set, get-push, get-remove, skip, to-map, notes-reach, good-over, ended-grow, set-other, WorksAt, SlotRuns, SlotStory, slot-laws}
 use Rattle.client_core.specs.Lanes.{lost_state}
 use Rattle.client_core.specs.Steps.{BeginsNow, lost}
 use Rattle.core_facts.specs.Notes.{ComesAfter}
@@ -8,7 +8,7 @@ use Rattle.core_facts.proofs.Lists.{in-map}
 use Rattle.world_model.specs.declared.answer.Answer.TheVariants as answers
 use Rattle.world_model.specs.declared.answer.Fault.TheVariants as faults
 use Rattle.world_model.specs.declared.op.Op.TheVariants as ops
-use Rattle.client_shelf.specs.declared.next.Next.TheVariants as nexts
+use Rattle.client_shelf.specs.declared.step.Step.TheVariants as nexts
 use Rattle.file_ops.specs.declared.truncate_file.Truncating.TheVariants as truncating
 use Rattle.op_machines.specs.declared.file_machine.FileMachine.TheVariants as files
 use Rattle.op_machines.specs.declared.machine.Machine.TheVariants as machines
@@ -215,11 +215,11 @@ LanesCalm h lanes = (k number : ℕ) (state : State) → slice_get lanes k ≡ S
     → UnderWay h number x (length h) (ops.Truncate slot size) → StateCalm h state
 
 -- a step of a truncate that isn't at a reply doesn't end it well
-leading-calm : (h : List Entry) (wsize : ℕ) (S : Next → Machine → Shelf → Type 0) (state : State) (after : Shelf)
-    → ((next : Next) (new : Machine) (shelf : Shelf) → S next new shelf → IsCutter 0 new × (IsGood next → ⊥)) → Leading wsize S state after → StateCalm h state
+leading-calm : (h : List Entry) (wsize : ℕ) (S : Step → Machine → Shelf → Type 0) (state : State) (after : Shelf)
+    → ((next : Step) (new : Machine) (shelf : Shelf) → S next new shelf → IsCutter 0 new × (IsGood next → ⊥)) → Leading wsize S state after → StateCalm h state
 leading-calm h wsize S state after steps (settles next new s is) = by next (steps next new after s) is
   where
-    by : (n : Next) → IsCutter 0 new × (IsGood n → ⊥) → Settles n new state → StateCalm h state
+    by : (n : Step) → IsCutter 0 new × (IsGood n → ⊥) → Settles n new state → StateCalm h state
     by (nexts.Send call) k same = subst (StateCalm h) (sym same) k.0
     by nexts.Wait k same = subst (StateCalm h) (sym same) k.0
     by (nexts.Done (answers.Done value)) k same = absurd (k.1 tt)
@@ -230,7 +230,7 @@ leading-calm h wsize S state after steps (unmade call mid between sent turn faul
     cuts : IsCutter 0 mid
     cuts = (steps (nexts.Send call) mid between s).0
 
-    by : (n : Next) → (IsGood n → ⊥) → IsRefused new n state → StateCalm h state
+    by : (n : Step) → (IsGood n → ⊥) → IsRefused new n state → StateCalm h state
     by (nexts.Send other) k same = absurd same
     by nexts.Wait k same = subst (StateCalm h) (sym same) (cutter-takes 0 mid cuts wsize sent turn _ between next new after takes)
     by (nexts.Done (answers.Done value)) k same = absurd (k tt)

@@ -1,9 +1,9 @@
 -- A truncate that goes well cuts what is pending of its file: each step of its machine, and of its lane.
-use Rattle.core_session.proofs.Prelude.{if◌then◌else◌, ◌≡◌, ◌≤◌, inl, inr, ℕ, Bool, true, false, List, Some, Result, Ok, Err, slice_get, refl, sym, ap, subst, ◌∙◌, Wcc, Answer, Fault, Value, Reply, Op, Pending, HasNoPiece, Next, Repeat, Shelf, Turn, TruncateFile, Truncating, is_quiet, joined, FileMachine, Machine, Starts, Resumes, Takes, State, Busy, Over, IsRefused, Leads, View, turn_at, unmade_turn, at-set}
+use Rattle.core_session.proofs.Prelude.{if◌then◌else◌, ◌≡◌, ◌≤◌, inl, inr, ℕ, Bool, true, false, List, Some, Result, Ok, Err, slice_get, refl, sym, ap, subst, ◌∙◌, Wcc, Answer, Fault, Value, Reply, Op, Pending, HasNoPiece, Step, Repeat, Shelf, Turn, TruncateFile, Truncating, is_quiet, joined, FileMachine, Machine, Starts, Resumes, Takes, State, Busy, Over, IsRefused, Leads, View, turn_at, unmade_turn, at-set}
 use Rattle.file_ops.specs.Quiet.{are_none}
 use Rattle.world_model.specs.declared.answer.Answer.TheVariants as answers
 use Rattle.world_model.specs.declared.op.Op.TheVariants as ops
-use Rattle.client_shelf.specs.declared.next.Next.TheVariants as nexts
+use Rattle.client_shelf.specs.declared.step.Step.TheVariants as nexts
 use Rattle.file_ops.specs.declared.truncate_file.Truncating.TheVariants as truncating
 use Rattle.file_ops.specs.TruncateFile as truncates
 use Rattle.op_machines.specs.declared.file_machine.FileMachine.TheVariants as files
@@ -66,7 +66,7 @@ module _ (mark : ℕ) where
       by true = low
       by false = tt
 
-  pub cutter-resumes : (m : Machine) → IsCutter mark m → (wsize : ℕ) (turn : Turn) (old : Shelf) (next : Next) (new : Machine) (after : Shelf) → Resumes wsize m turn old next new after → IsCutter mark new
+  pub cutter-resumes : (m : Machine) → IsCutter mark m → (wsize : ℕ) (turn : Turn) (old : Shelf) (next : Step) (new : Machine) (after : Shelf) → Resumes wsize m turn old next new after → IsCutter mark new
   cutter-resumes (machines.File (files.Truncate m)) c wsize turn old next new after r =
       subst (IsCutter mark) (sym r.machine_is) (subst (FileCuts mark) (sym r.step.machine_is) (resumes-cuts m.state m turn old c))
   cutter-resumes (machines.File (files.Open m)) c wsize turn old next new after r = absurd c
@@ -78,7 +78,7 @@ module _ (mark : ℕ) where
   cutter-resumes (machines.Path m) c wsize turn old next new after r = absurd c
   cutter-resumes (machines.Name m) c wsize turn old next new after r = absurd c
 
-  pub cutter-takes : (m : Machine) → IsCutter mark m → (wsize : ℕ) (sent turn : Turn) (came : Result Reply Fault) (old : Shelf) (next : Next) (new : Machine) (after : Shelf)
+  pub cutter-takes : (m : Machine) → IsCutter mark m → (wsize : ℕ) (sent turn : Turn) (came : Result Reply Fault) (old : Shelf) (next : Step) (new : Machine) (after : Shelf)
       → Takes wsize m sent turn came old next new after → IsCutter mark new
   cutter-takes (machines.File (files.Truncate m)) c wsize sent turn came old next new after r =
       subst (IsCutter mark) (sym r.machine_is) (subst (FileCuts mark) (sym r.step.machine_is) (takes-cuts m.state came sent turn old.repeats c))
@@ -91,24 +91,24 @@ module _ (mark : ℕ) where
   cutter-takes (machines.Path m) c wsize sent turn came old next new after r = absurd c
   cutter-takes (machines.Name m) c wsize sent turn came old next new after r = absurd c
 
-  pub cutter-starts : (m : TruncateFile) (wsize : ℕ) (turn : Turn) (old : Shelf) (next : Next) (new : Machine) (after : Shelf) → Starts wsize (machines.File (files.Truncate m)) turn old next new after
+  pub cutter-starts : (m : TruncateFile) (wsize : ℕ) (turn : Turn) (old : Shelf) (next : Step) (new : Machine) (after : Shelf) → Starts wsize (machines.File (files.Truncate m)) turn old next new after
       → mark ≤ old.seq → IsCutter mark new
   cutter-starts m wsize turn old next new after r low = subst (IsCutter mark) (sym r.machine_is) (subst (FileCuts mark) (sym r.step.machine_is) (starts-cuts m turn old low))
 
 -- ---- what each step at a reply keeps, the state of a lane has
 
-module _ (Q : Machine → Type 0) (keeps : (m : Machine) → Q m → (wsize : ℕ) (sent turn : Turn) (came : Result Reply Fault) (old : Shelf) (next : Next) (new : Machine) (after : Shelf)
+module _ (Q : Machine → Type 0) (keeps : (m : Machine) → Q m → (wsize : ℕ) (sent turn : Turn) (came : Result Reply Fault) (old : Shelf) (next : Step) (new : Machine) (after : Shelf)
     → Takes wsize m sent turn came old next new after → Q new) where
   abbrev StateHas : State → Type 0
   StateHas (Busy machine) = Q machine
   StateHas (Over answer) = Unit {0}
 
-  refused-has : (machine : Machine) (next : Next) (state : State) → IsRefused machine next state → Q machine → StateHas state
+  refused-has : (machine : Machine) (next : Step) (state : State) → IsRefused machine next state → Q machine → StateHas state
   refused-has machine (nexts.Send call) state is c = absurd is
   refused-has machine nexts.Wait state is c = subst StateHas (sym is) c
   refused-has machine (nexts.Done answer) state is c = subst StateHas (sym is) tt
 
-  pub leads-keeps : (v new : View) (at number : ℕ) (machine : Machine) (next : Next) → slice_get v.lanes at ≡ Some (record { number = number; state = Busy machine }) → Leads v at number machine next new
+  pub leads-keeps : (v new : View) (at number : ℕ) (machine : Machine) (next : Step) → slice_get v.lanes at ≡ Some (record { number = number; state = Busy machine }) → Leads v at number machine next new
       → Q machine → (state : State) → slice_get new.lanes at ≡ Some (record { number = number; state = state }) → (other : Machine) → state ≡ Busy other → Q other
   leads-keeps v new at number machine next there l c state here other busy = subst StateHas busy (by next l)
     where
@@ -118,7 +118,7 @@ module _ (Q : Machine → Type 0) (keeps : (m : Machine) → Q m → (wsize : �
       set : (to : State) → StateHas to → slice_get new.lanes at ≡ Some (record { number = number; state = to }) → StateHas state
       set to k same = subst StateHas (sym (state-is state to number number (sym here ∙ same))) k
 
-      by : (n : Next) → Leads v at number machine n new → StateHas state
+      by : (n : Step) → Leads v at number machine n new → StateHas state
       by (nexts.Send call) (inl made) = kept (ap (λ (z : View). slice_get z.lanes at) made.is)
       by (nexts.Send call) (inr r) =
           set r.state (refused-has r.after r.next r.state r.leads (keeps machine c v.wsize (turn_at v) (unmade_turn v) (Err r.fault) v.shelf r.next r.after r.left r.takes))
@@ -137,20 +137,20 @@ done-good answer value e = subst (λ (a : Answer). IsGood (nexts.Done a)) (sym (
     over-is a b e = cc
 
 -- a lane's operation goes well by its step, or by one more at a call that isn't made
-pub leads-done : (v new : View) (at number : ℕ) (machine : Machine) (next : Next) → slice_get v.lanes at ≡ Some (record { number = number; state = Busy machine }) → Leads v at number machine next new → (state : State)
+pub leads-done : (v new : View) (at number : ℕ) (machine : Machine) (next : Step) → slice_get v.lanes at ≡ Some (record { number = number; state = Busy machine }) → Leads v at number machine next new → (state : State)
     → slice_get new.lanes at ≡ Some (record { number = number; state = state }) → (value : Value) → state ≡ Over (answers.Done value) → (P : Pending → Type 0) → (IsGood next → P v.shelf.back)
-    → ((fault : Fault) (n : Next) (after : Machine) (left : Shelf) → Takes v.wsize machine (turn_at v) (unmade_turn v) (Err fault) v.shelf n after left → IsGood n → P left.back) → P new.shelf.back
+    → ((fault : Fault) (n : Step) (after : Machine) (left : Shelf) → Takes v.wsize machine (turn_at v) (unmade_turn v) (Err fault) v.shelf n after left → IsGood n → P left.back) → P new.shelf.back
 leads-done v new at number machine next there l state here value is P first second = by next l first
   where
     busy : slice_get new.lanes at ≡ slice_get v.lanes at → ⊥
     busy same = busy-over machine (answers.Done value) (sym (state-is state (Busy machine) number number (sym here ∙ same ∙ there)) ∙ is)
 
-    refused : (after : Machine) (n : Next) (to : State) → IsRefused after n to → to ≡ Over (answers.Done value) → IsGood n
+    refused : (after : Machine) (n : Step) (to : State) → IsRefused after n to → to ≡ Over (answers.Done value) → IsGood n
     refused after (nexts.Send call) to r e = absurd r
     refused after nexts.Wait to r e = absurd (busy-over after (answers.Done value) (sym r ∙ e))
     refused after (nexts.Done answer) to r e = done-good answer value (sym r ∙ e)
 
-    by : (n : Next) → Leads v at number machine n new → (IsGood n → P v.shelf.back) → P new.shelf.back
+    by : (n : Step) → Leads v at number machine n new → (IsGood n → P v.shelf.back) → P new.shelf.back
     by (nexts.Send call) (inl made) first = absurd (busy (ap (λ (z : View). slice_get z.lanes at) made.is))
     by (nexts.Send call) (inr r) first =
         let lanes : slice_get new.lanes at ≡ Some (record { number = number; state = r.state }) =
@@ -217,10 +217,10 @@ takes-err (truncating.Asked file upto) m sent turn fault repeats good = by (trun
 
 -- ---- by machine
 
-pub cutter-starts-not : (m : TruncateFile) (wsize : ℕ) (turn : Turn) (old : Shelf) (next : Next) (new : Machine) (after : Shelf) → Starts wsize (machines.File (files.Truncate m)) turn old next new after → IsGood next → ⊥
+pub cutter-starts-not : (m : TruncateFile) (wsize : ℕ) (turn : Turn) (old : Shelf) (next : Step) (new : Machine) (after : Shelf) → Starts wsize (machines.File (files.Truncate m)) turn old next new after → IsGood next → ⊥
 cutter-starts-not m wsize turn old next new after r good = starts-not m turn old (subst IsGood r.step.next_is good)
 
-pub cutter-resumes-not : (mark : ℕ) (m : Machine) → IsCutter mark m → (wsize : ℕ) (turn : Turn) (old : Shelf) (next : Next) (new : Machine) (after : Shelf) → Resumes wsize m turn old next new after → IsGood next → ⊥
+pub cutter-resumes-not : (mark : ℕ) (m : Machine) → IsCutter mark m → (wsize : ℕ) (turn : Turn) (old : Shelf) (next : Step) (new : Machine) (after : Shelf) → Resumes wsize m turn old next new after → IsGood next → ⊥
 cutter-resumes-not mark (machines.File (files.Truncate m)) c wsize turn old next new after r good = resumes-not m.state m turn old (subst IsGood r.step.next_is good)
 cutter-resumes-not mark (machines.File (files.Open m)) c wsize turn old next new after r good = absurd c
 cutter-resumes-not mark (machines.File (files.Read m)) c wsize turn old next new after r good = absurd c
@@ -231,7 +231,7 @@ cutter-resumes-not mark (machines.File (files.Put m)) c wsize turn old next new 
 cutter-resumes-not mark (machines.Path m) c wsize turn old next new after r good = absurd c
 cutter-resumes-not mark (machines.Name m) c wsize turn old next new after r good = absurd c
 
-pub cutter-takes-err : (mark : ℕ) (m : Machine) → IsCutter mark m → (wsize : ℕ) (sent turn : Turn) (fault : Fault) (old : Shelf) (next : Next) (new : Machine) (after : Shelf)
+pub cutter-takes-err : (mark : ℕ) (m : Machine) → IsCutter mark m → (wsize : ℕ) (sent turn : Turn) (fault : Fault) (old : Shelf) (next : Step) (new : Machine) (after : Shelf)
     → Takes wsize m sent turn (Err fault) old next new after → IsGood next → ⊥
 cutter-takes-err mark (machines.File (files.Truncate m)) c wsize sent turn fault old next new after r good = takes-err m.state m sent turn fault old.repeats (subst IsGood r.step.next_is good)
 cutter-takes-err mark (machines.File (files.Open m)) c wsize sent turn fault old next new after r good = absurd c
@@ -249,7 +249,7 @@ pub record CutBy (machine : Machine) (old new : Pending) : Type 0 where
   pub is : machine ≡ machines.File (files.Truncate m)
   pub now : CutNow m old new
 
-pub cutter-takes-now : (mark : ℕ) (m : Machine) → IsCutter mark m → (wsize : ℕ) (sent turn : Turn) (came : Result Reply Fault) (old : Shelf) (next : Next) (new : Machine) (after : Shelf)
+pub cutter-takes-now : (mark : ℕ) (m : Machine) → IsCutter mark m → (wsize : ℕ) (sent turn : Turn) (came : Result Reply Fault) (old : Shelf) (next : Step) (new : Machine) (after : Shelf)
     → Takes wsize m sent turn came old next new after → IsGood next → CutBy m old.back after.back
 cutter-takes-now mark (machines.File (files.Truncate m)) c wsize sent turn came old next new after r good =
     record { m = m; is = refl; now = takes-now m m.state sent turn came old.repeats old.back after.back refl (subst IsGood r.step.next_is good) r.step.back }

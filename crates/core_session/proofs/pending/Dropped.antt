@@ -1,9 +1,9 @@
 -- Where a close is refused and no slot holds its file any more, nothing of it is pending: the steps of its machine.
-use Rattle.core_session.proofs.Prelude.{◌≡◌, ◌&&◌, inl, inr, ℕ, Bool, true, false, not, List, [], Option, Some, None, Result, Err, slice_get, refl, sym, ap, subst, ◌∙◌, Opens, IsOpen, Answer, Fault, Call, Reply, last_end, Pending, of_file, HasNoPiece, nothing, Next, Shelf, Turn, goes_again, is_first, CloseFile, Closing, Removal, Saving, TellsOpen, GivesUpBy, closed_answer, remove_busy, refusal_of, remove_of, is_quiet, file_at, joined, by-step, Machine, Starts, Resumes, Takes, State, Busy, Over, Leads, IsRefused, View, turn_at, unmade_turn, at-set, file_in}
+use Rattle.core_session.proofs.Prelude.{◌≡◌, ◌&&◌, inl, inr, ℕ, Bool, true, false, not, List, [], Option, Some, None, Result, Err, slice_get, refl, sym, ap, subst, ◌∙◌, Opens, IsOpen, Answer, Fault, Call, Reply, last_end, Pending, of_file, HasNoPiece, nothing, Step, Shelf, Turn, goes_again, is_first, CloseFile, Closing, Removal, Saving, TellsOpen, GivesUpBy, closed_answer, remove_busy, refusal_of, remove_of, is_quiet, file_at, joined, by-step, Machine, Starts, Resumes, Takes, State, Busy, Over, Leads, IsRefused, View, turn_at, unmade_turn, at-set, file_in}
 use Rattle.file_ops.specs.Closings.{GivesIf, GivesUp}
 use Rattle.file_ops.specs.Quiet.{are_none}
 use Rattle.world_model.specs.declared.answer.Answer.TheVariants as answers
-use Rattle.client_shelf.specs.declared.next.Next.TheVariants as nexts
+use Rattle.client_shelf.specs.declared.step.Step.TheVariants as nexts
 use Rattle.file_ops.specs.declared.close_file.Closing.TheVariants as closing
 use Rattle.file_ops.specs.Closes as closes
 use Rattle.file_ops.specs.Saves as saves
@@ -24,7 +24,7 @@ module _ (f : List ℕ) where
   Emptied b = HasNoPiece f b → of_file f b ≡ nothing
 
   -- what a step leaves: a close of the file still, or nothing where it was refused
-  abbrev pub Leaves_ : Next → Closing → Shelf → Type 0
+  abbrev pub Leaves_ : Step → Closing → Shelf → Type 0
   Leaves_ (nexts.Send call) state new = file_in state ≡ Some f
   Leaves_ nexts.Wait state new = file_in state ≡ Some f
   Leaves_ (nexts.Done (answers.Done value)) state new = Unit {0}
@@ -43,13 +43,13 @@ module _ (f : List ℕ) where
       by true t back = absurd (shut t)
       by false t back = quiet (is_quiet f old) refl back
 
-  sends : (call : Call) (aim : Closing) (next : Next) (state : Closing) (new : Shelf) → next ≡ nexts.Send call → state ≡ aim → file_in aim ≡ Some f → Leaves_ next state new
-  sends call aim next state new n s is = subst (λ (z : Next). Leaves_ z state new) (sym n) (ap file_in s ∙ is)
+  sends : (call : Call) (aim : Closing) (next : Step) (state : Closing) (new : Shelf) → next ≡ nexts.Send call → state ≡ aim → file_in aim ≡ Some f → Leaves_ next state new
+  sends call aim next state new n s is = subst (λ (z : Step). Leaves_ z state new) (sym n) (ap file_in s ∙ is)
 
-  waits : (aim : Closing) (next : Next) (state : Closing) (new : Shelf) → next ≡ nexts.Wait → state ≡ aim → file_in aim ≡ Some f → Leaves_ next state new
-  waits aim next state new n s is = subst (λ (z : Next). Leaves_ z state new) (sym n) (ap file_in s ∙ is)
+  waits : (aim : Closing) (next : Step) (state : Closing) (new : Shelf) → next ≡ nexts.Wait → state ≡ aim → file_in aim ≡ Some f → Leaves_ next state new
+  waits aim next state new n s is = subst (λ (z : Step). Leaves_ z state new) (sym n) (ap file_in s ∙ is)
 
-  ends : (lane : ℕ) (file : List ℕ) (refusal : Option Fault) (old : Shelf) (next : Next) (state : Closing) (new : Shelf) → file ≡ f → closes.Ends lane file refusal old next state new
+  ends : (lane : ℕ) (file : List ℕ) (refusal : Option Fault) (old : Shelf) (next : Step) (state : Closing) (new : Shelf) → file ≡ f → closes.Ends lane file refusal old next state new
       → Leaves_ next state new
   ends lane file refusal old next state new same e = by refusal e.next_is e.back
     where
@@ -57,16 +57,16 @@ module _ (f : List ℕ) where
       opens = ap (λ (k : Shelf). k.opens) e.others
 
       by : (r : Option Fault) → next ≡ nexts.Done (closed_answer r) → GivesUpBy r file old.opens old.back new.back → Leaves_ next state new
-      by None n g = subst (λ (z : Next). Leaves_ z state new) (sym n) tt
+      by None n g = subst (λ (z : Step). Leaves_ z state new) (sym n) tt
       by (Some fault) n g =
-          subst (λ (z : Next). Leaves_ z state new) (sym n)
+          subst (λ (z : Step). Leaves_ z state new) (sym n)
           (λ shut. given-up old.opens old.back new.back (subst (λ (z : List ℕ). GivesUp z old.opens old.back new.back) same g) (λ o. shut (subst (λ (t : Opens). IsOpen t f) (sym opens) o)))
 
-  asks : (b : Bool) (removal : Removal) (old : Shelf) (next : Next) (state : Closing) (new : Shelf) → removal.file ≡ f → closes.Asks b removal old next state new → Leaves_ next state new
+  asks : (b : Bool) (removal : Removal) (old : Shelf) (next : Step) (state : Closing) (new : Shelf) → removal.file ≡ f → closes.Asks b removal old next state new → Leaves_ next state new
   asks true removal old next state new same a = sends (remove_of removal) (closing.Removing removal) next state new a.next_is a.state_is (ap Some same)
   asks false removal old next state new same a = waits (closing.ToRemove removal) next state new a.next_is a.state_is (ap Some same)
 
-  frees : (lane slot : ℕ) (room : Bool) (file : List ℕ) (refusal : Option Fault) (old : Shelf) (next : Next) (state : Closing) (new : Shelf) → file ≡ f
+  frees : (lane slot : ℕ) (room : Bool) (file : List ℕ) (refusal : Option Fault) (old : Shelf) (next : Step) (state : Closing) (new : Shelf) → file ≡ f
       → closes.Frees lane slot room file refusal old next state new → Leaves_ next state new
   frees lane slot room file refusal old next state new same e = by e.place e.ends
     where
@@ -74,7 +74,7 @@ module _ (f : List ℕ) where
       by None k = ends lane file refusal e.freed next state new same k
       by (Some place) k = asks room (record { file = file; dir = place.0; name = place.1; refusal = refusal }) e.freed next state new same k
 
-  follows : (gives : _) (lane slot : ℕ) (room begun : Bool) (saved : Saving) (old : Shelf) (next : Next) (state : Closing) (new : Shelf) → saved.file ≡ f
+  follows : (gives : _) (lane slot : ℕ) (room begun : Bool) (saved : Saving) (old : Shelf) (next : Step) (state : Closing) (new : Shelf) → saved.file ≡ f
       → closes.Follows gives lane slot room begun saved old next state new → Leaves_ next state new
   follows gives lane slot room begun saved old next state new same k = by-step
       (λ g. closes.Follows g lane slot room begun saved old next state new → Leaves_ next state new)
@@ -87,13 +87,13 @@ module _ (f : List ℕ) where
       waiting true n s = waits (closing.Saves saved) next state new n s (ap Some same)
       waiting false n s = waits (closing.Queued saved) next state new n s (ap Some same)
 
-  goes : (wsize lane slot : ℕ) (turn : Turn) (begun : Bool) (s : Saving) (old : Shelf) (next : Next) (state : Closing) (new : Shelf) → s.file ≡ f
+  goes : (wsize lane slot : ℕ) (turn : Turn) (begun : Bool) (s : Saving) (old : Shelf) (next : Step) (state : Closing) (new : Shelf) → s.file ≡ f
       → closes.GoesOn wsize lane slot turn begun s old next state new → Leaves_ next state new
   goes wsize lane slot turn begun s old next state new same k =
       follows k.gives lane slot turn.room begun k.saved k.gone next state new
       ((goes-save s.file s.upto wsize turn.xid turn.room false s old.back k.gives k.saved k.gone.back (record { file_is = refl; upto_is = refl }) k.goes).file_is ∙ same) k.follows
 
-  queues : (b : Bool) (wsize lane slot : ℕ) (turn : Turn) (s : Saving) (old : Shelf) (next : Next) (state : Closing) (new : Shelf) → s.file ≡ f
+  queues : (b : Bool) (wsize lane slot : ℕ) (turn : Turn) (s : Saving) (old : Shelf) (next : Step) (state : Closing) (new : Shelf) → s.file ≡ f
       → closes.QueuesIf b wsize lane slot turn s old next state new → Leaves_ next state new
   queues false wsize lane slot turn s old next state new same k = waits (closing.Queued s) next state new k.next_is k.state_is (ap Some same)
   queues true wsize lane slot turn s old next state new same k = by (last_end (of_file s.file old.back).segments) k
@@ -102,7 +102,7 @@ module _ (f : List ℕ) where
       by None e = frees lane slot turn.room s.file None old next state new same e
       by (Some end) e = goes wsize lane slot turn false s old next state new same e
 
-  resumes-at : (at : Closing) (wsize : ℕ) (m : CloseFile) (turn : Turn) (old : Shelf) (next : Next) (state : Closing) (new : Shelf) → file_in at ≡ Some f
+  resumes-at : (at : Closing) (wsize : ℕ) (m : CloseFile) (turn : Turn) (old : Shelf) (next : Step) (state : Closing) (new : Shelf) → file_in at ≡ Some f
       → closes.Resumes at wsize m turn old next state new → Leaves_ next state new
   resumes-at closing.Idle wsize m turn old next state new is r = absurd (let no_way : None ≡ Some f = is in cc)
   resumes-at (closing.Queued s) wsize m turn old next state new is r = queues (is_first m.lane old.order) wsize m.lane m.slot turn s old next state new (some-file s.file f is) r
@@ -114,7 +114,7 @@ module _ (f : List ℕ) where
   resumes-at (closing.ToRemove r) wsize m turn old next state new is k = asks turn.room r old next state new (some-file r.file f is) k
   resumes-at (closing.Removing r) wsize m turn old next state new is k = waits (closing.Removing r) next state new k.next_is k.state_is is
 
-  takes-at : (at : Closing) (wsize : ℕ) (m : CloseFile) (sent turn : Turn) (came : Result Reply Fault) (old : Shelf) (next : Next) (state : Closing) (new : Shelf) → file_in at ≡ Some f
+  takes-at : (at : Closing) (wsize : ℕ) (m : CloseFile) (sent turn : Turn) (came : Result Reply Fault) (old : Shelf) (next : Step) (state : Closing) (new : Shelf) → file_in at ≡ Some f
       → closes.Takes at wsize m sent turn came old next state new → Leaves_ next state new
   takes-at closing.Idle wsize m sent turn came old next state new is k = absurd (let no_way : None ≡ Some f = is in cc)
   takes-at (closing.Queued s) wsize m sent turn came old next state new is k = waits (closing.Queued s) next state new k.next_is k.state_is is
@@ -129,7 +129,7 @@ module _ (f : List ℕ) where
       by false e = ends m.lane r.file r.refusal k.took next state new (some-file r.file f is) e
 
   -- one that begins; unless it waits, it is the first
-  starts-at : (wsize : ℕ) (m : CloseFile) (turn : Turn) (old : Shelf) (next : Next) (state : Closing) (new : Shelf) → file_at m.lane m.slot old.opens ≡ Some f
+  starts-at : (wsize : ℕ) (m : CloseFile) (turn : Turn) (old : Shelf) (next : Step) (state : Closing) (new : Shelf) → file_at m.lane m.slot old.opens ≡ Some f
       → closes.Starts wsize m turn old next state new → Leaves_ next state new × ((next ≡ nexts.Wait → ⊥) → is_first m.lane (joined m.lane f old).order ≡ true)
   starts-at wsize m turn old next state new at s = by (file_at m.lane m.slot old.opens) at s
     where
@@ -149,12 +149,12 @@ module _ (f : List ℕ) where
 
   -- ---- the machine
 
-  pub record StaysClose (next : Next) (new : Machine) (after : Shelf) : Type 0 where
+  pub record StaysClose (next : Step) (new : Machine) (after : Shelf) : Type 0 where
     pub c : CloseFile
     pub is : new ≡ machines.File (files.Close c)
     pub leaves : Leaves_ next c.state after
 
-  pub close-resumes : (machine : Machine) (c : CloseFile) → machine ≡ machines.File (files.Close c) → file_in c.state ≡ Some f → (wsize : ℕ) (turn : Turn) (old : Shelf) (next : Next) (new : Machine) (after : Shelf)
+  pub close-resumes : (machine : Machine) (c : CloseFile) → machine ≡ machines.File (files.Close c) → file_in c.state ≡ Some f → (wsize : ℕ) (turn : Turn) (old : Shelf) (next : Step) (new : Machine) (after : Shelf)
       → Resumes wsize machine turn old next new after → StaysClose next new after
   close-resumes machine c is file wsize turn old next new after s = by (subst (λ (m : Machine). Resumes wsize m turn old next new after) is s)
     where
@@ -165,7 +165,7 @@ module _ (f : List ℕ) where
         leaves = resumes-at c.state wsize c turn old next r.step.state after file r.step.step;
       }
 
-  pub close-takes : (machine : Machine) (c : CloseFile) → machine ≡ machines.File (files.Close c) → file_in c.state ≡ Some f → (wsize : ℕ) (sent turn : Turn) (came : Result Reply Fault) (old : Shelf) (next : Next) (new : Machine)
+  pub close-takes : (machine : Machine) (c : CloseFile) → machine ≡ machines.File (files.Close c) → file_in c.state ≡ Some f → (wsize : ℕ) (sent turn : Turn) (came : Result Reply Fault) (old : Shelf) (next : Step) (new : Machine)
       (after : Shelf) → Takes wsize machine sent turn came old next new after → StaysClose next new after
   close-takes machine c is file wsize sent turn came old next new after s = by (subst (λ (m : Machine). Takes wsize m sent turn came old next new after) is s)
     where
@@ -176,7 +176,7 @@ module _ (f : List ℕ) where
         leaves = takes-at c.state wsize c sent turn came old next r.step.state after file r.step.step;
       }
 
-  pub close-starts : (machine : Machine) (c : CloseFile) → machine ≡ machines.File (files.Close c) → (wsize : ℕ) (turn : Turn) (old : Shelf) (next : Next) (new : Machine) (after : Shelf) → file_at c.lane c.slot old.opens ≡ Some f
+  pub close-starts : (machine : Machine) (c : CloseFile) → machine ≡ machines.File (files.Close c) → (wsize : ℕ) (turn : Turn) (old : Shelf) (next : Step) (new : Machine) (after : Shelf) → file_at c.lane c.slot old.opens ≡ Some f
       → Starts wsize machine turn old next new after → StaysClose next new after × ((next ≡ nexts.Wait → ⊥) → is_first c.lane (joined c.lane f old).order ≡ true)
   close-starts machine c is wsize turn old next new after at s = by (subst (λ (m : Machine). Starts wsize m turn old next new after) is s)
     where
@@ -190,11 +190,11 @@ module _ (f : List ℕ) where
   over-is : (a b : Answer) → Over a ≡ Over b → a ≡ b
   over-is a b e = cc
 
-  at-end : (next : Next) (new : Machine) (after : Shelf) (answer : Answer) (fault : Fault) → StaysClose next new after → next ≡ nexts.Done answer → answer ≡ answers.Refused fault
+  at-end : (next : Step) (new : Machine) (after : Shelf) (answer : Answer) (fault : Fault) → StaysClose next new after → next ≡ nexts.Done answer → answer ≡ answers.Refused fault
       → (IsOpen after.opens f → ⊥) → Emptied after.back
-  at-end next new after answer fault k n a = subst (λ (z : Next). Leaves_ z k.c.state after) (n ∙ ap nexts.Done a) k.leaves
+  at-end next new after answer fault k n a = subst (λ (z : Step). Leaves_ z k.c.state after) (n ∙ ap nexts.Done a) k.leaves
 
-  pub leads-emptied : (v new : View) (at number : ℕ) (machine : Machine) (next : Next) → slice_get v.lanes at ≡ Some (record { number = number; state = Busy machine }) → Leads v at number machine next new
+  pub leads-emptied : (v new : View) (at number : ℕ) (machine : Machine) (next : Step) → slice_get v.lanes at ≡ Some (record { number = number; state = Busy machine }) → Leads v at number machine next new
       → StaysClose next machine v.shelf → (state : State) → slice_get new.lanes at ≡ Some (record { number = number; state = state }) → (fault : Fault) → state ≡ Over (answers.Refused fault)
       → (IsOpen new.shelf.opens f → ⊥) → Emptied new.shelf.back × (next ≡ nexts.Wait → ⊥)
   leads-emptied v new at number machine (nexts.Send call) there (inl made) k state here fault is shut =
@@ -218,7 +218,7 @@ module _ (f : List ℕ) where
       shut_ : IsOpen r.left.opens f → ⊥
       shut_ o = shut (subst (λ (z : View). IsOpen z.shelf.opens f) (sym r.is) o)
 
-      by : (n : Next) → r.next ≡ n → IsRefused r.after n r.state → Emptied new.shelf.back
+      by : (n : Step) → r.next ≡ n → IsRefused r.after n r.state → Emptied new.shelf.back
       by (nexts.Send again) e l = absurd l
       by nexts.Wait e l = absurd (busy-over r.after (answers.Refused fault) (sym l ∙ over))
       by (nexts.Done answer) e l =

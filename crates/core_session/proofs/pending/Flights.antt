@@ -1,5 +1,5 @@
 -- What a WRITE carries may have been pending since the operation began that asks for it: as it was made, or as it was made first.
-use Rattle.core_session.proofs.Prelude.{◌≡◌, ◌≢◌, ◌≤◌, ◌<◌, ◌+◌, ◌-◌, ◌⊎◌, inl, inr, ℕ, zero, suc, Bool, true, false, nat_eq, List, [], ◌∷◌, ◌++◌, length, Option, Some, None, option_map, slice_get, refl, sym, ap, subst, ◌∙◌, arith, if◌then◌else◌, slice_index, cases_lt, eqb-true, eqb-false, Waiting, next_xid, made_call, waiting_at, without, waits_early, at_made, others_made, others_taken, gone, is_in_flight, of_file, Flown, flown_in, fly_at, piece_under, rest_at, Cell, cell_at, covers, IsOver, IsSound, covered, flown-some, fly-under, some-of, flown-from, Answer, Value, Entry, Began, Answered, Delivered, Call, Op, proc_of, AnsweredBefore, UnderWay, LeftAlone, PutRefused, Terms, RefusedWrite, length_last, said_of, Next, Shelf, Mounted, Machine, machine_of, Purpose, Busy, Setup, IsFresh, IsIdle, numbers_of, with_state, record_of, Makes, Leads, Stirs, counted, StartsLane, TakesAt, AnswersAt, View, turn_at, IsOpenLine, GoesWith, taken_one, calls-some, Known, Runs, idle-numbers, number_of, to-map, Rows, same-rows, taken-rows, SameCalls, After, waits-late, unused-next, starts-under, resumes-under, takes-under, SameUnder}
+use Rattle.core_session.proofs.Prelude.{◌≡◌, ◌≢◌, ◌≤◌, ◌<◌, ◌+◌, ◌-◌, ◌⊎◌, inl, inr, ℕ, zero, suc, Bool, true, false, nat_eq, List, [], ◌∷◌, ◌++◌, length, Option, Some, None, option_map, slice_get, refl, sym, ap, subst, ◌∙◌, arith, if◌then◌else◌, slice_index, cases_lt, eqb-true, eqb-false, Waiting, next_xid, made_call, waiting_at, without, waits_early, at_made, others_made, others_taken, gone, is_in_flight, of_file, Flown, flown_in, fly_at, piece_under, rest_at, Cell, cell_at, covers, IsOver, IsSound, covered, flown-some, fly-under, some-of, flown-from, Answer, Value, Entry, Began, Answered, Delivered, Call, Op, proc_of, AnsweredBefore, UnderWay, LeftAlone, PutRefused, Terms, RefusedWrite, length_last, said_of, Step, Shelf, Mounted, Machine, machine_of, Purpose, Busy, Setup, IsFresh, IsIdle, numbers_of, with_state, record_of, Makes, Leads, Stirs, counted, StartsLane, TakesAt, AnswersAt, View, turn_at, IsOpenLine, GoesWith, taken_one, calls-some, Known, Runs, idle-numbers, number_of, to-map, Rows, same-rows, taken-rows, SameCalls, After, waits-late, unused-next, starts-under, resumes-under, takes-under, SameUnder}
 use Rattle.write_back.specs.Pieces.{Sent, rest_of}
 use Rattle.write_back.proofs.Flying.{under-whole}
 use Rattle.claims.specs.Pending.{Pending}
@@ -8,7 +8,7 @@ use Rattle.core_answers.proofs.writes.PiecesCarried.{Flying, unmade-under}
 use Rattle.write_back.specs.declared.state.State.TheVariants.{Waiting as Waits}
 use Rattle.write_back.specs.declared.state.Ready.TheVariants.{Unsent}
 use Rattle.world_model.specs.declared.answer.Answer.TheVariants as answers
-use Rattle.client_shelf.specs.declared.next.Next.TheVariants as nexts
+use Rattle.client_shelf.specs.declared.step.Step.TheVariants as nexts
 use Rattle.core_session.proofs.calls.TableHeld.{AllNoted}
 use Rattle.core_session.proofs.drops.KnowingAlong.{IsPlain}
 use Rattle.core_session.proofs.drops.Laws.{DropsKnown}
@@ -75,7 +75,7 @@ module _ (W : List ℕ → ℕ → List ℕ → Type 0) (setup : Setup) (h : Lis
           inr (here, sym (ap (λ (c : Waiting Purpose). c.purpose.lane) which), own)
       by false d = inl (sym (others_made xid (next_xid v.calls) v.calls.calls row d) ∙ is)
 
-  leads-waited : (new : View) (at number : ℕ) (machine : Machine) (next : Next) → After (Free W (next_xid v.calls)) (λ call. AllMade W (next_xid v.calls)) next v.shelf.back
+  leads-waited : (new : View) (at number : ℕ) (machine : Machine) (next : Step) → After (Free W (next_xid v.calls)) (λ call. AllMade W (next_xid v.calls)) next v.shelf.back
       → Leads v at number machine next new → (xid : ℕ) (w : Waiting Purpose) → waiting_at xid new.calls.calls ≡ Some w → Waited number xid w new
   leads-waited new at number machine (nexts.Send call) own (inl m) =
       subst (λ (z : View). (xid : ℕ) (w : Waiting Purpose) → waiting_at xid z.calls.calls ≡ Some w → Waited number xid w z) (sym m.is) (λ xid w is. made-waited number call new m own xid w is)
@@ -87,7 +87,7 @@ module _ (W : List ℕ → ℕ → List ℕ → Type 0) (setup : Setup) (h : Lis
       subst (λ (z : View). (xid : ℕ) (w : Waiting Purpose) → waiting_at xid z.calls.calls ≡ Some w → Waited number xid w z) (sym is) (λ xid w at_. inl at_)
 
   -- what is in flight under another xid stays there
-  leads-under : (mt : Mounted) (new : View) (at number : ℕ) (machine : Machine) (next : Next) → Leads v at number machine next new → (xid : ℕ) → next_xid v.calls ≢ xid → 0 ≢ xid
+  leads-under : (mt : Mounted) (new : View) (at number : ℕ) (machine : Machine) (next : Step) → Leads v at number machine next new → (xid : ℕ) → next_xid v.calls ≢ xid → 0 ≢ xid
       → SameUnder xid v.shelf.back new.shelf.back
   leads-under mt new at number machine (nexts.Send call) (inl m) xid apart some = subst (λ (z : View). SameUnder xid v.shelf.back z.shelf.back) (sym m.is) (λ f. refl)
   leads-under mt new at number machine (nexts.Send call) (inr k) xid apart some =

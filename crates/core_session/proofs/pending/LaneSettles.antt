@@ -1,10 +1,10 @@
 -- Where a lane's sync or close has saved its file, only later bytes are pending of it: a lane's whole step, also at a call that isn't made.
-use Rattle.core_session.proofs.Prelude.{◌≡◌, ◌≤◌, inl, inr, ℕ, false, List, [], ◌∷◌, ◌++◌, length, Option, Some, None, position, Result, Err, slice_get, refl, sym, ap, subst, ◌∙◌, arith, Waiting, waiting_at, Fault, Entry, Reply, said_of, Pending, of_file, piece_under, LaneFile, Shelf, Turn, Next, CloseFile, Saving, SyncFile, file_at, Mounted, Machine, machine_of, Resumes, Takes, Purpose, State, Busy, Over, Setup, is_busy, with_state, IsRefused, Leads, Stirs, counted, StartsLane, TakesAt, View, turn_at, unmade_turn, in_flight, Reaches, taken_one, Known, taker-is, taker-one, at-set, at-push, unused-next, EachSound, IsAwaited}
+use Rattle.core_session.proofs.Prelude.{◌≡◌, ◌≤◌, inl, inr, ℕ, false, List, [], ◌∷◌, ◌++◌, length, Option, Some, None, position, Result, Err, slice_get, refl, sym, ap, subst, ◌∙◌, arith, Waiting, waiting_at, Fault, Entry, Reply, said_of, Pending, of_file, piece_under, LaneFile, Shelf, Turn, Step, CloseFile, Saving, SyncFile, file_at, Mounted, Machine, machine_of, Resumes, Takes, Purpose, State, Busy, Over, Setup, is_busy, with_state, IsRefused, Leads, Stirs, counted, StartsLane, TakesAt, View, turn_at, unmade_turn, in_flight, Reaches, taken_one, Known, taker-is, taker-one, at-set, at-push, unused-next, EachSound, IsAwaited}
 use Rattle.write_back.specs.Pieces.{Sent}
 use Rattle.core_facts.specs.InFlight.{of_saving}
 use Rattle.std.specs.Prelude.{IsSome}
 use Rattle.world_model.specs.declared.answer.Answer.TheVariants as answers
-use Rattle.client_shelf.specs.declared.next.Next.TheVariants as nexts
+use Rattle.client_shelf.specs.declared.step.Step.TheVariants as nexts
 use Rattle.file_ops.specs.Saves as saves
 use Rattle.op_machines.specs.declared.file_machine.FileMachine.TheVariants as files
 use Rattle.op_machines.specs.declared.machine.Machine.TheVariants as machines
@@ -18,7 +18,7 @@ use Rattle.core_session.proofs.pending.Settles.{IsGood, IsPast, PastClose, Good,
 
 -- ---- they stay what they are
 
-pub resumes-saver : (m : Machine) → IsSaver m → (wsize : ℕ) (turn : Turn) (old : Shelf) (next : Next) (new : Machine) (after : Shelf) → Resumes wsize m turn old next new after → IsSaver new
+pub resumes-saver : (m : Machine) → IsSaver m → (wsize : ℕ) (turn : Turn) (old : Shelf) (next : Step) (new : Machine) (after : Shelf) → Resumes wsize m turn old next new after → IsSaver new
 resumes-saver (machines.File (files.Sync m)) saver wsize turn old next new after r = subst IsSaver (sym r.machine_is) (subst SavesFile (sym r.step.machine_is) tt)
 resumes-saver (machines.File (files.Close m)) saver wsize turn old next new after r = subst IsSaver (sym r.machine_is) (subst SavesFile (sym r.step.machine_is) tt)
 resumes-saver (machines.File (files.Open m)) saver wsize turn old next new after r = absurd saver
@@ -29,7 +29,7 @@ resumes-saver (machines.File (files.Put m)) saver wsize turn old next new after 
 resumes-saver (machines.Path m) saver wsize turn old next new after r = absurd saver
 resumes-saver (machines.Name m) saver wsize turn old next new after r = absurd saver
 
-pub takes-saver : (m : Machine) → IsSaver m → (wsize : ℕ) (sent turn : Turn) (came : Result Reply Fault) (old : Shelf) (next : Next) (new : Machine) (after : Shelf) → Takes wsize m sent turn came old next new after → IsSaver new
+pub takes-saver : (m : Machine) → IsSaver m → (wsize : ℕ) (sent turn : Turn) (came : Result Reply Fault) (old : Shelf) (next : Step) (new : Machine) (after : Shelf) → Takes wsize m sent turn came old next new after → IsSaver new
 takes-saver (machines.File (files.Sync m)) saver wsize sent turn came old next new after r = subst IsSaver (sym r.machine_is) (subst SavesFile (sym r.step.machine_is) tt)
 takes-saver (machines.File (files.Close m)) saver wsize sent turn came old next new after r = subst IsSaver (sym r.machine_is) (subst SavesFile (sym r.step.machine_is) tt)
 takes-saver (machines.File (files.Open m)) saver wsize sent turn came old next new after r = absurd saver
@@ -46,14 +46,14 @@ over-good : (answer : _) → StateGood (Over answer) → IsGood (nexts.Done answ
 over-good (answers.Done value) good = tt
 over-good (answers.Refused fault) good = good
 
-refused-good : (machine : Machine) (next : Next) (state : State) → IsRefused machine next state → StateGood state → Good next machine
+refused-good : (machine : Machine) (next : Step) (state : State) → IsRefused machine next state → StateGood state → Good next machine
 refused-good machine (nexts.Send call) state is good = absurd is
 refused-good machine nexts.Wait state is good = inr (subst StateGood is good)
 refused-good machine (nexts.Done answer) state is good = inl (over-good answer (subst StateGood is good))
 
 module _ (f : List ℕ) (i u : ℕ) where
   -- what a step leads to
-  pub leads-good : (v new : View) (at number : ℕ) (machine : Machine) (next : Next) → slice_get v.lanes at ≡ Some (record { number = number; state = Busy machine }) → Leads v at number machine next new
+  pub leads-good : (v new : View) (at number : ℕ) (machine : Machine) (next : Step) → slice_get v.lanes at ≡ Some (record { number = number; state = Busy machine }) → Leads v at number machine next new
       → IsSaver machine → (Good next machine → AboveIt f i u v.shelf.back) → (state : State) → slice_get new.lanes at ≡ Some (record { number = number; state = state }) → StateGood state
       → AboveIt f i u new.shelf.back
   leads-good v new at number machine (nexts.Send call) there (inl made) saver first state here good =

@@ -1,8 +1,8 @@
 -- A WRITE carries what is newest at its places as it is made; or it is one that was put off, and carries the same again.
-use Rattle.core_session.proofs.Prelude.{◌≡◌, ◌≢◌, ◌⊎◌, inl, inr, ℕ, Bool, true, false, List, [], ◌∷◌, ◌++◌, length, Option, Some, None, Result, Ok, Err, refl, sym, ap, subst, ◌∙◌, Verdict, AllStable, SendAgain, verdict_of, Verf, Fault, Reply, lost, chosen, piece_of, with_sent, Pending, of_file, OnFile, with_xid, FilePending, piece_under, rest_at, PutsInFlight, Segments, covers, same-or, Next, Repeat, Shelf, Turn, goes_again, Closing, Putting, Sending, Committing, Resending, CommittingAgain, Saving, Syncing, Writing, commit_told, IsUnused, FileMachine, Machine, Opener, file_of, Starts, Resumes, Takes, After, CarriesReply}
+use Rattle.core_session.proofs.Prelude.{◌≡◌, ◌≢◌, ◌⊎◌, inl, inr, ℕ, Bool, true, false, List, [], ◌∷◌, ◌++◌, length, Option, Some, None, Result, Ok, Err, refl, sym, ap, subst, ◌∙◌, Verdict, AllStable, SendAgain, verdict_of, Verf, Fault, Reply, lost, chosen, piece_of, with_sent, Pending, of_file, OnFile, with_xid, FilePending, piece_under, rest_at, PutsInFlight, Segments, covers, same-or, Step, Repeat, Shelf, Turn, goes_again, Closing, Putting, Sending, Committing, Resending, CommittingAgain, Saving, Syncing, Writing, commit_told, IsUnused, FileMachine, Machine, Opener, file_of, Starts, Resumes, Takes, After, CarriesReply}
 use Rattle.write_back.specs.Pieces.{Sent}
 use Rattle.core_answers.proofs.writes.Backs.{Carries, SyncSaves, CloseSaves, WriteSaves, PutSaves, FileSaves}
-use Rattle.client_shelf.specs.declared.next.Next.TheVariants as nexts
+use Rattle.client_shelf.specs.declared.step.Step.TheVariants as nexts
 use Rattle.file_ops.specs.declared.close_file.Closing.TheVariants as closing
 use Rattle.file_ops.specs.declared.put_file.Putting.TheVariants as putting
 use Rattle.file_ops.specs.declared.saving.Phase.{Phase}
@@ -37,7 +37,7 @@ module _ (W : List ℕ → ℕ → List ℕ → Type 0) (xid : ℕ) where
   none-made : (back : Pending) → Free back → AllMade back
   none-made back free f piece is = absurd (let no_way : None ≡ Some piece = sym (free f) ∙ is in cc)
 
-  free-after : (next : Next) (back : Pending) → Free back → After Free (λ call. AllMade) next back
+  free-after : (next : Step) (back : Pending) → Free back → After Free (λ call. AllMade) next back
   free-after (nexts.Send call) back free = none-made back free
   free-after nexts.Wait back free = free
   free-after (nexts.Done answer) back free = free
@@ -217,19 +217,19 @@ abbrev pub Never : List ℕ → ℕ → List ℕ → Type 0
 Never f offset bytes = ⊥
 
 module _ (wsize : ℕ) (turn : Turn) where
-  pub starts-made : (machine : Machine) (old : Shelf) (next : Next) (new : Machine) (after : Shelf) → Starts wsize machine turn old next new after → IsUnused turn.xid old.back
+  pub starts-made : (machine : Machine) (old : Shelf) (next : Step) (new : Machine) (after : Shelf) → Starts wsize machine turn old next new after → IsUnused turn.xid old.back
       → After (Free Never turn.xid) (λ call. AllMade Never turn.xid) next after.back
   starts-made machine old next new after s free =
       all-starts wsize turn (λ f o b n. Unit {0}) (λ c. Unit {0}) (λ call o. tt) (Free Never turn.xid) (λ call. AllMade Never turn.xid) (carries-made Never wsize turn)
       machine old next new after (any-asks next new) (any-starts machine old.opens) free s
 
-  pub resumes-made : (machine : Machine) (old : Shelf) (next : Next) (new : Machine) (after : Shelf) → Resumes wsize machine turn old next new after → IsUnused turn.xid old.back
+  pub resumes-made : (machine : Machine) (old : Shelf) (next : Step) (new : Machine) (after : Shelf) → Resumes wsize machine turn old next new after → IsUnused turn.xid old.back
       → After (Free Never turn.xid) (λ call. AllMade Never turn.xid) next after.back
   resumes-made machine old next new after s free =
       all-resumes wsize turn (λ f o b n. Unit {0}) (λ c. Unit {0}) (λ call o. tt) (Free Never turn.xid) (λ call. AllMade Never turn.xid) (carries-made Never wsize turn)
       machine old next new after (any-asks next new) free s
 
-  pub takes-made : (W : List ℕ → ℕ → List ℕ → Type 0) (sent : Turn) (came : Result Reply Fault) (machine : Machine) (old : Shelf) (next : Next) (new : Machine) (after : Shelf)
+  pub takes-made : (W : List ℕ → ℕ → List ℕ → Type 0) (sent : Turn) (came : Result Reply Fault) (machine : Machine) (old : Shelf) (next : Step) (new : Machine) (after : Shelf)
       → Takes wsize machine sent turn came old next new after → WasAsked W sent.xid old.back → IsUnused turn.xid old.back → After (Free W turn.xid) (λ call. AllMade W turn.xid) next after.back
   takes-made W sent came machine old next new after s was free =
       all-takes wsize turn (λ f o b n. Unit {0}) (λ c. Unit {0}) (λ call o. tt) (Free W turn.xid) (λ call. AllMade W turn.xid) (carries-made W wsize turn)

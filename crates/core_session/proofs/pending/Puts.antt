@@ -1,7 +1,7 @@
 -- Where a put has saved its file, only later bytes are pending of it: the last step of its machine.
-use Rattle.core_session.proofs.Prelude.{◌≡◌, ℕ, Bool, true, false, List, Option, Some, None, Result, Ok, Err, sym, subst, Fault, Reply, Next, Shelf, Turn, PutFile, Putting, Saving, by-step, ends_as, FileMachine, Machine, Opener, PathMachine, file_of, Takes, EndsSo}
+use Rattle.core_session.proofs.Prelude.{◌≡◌, ℕ, Bool, true, false, List, Option, Some, None, Result, Ok, Err, sym, subst, Fault, Reply, Step, Shelf, Turn, PutFile, Putting, Saving, by-step, ends_as, FileMachine, Machine, Opener, PathMachine, file_of, Takes, EndsSo}
 use Rattle.world_model.specs.declared.answer.Answer.TheVariants as answers
-use Rattle.client_shelf.specs.declared.next.Next.TheVariants as nexts
+use Rattle.client_shelf.specs.declared.step.Step.TheVariants as nexts
 use Rattle.file_ops.specs.declared.put_file.Putting.TheVariants as putting
 use Rattle.file_ops.specs.PutFile as puts
 use Rattle.file_ops.specs.Syncs as syncs
@@ -43,20 +43,20 @@ own-job (machines.Path m) z is = path-job m.arrived m.opener z is
 own-job (machines.Name m) z is = none-own z is
 
 -- a good end is one of its own save
-well-at : (own : Option Saving) (next : Next) → EndsSo (AtSave own) next → IsGood next → AtSave own
+well-at : (own : Option Saving) (next : Step) → EndsSo (AtSave own) next → IsGood next → AtSave own
 well-at own (nexts.Send call) e good = absurd good
 well-at own nexts.Wait e good = absurd good
 well-at own (nexts.Done (answers.Done value)) e good = e
 well-at own (nexts.Done (answers.Refused fault)) e good = absurd good
 
-pub good-own : (own : Option Saving) (next : Next) → EndsSo (AtSave own) next → IsGood next → AtSave own
+pub good-own : (own : Option Saving) (next : Step) → EndsSo (AtSave own) next → IsGood next → AtSave own
 good-own = well-at
 
 some-save : (a b : Saving) → Some a ≡ Some b → a ≡ b
 some-save a b e = cc
 
 module _ (f : List ℕ) (i u : ℕ) (wsize : ℕ) (sent turn : Turn) (came : Result Reply Fault) where
-  put-follows : (gives : _) (lane : ℕ) (saved : Saving) (old : Shelf) (next : Next) (state : Putting) (new : Shelf) → puts.Follows gives lane saved old next state new
+  put-follows : (gives : _) (lane : ℕ) (saved : Saving) (old : Shelf) (next : Step) (state : Putting) (new : Shelf) → puts.Follows gives lane saved old next state new
       → (IsGood (syncs.sync_next gives) → AboveIt f i u old.back) → IsGood next → AboveIt f i u new.back
   put-follows gives lane saved old next state new k at good = by-step
       (λ g. puts.Follows g lane saved old next state new → (IsGood (syncs.sync_next g) → AboveIt f i u old.back) → AboveIt f i u new.back)
@@ -70,7 +70,7 @@ module _ (f : List ℕ) (i u : ℕ) (wsize : ℕ) (sent turn : Turn) (came : Res
           by false is = subst (AboveIt f i u) (sym is) (at tt)
       ended (Err fault) k at = absurd (subst IsGood k.next_is good)
 
-  put-settles : (at : Putting) (m : PutFile) (z : Saving) (old : Shelf) (next : Next) (new : PutFile) (after : Shelf) → put_own at ≡ Some z → puts.Takes at wsize m sent turn came old next new after
+  put-settles : (at : Putting) (m : PutFile) (z : Saving) (old : Shelf) (next : Step) (new : PutFile) (after : Shelf) → put_own at ≡ Some z → puts.Takes at wsize m sent turn came old next new after
       → SaveEnds f i u wsize sent turn came old.back z → IsGood next → AboveIt f i u after.back
   put-settles putting.Idle m z old next new after is t ends good = none-own z is
   put-settles putting.Opens m z old next new after is t ends good = none-own z is
@@ -79,7 +79,7 @@ module _ (f : List ℕ) (i u : ℕ) (wsize : ℕ) (sent turn : Turn) (came : Res
       put-follows t.0.gives m.write.lane t.0.saved t.0.took next new.state after t.0.follows
       (λ well. subst (SaveEnds f i u wsize sent turn came old.back) (sym (some-save s z is)) ends old.repeats t.0.took.repeats t.0.gives t.0.saved t.0.took.back t.0.takes well) good
 
-  file-settles : (m : FileMachine) (z : Saving) (old : Shelf) (next : Next) (new : FileMachine) (after : Shelf) → file_own m ≡ Some z → file_steps.Takes wsize m sent turn came old next new after
+  file-settles : (m : FileMachine) (z : Saving) (old : Shelf) (next : Step) (new : FileMachine) (after : Shelf) → file_own m ≡ Some z → file_steps.Takes wsize m sent turn came old next new after
       → SaveEnds f i u wsize sent turn came old.back z → IsGood next → AboveIt f i u after.back
   file-settles (files.Open m) z old next new after is t ends good = none-own z is
   file-settles (files.Read m) z old next new after is t ends good = none-own z is
@@ -89,12 +89,12 @@ module _ (f : List ℕ) (i u : ℕ) (wsize : ℕ) (sent turn : Turn) (came : Res
   file-settles (files.Truncate m) z old next new after is t ends good = none-own z is
   file-settles (files.Put m) z old next new after is t ends good = put-settles m.state m z old next t.machine after is t.step ends good
 
-  path-settles : (b : Bool) (m : PathMachine) (z : Saving) (old : Shelf) (next : Next) (new : PathMachine) (after : Shelf) → path_own b m.opener ≡ Some z → paths.PathTakes b wsize m sent turn came old next new after
+  path-settles : (b : Bool) (m : PathMachine) (z : Saving) (old : Shelf) (next : Step) (new : PathMachine) (after : Shelf) → path_own b m.opener ≡ Some z → paths.PathTakes b wsize m sent turn came old next new after
       → SaveEnds f i u wsize sent turn came old.back z → IsGood next → AboveIt f i u after.back
   path-settles true m z old next new after is t ends good = file-settles (file_of m.opener) z old next (file_of t.opener) after is t.step ends good
   path-settles false m z old next new after is t ends good = none-own z is
 
-  pub put-takes-good : (m : Machine) (z : Saving) (old : Shelf) (next : Next) (new : Machine) (after : Shelf) → own_save m ≡ Some z → Takes wsize m sent turn came old next new after
+  pub put-takes-good : (m : Machine) (z : Saving) (old : Shelf) (next : Step) (new : Machine) (after : Shelf) → own_save m ≡ Some z → Takes wsize m sent turn came old next new after
       → SaveEnds f i u wsize sent turn came old.back z → IsGood next → AboveIt f i u after.back
   put-takes-good (machines.File m) z old next new after is t ends good = file-settles m z old next t.machine after is t.step ends good
   put-takes-good (machines.Path m) z old next new after is t ends good = path-settles m.arrived m z old next t.machine after is t.step ends good

@@ -1,9 +1,9 @@
 -- Where a sync or a close has saved its file, only later bytes are pending of it: each step of their machines.
-use Rattle.core_session.proofs.Prelude.{◌≡◌, ◌≤◌, ◌⊎◌, inl, inr, ℕ, Bool, true, false, List, Option, Some, None, Result, Ok, Err, refl, sym, ap, subst, Fault, Call, Reply, last_end, Pending, of_file, HasNoPiece, Next, Repeat, Shelf, Turn, goes_again, is_first, CloseFile, Closing, Removal, Saving, SyncFile, Syncing, GivesUpBy, closed_answer, remove_busy, file_at, joined, by-step, ends_as, FileMachine, Machine, Starts, Resumes, Takes, State, Busy, Over, EndsSo, takes-not, Free, EachSound, IsClearUpTo, IsUnderWay, IsAwaited}
+use Rattle.core_session.proofs.Prelude.{◌≡◌, ◌≤◌, ◌⊎◌, inl, inr, ℕ, Bool, true, false, List, Option, Some, None, Result, Ok, Err, refl, sym, ap, subst, Fault, Call, Reply, last_end, Pending, of_file, HasNoPiece, Step, Repeat, Shelf, Turn, goes_again, is_first, CloseFile, Closing, Removal, Saving, SyncFile, Syncing, GivesUpBy, closed_answer, remove_busy, file_at, joined, by-step, ends_as, FileMachine, Machine, Starts, Resumes, Takes, State, Busy, Over, EndsSo, takes-not, Free, EachSound, IsClearUpTo, IsUnderWay, IsAwaited}
 use Rattle.core_answers.proofs.paths.Endings.{goes-not}
 use Rattle.step_saves.specs.Saves.{IsSaved, Leaves}
 use Rattle.world_model.specs.declared.answer.Answer.TheVariants as answers
-use Rattle.client_shelf.specs.declared.next.Next.TheVariants as nexts
+use Rattle.client_shelf.specs.declared.step.Step.TheVariants as nexts
 use Rattle.file_ops.specs.declared.close_file.Closing.TheVariants as closing
 use Rattle.file_ops.specs.declared.sync_file.Syncing.TheVariants as syncing
 use Rattle.file_ops.specs.Closes as closes
@@ -19,7 +19,7 @@ use Rattle.core_session.proofs.pending.Newest.{OfNewest}
 
 -- ---- how a step ends
 
-abbrev pub IsGood : Next → Type 0
+abbrev pub IsGood : Step → Type 0
 IsGood (nexts.Send call) = ⊥
 IsGood nexts.Wait = ⊥
 IsGood (nexts.Done (answers.Done value)) = Unit {0}
@@ -48,7 +48,7 @@ IsPast (machines.Path m) = ⊥
 IsPast (machines.Name m) = ⊥
 
 -- it has saved its file
-abbrev pub Good : Next → Machine → Type 0
+abbrev pub Good : Step → Machine → Type 0
 Good next machine = IsGood next ⊎ IsPast machine
 
 abbrev pub StateGood : State → Type 0
@@ -71,13 +71,13 @@ IsSaver (machines.File m) = SavesFile m
 IsSaver (machines.Path m) = ⊥
 IsSaver (machines.Name m) = ⊥
 
-pub not-good : (n : Next) → EndsSo ⊥ n → IsGood n → ⊥
+pub not-good : (n : Step) → EndsSo ⊥ n → IsGood n → ⊥
 not-good (nexts.Send call) e good = good
 not-good nexts.Wait e good = good
 not-good (nexts.Done (answers.Done value)) e good = e
 not-good (nexts.Done (answers.Refused fault)) e good = good
 
-good-is : (n m : Next) → n ≡ m → IsGood n → IsGood m
+good-is : (n m : Step) → n ≡ m → IsGood n → IsGood m
 good-is n m is good = subst IsGood is good
 
 module _ (f : List ℕ) (i u : ℕ) where
@@ -86,10 +86,10 @@ module _ (f : List ℕ) (i u : ℕ) where
 
   -- ---- closes
 
-  abbrev CloseGood : Next → Closing → Type 0
+  abbrev CloseGood : Step → Closing → Type 0
   CloseGood next state = IsGood next ⊎ PastClose state
 
-  close-ends : (lane : ℕ) (file : List ℕ) (refusal : Option Fault) (old : Shelf) (next : Next) (state : Closing) (new : Shelf) → closes.Ends lane file refusal old next state new
+  close-ends : (lane : ℕ) (file : List ℕ) (refusal : Option Fault) (old : Shelf) (next : Step) (state : Closing) (new : Shelf) → closes.Ends lane file refusal old next state new
       → (refusal ≡ None → AboveIt old.back) → CloseGood next state → AboveIt new.back
   close-ends lane file refusal old next state new e at good = by refusal refl e.next_is e.back
     where
@@ -101,18 +101,18 @@ module _ (f : List ℕ) (i u : ℕ) where
           none (inl g) = good-is next (nexts.Done (answers.Refused fault)) n g
           none (inr p) = subst PastClose e.state_is p
 
-  close-waits : (to : Closing) (old : Shelf) (next : Next) (state : Closing) (new : Shelf) → next ≡ nexts.Wait → state ≡ to → new ≡ old → (PastClose to → AboveIt old.back)
+  close-waits : (to : Closing) (old : Shelf) (next : Step) (state : Closing) (new : Shelf) → next ≡ nexts.Wait → state ≡ to → new ≡ old → (PastClose to → AboveIt old.back)
       → CloseGood next state → AboveIt new.back
   close-waits to old next state new n s o at (inl g) = absurd (good-is next nexts.Wait n g)
   close-waits to old next state new n s o at (inr p) = subst AboveIt (sym (ap (λ (z : Shelf). z.back) o)) (at (subst PastClose s p))
 
-  close-asks : (b : Bool) (r : Removal) (old : Shelf) (next : Next) (state : Closing) (new : Shelf) → closes.Asks b r old next state new → (r.refusal ≡ None → AboveIt old.back)
+  close-asks : (b : Bool) (r : Removal) (old : Shelf) (next : Step) (state : Closing) (new : Shelf) → closes.Asks b r old next state new → (r.refusal ≡ None → AboveIt old.back)
       → CloseGood next state → AboveIt new.back
   close-asks true r old next state new a at (inl g) = absurd (subst IsGood a.next_is g)
   close-asks true r old next state new a at (inr p) = subst AboveIt (sym (ap (λ (z : Shelf). z.back) a.shelf_is)) (at (subst PastClose a.state_is p))
   close-asks false r old next state new a at good = close-waits (closing.ToRemove r) old next state new a.next_is a.state_is a.shelf_is at good
 
-  close-frees : (lane slot : ℕ) (room : Bool) (file : List ℕ) (refusal : Option Fault) (old : Shelf) (next : Next) (state : Closing) (new : Shelf)
+  close-frees : (lane slot : ℕ) (room : Bool) (file : List ℕ) (refusal : Option Fault) (old : Shelf) (next : Step) (state : Closing) (new : Shelf)
       → closes.Frees lane slot room file refusal old next state new → (refusal ≡ None → AboveIt old.back) → CloseGood next state → AboveIt new.back
   close-frees lane slot room file refusal old next state new e at good = by e.place e.ends
     where
@@ -126,7 +126,7 @@ module _ (f : List ℕ) (i u : ℕ) where
   none-fault : (fault : Fault) → Some fault ≡ None → ⊥
   none-fault fault e = absurd (cc)
 
-  close-follows : (gives : _) (lane slot : ℕ) (room begun : Bool) (saved : Saving) (old : Shelf) (next : Next) (state : Closing) (new : Shelf)
+  close-follows : (gives : _) (lane slot : ℕ) (room begun : Bool) (saved : Saving) (old : Shelf) (next : Step) (state : Closing) (new : Shelf)
       → closes.Follows gives lane slot room begun saved old next state new → (IsGood (syncs.sync_next gives) → AboveIt old.back) → CloseGood next state → AboveIt new.back
   close-follows gives lane slot room begun saved old next state new k at good = by-step
       (λ g. closes.Follows g lane slot room begun saved old next state new → (IsGood (syncs.sync_next g) → AboveIt old.back) → AboveIt new.back)
@@ -145,13 +145,13 @@ module _ (f : List ℕ) (i u : ℕ) where
       ended (Err fault) k at = close-frees lane slot room saved.file (Some fault) old next state new k (λ none. absurd (none-fault fault none)) good
 
   -- no save ends well where no reply comes
-  close-goes : (wsize lane slot : ℕ) (turn : Turn) (begun : Bool) (s : Saving) (old : Shelf) (next : Next) (state : Closing) (new : Shelf)
+  close-goes : (wsize lane slot : ℕ) (turn : Turn) (begun : Bool) (s : Saving) (old : Shelf) (next : Step) (state : Closing) (new : Shelf)
       → closes.GoesOn wsize lane slot turn begun s old next state new → CloseGood next state → AboveIt new.back
   close-goes wsize lane slot turn begun s old next state new k good =
       close-follows k.gives lane slot turn.room begun k.saved k.gone next state new k.follows
       (λ well. absurd (not-good (syncs.sync_next k.gives) (goes-not wsize turn.xid turn.room s old.back k.gives k.saved k.gone.back k.goes) well)) good
 
-  close-queues : (b : Bool) (wsize lane slot : ℕ) (turn : Turn) (s : Saving) (old : Shelf) (next : Next) (state : Closing) (new : Shelf)
+  close-queues : (b : Bool) (wsize lane slot : ℕ) (turn : Turn) (s : Saving) (old : Shelf) (next : Step) (state : Closing) (new : Shelf)
       → closes.QueuesIf b wsize lane slot turn s old next state new → f ≡ s.file → EachSound old.back → CloseGood next state → AboveIt new.back
   close-queues false wsize lane slot turn s old next state new k here sound good =
       close-waits (closing.Queued s) old next state new k.next_is k.state_is k.shelf_is (λ none. absurd none) good
@@ -163,7 +163,7 @@ module _ (f : List ℕ) (i u : ℕ) where
           (λ none. empty-above f i u old.back sound (subst (λ (g : List ℕ). last_end (of_file g old.back).segments ≡ None) (sym here) is)) good
       by (Some end) is e = close-goes wsize lane slot turn false s old next state new e good
 
-  close-resumes : (at : Closing) (wsize : ℕ) (m : CloseFile) (turn : Turn) (old : Shelf) (next : Next) (state : Closing) (new : Shelf) → closes.Resumes at wsize m turn old next state new
+  close-resumes : (at : Closing) (wsize : ℕ) (m : CloseFile) (turn : Turn) (old : Shelf) (next : Step) (state : Closing) (new : Shelf) → closes.Resumes at wsize m turn old next state new
       → ((z : Saving) → file_save (files.Close (record m { state = at })) ≡ Some z → f ≡ z.file) → EachSound old.back → (PastClose at → AboveIt old.back) → CloseGood next state → AboveIt new.back
   close-resumes closing.Idle wsize m turn old next state new r of sound past good = close-waits closing.Idle old next state new r.next_is r.state_is r.shelf_is past good
   close-resumes (closing.Queued s) wsize m turn old next state new r of sound past good =
@@ -177,7 +177,7 @@ module _ (f : List ℕ) (i u : ℕ) where
   close-resumes (closing.Removing r) wsize m turn old next state new k of sound past good =
       close-waits (closing.Removing r) old next state new k.next_is k.state_is k.shelf_is past good
 
-  close-starts : (wsize : ℕ) (m : CloseFile) (turn : Turn) (old : Shelf) (next : Next) (state : Closing) (new : Shelf) → closes.Starts wsize m turn old next state new
+  close-starts : (wsize : ℕ) (m : CloseFile) (turn : Turn) (old : Shelf) (next : Step) (state : Closing) (new : Shelf) → closes.Starts wsize m turn old next state new
       → ((file : List ℕ) → file_at m.lane m.slot old.opens ≡ Some file → f ≡ file) → EachSound old.back → (state ≡ m.state → PastClose state → ⊥) → CloseGood next state → AboveIt new.back
   close-starts wsize m turn old next state new s of sound fresh good = by (file_at m.lane m.slot old.opens) refl s
     where
@@ -195,7 +195,7 @@ module _ (f : List ℕ) (i u : ℕ) where
   SaveEnds wsize sent turn came b z = (repeats later : List Repeat) (gives : _) (new : Saving) (after : Pending)
       → saves.Takes wsize sent turn came repeats z b gives new after later → IsGood (syncs.sync_next gives) → AboveIt after
 
-  close-takes : (at : Closing) (wsize : ℕ) (m : CloseFile) (sent turn : Turn) (came : Result Reply Fault) (old : Shelf) (next : Next) (state : Closing) (new : Shelf)
+  close-takes : (at : Closing) (wsize : ℕ) (m : CloseFile) (sent turn : Turn) (came : Result Reply Fault) (old : Shelf) (next : Step) (state : Closing) (new : Shelf)
       → closes.Takes at wsize m sent turn came old next state new
       → ((z : Saving) → file_save (files.Close (record m { state = at })) ≡ Some z → SaveEnds wsize sent turn came old.back z) → (PastClose at → AboveIt old.back) → CloseGood next state → AboveIt new.back
   close-takes closing.Idle wsize m sent turn came old next state new k ends past good = close-waits closing.Idle old next state new k.next_is k.state_is k.shelf_is past good
@@ -221,23 +221,23 @@ module _ (f : List ℕ) (i u : ℕ) where
 
   -- ---- syncs
 
-  sync-goes : (wsize lane : ℕ) (turn : Turn) (s : Saving) (old : Shelf) (next : Next) (state : Syncing) (new : Shelf) (b : Bool) → syncs.QueuesIf b wsize lane turn s old next state new → IsGood next → ⊥
+  sync-goes : (wsize lane : ℕ) (turn : Turn) (s : Saving) (old : Shelf) (next : Step) (state : Syncing) (new : Shelf) (b : Bool) → syncs.QueuesIf b wsize lane turn s old next state new → IsGood next → ⊥
   sync-goes wsize lane turn s old next state new true k good =
       not-good (syncs.sync_next k.gives) (goes-not wsize turn.xid turn.room s old.back k.gives k.saved new.back k.goes) (subst IsGood k.follows.next_is good)
   sync-goes wsize lane turn s old next state new false k good = subst IsGood k.next_is good
 
-  sync-resumes : (at : Syncing) (wsize : ℕ) (m : SyncFile) (turn : Turn) (old : Shelf) (next : Next) (state : Syncing) (new : Shelf) → syncs.Resumes at wsize m turn old next state new → IsGood next → ⊥
+  sync-resumes : (at : Syncing) (wsize : ℕ) (m : SyncFile) (turn : Turn) (old : Shelf) (next : Step) (state : Syncing) (new : Shelf) → syncs.Resumes at wsize m turn old next state new → IsGood next → ⊥
   sync-resumes syncing.Idle wsize m turn old next state new k good = subst IsGood k.next_is good
   sync-resumes (syncing.Saves s) wsize m turn old next state new k good = sync-goes wsize m.lane turn s old next state new (is_first m.lane old.order) k good
 
-  sync-starts : (wsize : ℕ) (m : SyncFile) (turn : Turn) (old : Shelf) (next : Next) (state : Syncing) (new : Shelf) → syncs.Starts wsize m turn old next state new → IsGood next → ⊥
+  sync-starts : (wsize : ℕ) (m : SyncFile) (turn : Turn) (old : Shelf) (next : Step) (state : Syncing) (new : Shelf) → syncs.Starts wsize m turn old next state new → IsGood next → ⊥
   sync-starts wsize m turn old next state new s good = by (file_at m.lane m.slot old.opens) s
     where
       by : (found : Option (List ℕ)) → syncs.StartsAt found wsize m turn old next state new → ⊥
       by None k = subst IsGood k.next_is good
       by (Some file) k = sync-goes wsize m.lane turn (saves.begun file old.seq) (joined m.lane file old) next state new (is_first m.lane (joined m.lane file old).order) k good
 
-  sync-takes : (at : Syncing) (wsize : ℕ) (m : SyncFile) (sent turn : Turn) (came : Result Reply Fault) (old : Shelf) (next : Next) (state : Syncing) (new : Shelf)
+  sync-takes : (at : Syncing) (wsize : ℕ) (m : SyncFile) (sent turn : Turn) (came : Result Reply Fault) (old : Shelf) (next : Step) (state : Syncing) (new : Shelf)
       → syncs.Takes at wsize m sent turn came old next state new → ((z : Saving) → file_save (files.Sync (record m { state = at })) ≡ Some z → SaveEnds wsize sent turn came old.back z)
       → IsGood next → AboveIt new.back
   sync-takes syncing.Idle wsize m sent turn came old next state new k ends good = absurd (subst IsGood k.next_is good)
@@ -246,7 +246,7 @@ module _ (f : List ℕ) (i u : ℕ) where
 
   -- ---- either of them
 
-  pub resumes-good : (m : Machine) → IsSaver m → (wsize : ℕ) (turn : Turn) (old : Shelf) (next : Next) (new : Machine) (after : Shelf) → Resumes wsize m turn old next new after
+  pub resumes-good : (m : Machine) → IsSaver m → (wsize : ℕ) (turn : Turn) (old : Shelf) (next : Step) (new : Machine) (after : Shelf) → Resumes wsize m turn old next new after
       → ((z : Saving) → job_save m ≡ Some z → f ≡ z.file) → EachSound old.back → (IsPast m → AboveIt old.back) → Good next new → AboveIt after.back
   resumes-good (machines.File (files.Sync m)) saver wsize turn old next new after r of sound past (inl g) = absurd (sync-resumes m.state wsize m turn old next r.step.state after r.step.step g)
   resumes-good (machines.File (files.Sync m)) saver wsize turn old next new after r of sound past (inr p) =
@@ -263,12 +263,12 @@ module _ (f : List ℕ) (i u : ℕ) where
   resumes-good (machines.Path m) saver wsize turn old next new after r of sound past good = absurd saver
   resumes-good (machines.Name m) saver wsize turn old next new after r of sound past good = absurd saver
 
-  pub starts-good-sync : (m : SyncFile) (wsize : ℕ) (turn : Turn) (old : Shelf) (next : Next) (new : Machine) (after : Shelf) → Starts wsize (machines.File (files.Sync m)) turn old next new after
+  pub starts-good-sync : (m : SyncFile) (wsize : ℕ) (turn : Turn) (old : Shelf) (next : Step) (new : Machine) (after : Shelf) → Starts wsize (machines.File (files.Sync m)) turn old next new after
       → Good next new → AboveIt after.back
   starts-good-sync m wsize turn old next new after r (inl g) = absurd (sync-starts wsize m turn old next r.step.state after r.step.step g)
   starts-good-sync m wsize turn old next new after r (inr p) = absurd (subst PastFile r.step.machine_is (subst IsPast r.machine_is p))
 
-  pub starts-good-close : (m : CloseFile) → (PastClose m.state → ⊥) → (wsize : ℕ) (turn : Turn) (old : Shelf) (next : Next) (new : Machine) (after : Shelf)
+  pub starts-good-close : (m : CloseFile) → (PastClose m.state → ⊥) → (wsize : ℕ) (turn : Turn) (old : Shelf) (next : Step) (new : Machine) (after : Shelf)
       → Starts wsize (machines.File (files.Close m)) turn old next new after → ((file : List ℕ) → file_at m.lane m.slot old.opens ≡ Some file → f ≡ file) → EachSound old.back → Good next new → AboveIt after.back
   starts-good-close m fresh wsize turn old next new after r of sound good =
       close-starts wsize m turn old next r.step.state after r.step.step of sound (λ is p. fresh (subst PastClose is p)) (by good)
@@ -277,7 +277,7 @@ module _ (f : List ℕ) (i u : ℕ) where
       by (inl g) = inl g
       by (inr p) = inr (subst PastFile r.step.machine_is (subst IsPast r.machine_is p))
 
-  pub takes-good : (m : Machine) → IsSaver m → (wsize : ℕ) (sent turn : Turn) (came : Result Reply Fault) (old : Shelf) (next : Next) (new : Machine) (after : Shelf)
+  pub takes-good : (m : Machine) → IsSaver m → (wsize : ℕ) (sent turn : Turn) (came : Result Reply Fault) (old : Shelf) (next : Step) (new : Machine) (after : Shelf)
       → Takes wsize m sent turn came old next new after → ((z : Saving) → job_save m ≡ Some z → SaveEnds wsize sent turn came old.back z) → (IsPast m → AboveIt old.back) → Good next new → AboveIt after.back
   takes-good (machines.File (files.Sync m)) saver wsize sent turn came old next new after r ends past (inl g) =
       sync-takes m.state wsize m sent turn came old next r.step.state after r.step.step ends g
@@ -301,7 +301,7 @@ module _ (f : List ℕ) (i u : ℕ) where
   pub unmade-ends : (wsize : ℕ) (sent turn : Turn) (fault : Fault) (b : Pending) (z : Saving) → SaveEnds wsize sent turn (Err fault) b z
   unmade-ends wsize sent turn fault b z repeats later gives new after t good = absurd (not-good (syncs.sync_next gives) (takes-not wsize sent turn fault repeats z b gives new after later t) good)
 
-  saved-of : (n : Next) (s new : Saving) (after : Pending) → IsGood n → Leaves n s new after → IsSaved s after
+  saved-of : (n : Step) (s new : Saving) (after : Pending) → IsGood n → Leaves n s new after → IsSaved s after
   saved-of (nexts.Send call) s new after good l = absurd good
   saved-of nexts.Wait s new after good l = absurd good
   saved-of (nexts.Done (answers.Done value)) s new after good l = l

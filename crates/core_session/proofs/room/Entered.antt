@@ -1,5 +1,5 @@
 -- A write or fill whose bytes became pending is never refused since: as long as it isn't answered its lane has a good answer.
-use Rattle.core_session.proofs.Prelude.{◌≡◌, ◌≢◌, ◌<◌, ◌≤◌, ◌⊎◌, inl, inr, ℕ, List, [], ◌∷◌, ◌++◌, length, map, remove, Bool, true, false, Option, Some, None, MatchOption, position, slice_get, slice_set, refl, sym, ap, subst, ◌∙◌, arith, cases_lt, Answer, Fault, Entry, Began, Answered, Dialed, Sent, Executed, Foreign, Flushed, Reboot, Delivered, Failed, Clock, Call, Op, IsWriter, At, Ended, UnderWay, RefusedWrite, write, fill, At-grow, At-below, At-back, At-one, At-cases, length_last, said_of, Next, Shelf, Machine, Lane, Purpose, State, Busy, Over, Setup, is_busy, lost_lane, IsOther, numbers_of, with_state, Makes, Leads, Stirs, Moves, moves_none, moves_more, counted, StartsLane, BeginsIf, TakesAt, AnswersAt, View, StepsTo, Reaches, last_reading, Heard, dropped, replied, sent_now, FailedNow, goes_on, gives_up, failed_now, answered_now, taken_one, LanesKnown, lanes-under-way, reached-lanes, at-set, at-push, get-push, get-remove, skip, ended-grow, set-other, by-place}
+use Rattle.core_session.proofs.Prelude.{◌≡◌, ◌≢◌, ◌<◌, ◌≤◌, ◌⊎◌, inl, inr, ℕ, List, [], ◌∷◌, ◌++◌, length, map, remove, Bool, true, false, Option, Some, None, MatchOption, position, slice_get, slice_set, refl, sym, ap, subst, ◌∙◌, arith, cases_lt, Answer, Fault, Entry, Began, Answered, Dialed, Sent, Executed, Foreign, Flushed, Reboot, Delivered, Failed, Clock, Call, Op, IsWriter, At, Ended, UnderWay, RefusedWrite, write, fill, At-grow, At-below, At-back, At-one, At-cases, length_last, said_of, Step, Shelf, Machine, Lane, Purpose, State, Busy, Over, Setup, is_busy, lost_lane, IsOther, numbers_of, with_state, Makes, Leads, Stirs, Moves, moves_none, moves_more, counted, StartsLane, BeginsIf, TakesAt, AnswersAt, View, StepsTo, Reaches, last_reading, Heard, dropped, replied, sent_now, FailedNow, goes_on, gives_up, failed_now, answered_now, taken_one, LanesKnown, lanes-under-way, reached-lanes, at-set, at-push, get-push, get-remove, skip, ended-grow, set-other, by-place}
 use Rattle.claims.specs.Asks.{Placed, HasBegan}
 use Rattle.client_core.specs.Lanes.{lost_state}
 use Rattle.client_core.specs.Steps.{IsBusyAt, Begins, HearsOwn, HearsFor}
@@ -8,7 +8,7 @@ use Rattle.core_facts.proofs.Lists.{in-map}
 use Rattle.world_model.specs.declared.answer.Answer.TheVariants as answers
 use Rattle.world_model.specs.declared.answer.Fault.TheVariants as faults
 use Rattle.world_model.specs.declared.op.Op.TheVariants as ops
-use Rattle.client_shelf.specs.declared.next.Next.TheVariants as nexts
+use Rattle.client_shelf.specs.declared.step.Step.TheVariants as nexts
 
 -- ---- a fact that stays where lanes go on
 
@@ -19,13 +19,13 @@ pub record BusyStays (P : View → Type 0) : Type 0 where
       → P (with_state old at number state shelf)
 
 module _ (P : View → Type 0) (s : BusyStays P) where
-  leads-stays : (old new : View) (at number : ℕ) (machine : Machine) (next : Next) → IsBusyAt old at number machine → Leads old at number machine next new → P old → P new
+  leads-stays : (old new : View) (at number : ℕ) (machine : Machine) (next : Step) → IsBusyAt old at number machine → Leads old at number machine next new → P old → P new
   leads-stays old new at number machine (nexts.Send call) there (inl made) p = s.makes old new number call made p
   leads-stays old new at number machine (nexts.Send call) there (inr refused) p = subst P (sym refused.is) (s.sets old at number machine refused.state refused.left there p)
   leads-stays old new at number machine nexts.Wait there is p = subst P (sym is) p
   leads-stays old new at number machine (nexts.Done answer) there is p = subst P (sym is) (s.sets old at number machine (Over answer) old.shelf there p)
 
-  steps-stay : (old new : View) (at number : ℕ) (machine after : Machine) (shelf : Shelf) (next : Next) → IsBusyAt old at number machine
+  steps-stay : (old new : View) (at number : ℕ) (machine after : Machine) (shelf : Shelf) (next : Step) → IsBusyAt old at number machine
       → Leads (with_state old at number (Busy after) shelf) at number after next new → P old → P new
   steps-stay old new at number machine after shelf next there leads p =
       leads-stays (with_state old at number (Busy after) shelf) new at number after next

@@ -1,11 +1,11 @@
 -- The same of any operation, as it begins, as it goes on, and as it takes what came of its call.
-use Rattle.core_session.proofs.Prelude.{◌≡◌, ◌≤◌, ◌<◌, ◌+◌, ◌-◌, ◌⊎◌, inl, inr, ℕ, Bool, true, false, List, [], ◌∷◌, length, replicate, Option, Some, None, Result, Ok, Err, refl, sym, ap, subst, ◌∙◌, arith, Mode, Wcc, Fault, Reply, Op, Pending, all_pending, Next, Shelf, Turn, CloseFile, SyncFile, TruncateFile, WriteFile, WalkNext, walk_of, walk-takes-kept, Mounted, FileMachine, Machine, NameMachine, Opener, PathMachine, machine_of, front_of, last_of, file_of, slot_taken, begun_at, Starts, Resumes, Takes, name-goes-kept, name-takes-kept}
+use Rattle.core_session.proofs.Prelude.{◌≡◌, ◌≤◌, ◌<◌, ◌+◌, ◌-◌, ◌⊎◌, inl, inr, ℕ, Bool, true, false, List, [], ◌∷◌, length, replicate, Option, Some, None, Result, Ok, Err, refl, sym, ap, subst, ◌∙◌, arith, Mode, Wcc, Fault, Reply, Op, Pending, all_pending, Step, Shelf, Turn, CloseFile, SyncFile, TruncateFile, WriteFile, WalkStep, walk_of, walk-takes-kept, Mounted, FileMachine, Machine, NameMachine, Opener, PathMachine, machine_of, front_of, last_of, file_of, slot_taken, begun_at, Starts, Resumes, Takes, name-goes-kept, name-takes-kept}
 use Rattle.name_ops.proofs.Keeps.{IsKept}
 use Rattle.op_machines.specs.Begun.{open_of, put_of, path_of, write_of}
 use Rattle.op_machines.specs.Openers.{placed}
 use Rattle.world_model.specs.declared.answer.Answer.TheVariants as answers
 use Rattle.world_model.specs.declared.op.Op.TheVariants as ops
-use Rattle.client_shelf.specs.declared.next.Next.TheVariants as nexts
+use Rattle.client_shelf.specs.declared.step.Step.TheVariants as nexts
 use Rattle.file_ops.specs.declared.close_file.Closing.TheVariants as closings
 use Rattle.file_ops.specs.declared.sync_file.Syncing.TheVariants as syncings
 use Rattle.file_ops.specs.declared.truncate_file.Truncating.TheVariants as truncatings
@@ -14,7 +14,7 @@ use Rattle.file_ops.specs.declared.write_file.Text.TheVariants as texts
 use Rattle.file_ops.specs.declared.write_file.Writing.TheVariants as writings
 use Rattle.file_ops.specs.TruncateFile as truncates
 use Rattle.file_ops.specs.WriteFile as writes
-use Rattle.name_ops.specs.declared.walk.WalkNext.TheVariants as walks
+use Rattle.name_ops.specs.declared.walk.WalkStep.TheVariants as walks
 use Rattle.name_ops.specs.Walking as walking
 use Rattle.op_machines.specs.declared.file_machine.FileMachine.TheVariants as files
 use Rattle.op_machines.specs.declared.machine.Machine.TheVariants as machines
@@ -26,19 +26,19 @@ use Rattle.core_session.proofs.room.Steps.{write-resumed, write-took, write-star
 use Rattle.core_session.proofs.room.Totals.{Less, same-less, sync-resumes, sync-takes, sync-starts, close-starts, close-resumes, close-takes}
 
 -- a step from one stage, with what it leads to
-abbrev pub Steps : Shelf → Stage → Next → Stage → Shelf → Type 0
+abbrev pub Steps : Shelf → Stage → Step → Stage → Shelf → Type 0
 Steps old stage next later after = Verdict (all_pending old.back) (all_pending after.back) stage (outcome next later)
 
 -- no more are pending than were, and the stage is the same
-kept : (old : Shelf) (stage : Stage) (next : Next) (later : Stage) (after : Shelf) → later ≡ stage → Less old.back after.back → Steps old stage next later after
+kept : (old : Shelf) (stage : Stage) (next : Step) (later : Stage) (after : Shelf) → later ≡ stage → Less old.back after.back → Steps old stage next later after
 kept old stage next later after same less = same-verdict (all_pending old.back) (all_pending after.back) stage later next same less
 
 -- with the pending bytes as they are
-still : (old : Shelf) (stage : Stage) (next : Next) (later : Stage) (after : Shelf) → later ≡ stage → after.back ≡ old.back → Steps old stage next later after
+still : (old : Shelf) (stage : Stage) (next : Step) (later : Stage) (after : Shelf) → later ≡ stage → after.back ≡ old.back → Steps old stage next later after
 still old stage next later after same back = kept old stage next later after same (same-less old.back after.back back)
 
 -- the stage is that of this machine
-as-file : (old : Shelf) (stage : Stage) (next : Next) (new machine : FileMachine) (after : Shelf) → new ≡ machine → Steps old stage next (file_stage machine) after
+as-file : (old : Shelf) (stage : Stage) (next : Step) (new machine : FileMachine) (after : Shelf) → new ≡ machine → Steps old stage next (file_stage machine) after
     → Steps old stage next (file_stage new) after
 as-file old stage next new machine after is v = subst (λ (m : FileMachine). Steps old stage next (file_stage m) after) (sym is) v
 
@@ -49,7 +49,7 @@ module _ (wsize : ℕ) (turn : Turn) where
 
   -- ---- operations on files
 
-  pub file-resumes : (machine : FileMachine) (old : Shelf) (next : Next) (new : FileMachine) (after : Shelf) → steps.Resumes wsize machine turn old next new after
+  pub file-resumes : (machine : FileMachine) (old : Shelf) (next : Step) (new : FileMachine) (after : Shelf) → steps.Resumes wsize machine turn old next new after
       → Steps old (file_stage machine) next (file_stage new) after
   file-resumes (files.Open m) old next new after s = still old neither next (file_stage new) after (ap file_stage s.machine_is) (ap (λ (x : Shelf). x.back) s.shelf_is)
   file-resumes (files.Read m) old next new after s = still old neither next (file_stage new) after (ap file_stage s.machine_is) (ap (λ (x : Shelf). x.back) s.others)
@@ -65,7 +65,7 @@ module _ (wsize : ℕ) (turn : Turn) where
   file-resumes (files.Put m) old next new after s =
       as-file old (file_stage (files.Put m)) next new (files.Put s.machine) after s.machine_is (put-resumed wsize turn m.state m old next s.machine after refl s.step)
 
-  pub file-takes : (sent : Turn) (came : Result Reply Fault) (machine : FileMachine) (old : Shelf) (next : Next) (new : FileMachine) (after : Shelf)
+  pub file-takes : (sent : Turn) (came : Result Reply Fault) (machine : FileMachine) (old : Shelf) (next : Step) (new : FileMachine) (after : Shelf)
       → steps.Takes wsize machine sent turn came old next new after → Steps old (file_stage machine) next (file_stage new) after
   file-takes sent came (files.Open m) old next new after s = still old neither next (file_stage new) after (ap file_stage s.machine_is) (ap (λ (x : Shelf). x.back) s.others)
   file-takes sent came (files.Read m) old next new after s = still old neither next (file_stage new) after (ap file_stage s.machine_is) (ap (λ (x : Shelf). x.back) s.others)
@@ -87,11 +87,11 @@ module _ (wsize : ℕ) (turn : Turn) where
   placed-stage dir (openers.Open m) = refl
   placed-stage dir (openers.Put m) = refl
 
-  path-of : (m : PathMachine) (opener : Opener) (old : Shelf) (stage : Stage) (next : Next) (new : PathMachine) (after : Shelf) → new ≡ record m { opener = opener }
+  path-of : (m : PathMachine) (opener : Opener) (old : Shelf) (stage : Stage) (next : Step) (new : PathMachine) (after : Shelf) → new ≡ record m { opener = opener }
       → Steps old stage next (path_stage m.arrived opener) after → Steps old stage next (path_stage new.arrived new.opener) after
   path-of m opener old stage next new after is v = subst (λ (n : PathMachine). Steps old stage next (path_stage n.arrived n.opener) after) (sym is) v
 
-  follows-path : (step : WalkNext) (m : PathMachine) (old : Shelf) (next : Next) (new : PathMachine) (after : Shelf) → m.arrived ≡ false
+  follows-path : (step : WalkStep) (m : PathMachine) (old : Shelf) (next : Step) (new : PathMachine) (after : Shelf) → m.arrived ≡ false
       → paths.Follows step wsize m turn old next new after → Steps old (before_stage m.opener) next (path_stage new.arrived new.opener) after
   follows-path (walks.Send call) m old next new after is f =
       still old (before_stage m.opener) next (path_stage new.arrived new.opener) after
@@ -105,9 +105,9 @@ module _ (wsize : ℕ) (turn : Turn) where
       (file-resumes (file_of (placed dir m.opener)) old next (file_of f.opener) after f.step))
   follows-path (walks.Refused fault) m old next new after is f =
       ends (answers.Refused fault) (same-less old.back after.back (ap (λ (x : Shelf). x.back) f.2))
-      (ap (λ (n : Next). outcome n (path_stage new.arrived new.opener)) f.0)
+      (ap (λ (n : Step). outcome n (path_stage new.arrived new.opener)) f.0)
 
-  path-resumes : (b : Bool) (m : PathMachine) (old : Shelf) (next : Next) (new : PathMachine) (after : Shelf) → m.arrived ≡ b
+  path-resumes : (b : Bool) (m : PathMachine) (old : Shelf) (next : Step) (new : PathMachine) (after : Shelf) → m.arrived ≡ b
       → paths.PathResumes b wsize m turn old next new after → Steps old (path_stage b m.opener) next (path_stage new.arrived new.opener) after
   path-resumes true m old next new after is r =
       path-of m r.opener old (file_stage (file_of m.opener)) next new after r.machine_is
@@ -115,7 +115,7 @@ module _ (wsize : ℕ) (turn : Turn) where
   path-resumes false m old next new after is r =
       follows-path (walking.go_next m.walk turn old) (record m { walk = walking.go_after m.walk turn old }) (walking.go_shelf m.walk turn old) next new after is r
 
-  path-takes : (b : Bool) (sent : Turn) (came : Result Reply Fault) (m : PathMachine) (old : Shelf) (next : Next) (new : PathMachine) (after : Shelf) → m.arrived ≡ b
+  path-takes : (b : Bool) (sent : Turn) (came : Result Reply Fault) (m : PathMachine) (old : Shelf) (next : Step) (new : PathMachine) (after : Shelf) → m.arrived ≡ b
       → paths.PathTakes b wsize m sent turn came old next new after → Steps old (path_stage b m.opener) next (path_stage new.arrived new.opener) after
   path-takes true sent came m old next new after is t =
       path-of m t.opener old (file_stage (file_of m.opener)) next new after t.machine_is
@@ -129,7 +129,7 @@ module _ (wsize : ℕ) (turn : Turn) where
 
   -- ---- any operation
 
-  pub all-resumes : (machine : Machine) (old : Shelf) (next : Next) (new : Machine) (after : Shelf) → Resumes wsize machine turn old next new after
+  pub all-resumes : (machine : Machine) (old : Shelf) (next : Step) (new : Machine) (after : Shelf) → Resumes wsize machine turn old next new after
       → Steps old (stage_of machine) next (stage_of new) after
   all-resumes (machines.File m) old next new after s =
       subst (λ (n : Machine). Steps old (file_stage m) next (stage_of n) after) (sym s.machine_is) (file-resumes m old next s.machine after s.step)
@@ -138,7 +138,7 @@ module _ (wsize : ℕ) (turn : Turn) where
   all-resumes (machines.Name m) old next new after s =
       still old neither next (stage_of new) after (ap stage_of s.machine_is) (name-goes-kept m turn old next s.machine after s.step).back
 
-  pub all-takes : (sent : Turn) (came : Result Reply Fault) (machine : Machine) (old : Shelf) (next : Next) (new : Machine) (after : Shelf)
+  pub all-takes : (sent : Turn) (came : Result Reply Fault) (machine : Machine) (old : Shelf) (next : Step) (new : Machine) (after : Shelf)
       → Takes wsize machine sent turn came old next new after → Steps old (stage_of machine) next (stage_of new) after
   all-takes sent came (machines.File m) old next new after t =
       subst (λ (n : Machine). Steps old (file_stage m) next (stage_of n) after) (sym t.machine_is) (file-takes sent came m old next t.machine after t.step)
@@ -150,14 +150,14 @@ module _ (wsize : ℕ) (turn : Turn) where
 
   -- ---- as an operation begins
 
-  name-starts : (m : NameMachine) (old : Shelf) (next : Next) (new : Machine) (after : Shelf) → Starts wsize (machines.Name m) turn old next new after
+  name-starts : (m : NameMachine) (old : Shelf) (next : Step) (new : Machine) (after : Shelf) → Starts wsize (machines.Name m) turn old next new after
       → Steps old neither next (stage_of new) after
   name-starts m old next new after s = all-resumes (machines.Name m) old next new after s
 
   abbrev writing : ℕ → ℕ → ℕ → Text → WriteFile
   writing lane slot offset text = record { lane = lane; slot = slot; offset = offset; text = text; state = writings.Idle }
 
-  write-begins : (lane slot offset : ℕ) (text : Text) (old : Shelf) (next : Next) (new : Machine) (after : Shelf)
+  write-begins : (lane slot offset : ℕ) (text : Text) (old : Shelf) (next : Step) (new : Machine) (after : Shelf)
       → Starts wsize (write_of lane slot offset text) turn old next new after → Steps old (storing (length (writes.text_bytes text)) false) next (stage_of new) after
   write-begins lane slot offset text old next new after s =
       subst (λ (n : Machine). Steps old (storing (length (writes.text_bytes text)) false) next (stage_of n) after) (sym s.machine_is)
@@ -167,7 +167,7 @@ module _ (wsize : ℕ) (turn : Turn) where
   abbrev on-path : Mounted → List (List ℕ) → Opener → PathMachine
   on-path m path opener = record { walk = walk_of m.root (front_of path); opener = opener; arrived = false }
 
-  path-begins : (m : Mounted) (path : List (List ℕ)) (opener : Opener) (old : Shelf) (next : Next) (new : Machine) (after : Shelf)
+  path-begins : (m : Mounted) (path : List (List ℕ)) (opener : Opener) (old : Shelf) (next : Step) (new : Machine) (after : Shelf)
       → Starts wsize (path_of m path opener) turn old next new after → before_stage (begun_at (turn.moment - 1) opener) ≡ before_stage opener
       → Steps old (before_stage opener) next (stage_of new) after
   path-begins m path opener old next new after s same =
@@ -182,7 +182,7 @@ module _ (wsize : ℕ) (turn : Turn) where
           subst (λ (t : Stage). Steps old t next (path_stage s.machine.arrived s.machine.opener) after) same
           (path-resumes false (record (on-path m path opener) { opener = begun_at (turn.moment - 1) opener }) old next s.machine after refl f)
 
-  pub all-starts : (m : Mounted) (lane : ℕ) (op : Op) (old : Shelf) (next : Next) (new : Machine) (after : Shelf) → Starts wsize (machine_of m lane op) turn old next new after
+  pub all-starts : (m : Mounted) (lane : ℕ) (op : Op) (old : Shelf) (next : Step) (new : Machine) (after : Shelf) → Starts wsize (machine_of m lane op) turn old next new after
       → Steps old (stage_of (machine_of m lane op)) next (stage_of new) after
   all-starts m lane (ops.OpenFile slot mode path) old next new after s = path-begins m path (open_of m lane slot mode (last_of path)) old next new after s refl
   all-starts m lane (ops.Read slot offset count) old next new after s =

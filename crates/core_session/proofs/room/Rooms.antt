@@ -1,12 +1,12 @@
 -- As many bytes are pending as those operations write whose bytes were added; and each operation that makes room found none as it began to.
-use Rattle.core_session.proofs.Prelude.{◌≡◌, ◌≢◌, ◌<◌, ◌≤◌, ◌+◌, ◌⊎◌, inl, inr, ℕ, zero, suc, List, [], ◌∷◌, ◌++◌, length, replicate, map, remove, Bool, true, false, nat_eq, Option, Some, None, position, slice_get, slice_set, Err, refl, sym, ap, subst, ◌∙◌, arith, eqb-true, eqb-false, Waiting, waiting_at, Answer, Value, Entry, Began, Answered, Delivered, Call, Op, IsWriter, At, IsBusy, Ended, UnderWay, RefusedWrite, At-below, At-cases, At-one, said_of, Pending, all_pending, Next, Shelf, Mounted, Machine, machine_of, Lane, Purpose, State, Busy, Over, Setup, IsFresh, is_busy, IsIdle, numbers_of, with_state, Makes, IsRefused, Leads, Stirs, counted, StartsLane, TakesAt, AnswersAt, View, turn_at, unmade_turn, AreApart, IsSetUp, Reaches, begins-unbegun, taken_one, Known, LanesKnown, quiet-facts, lanes-stay, lanes-begin, lanes-under-way, idle-numbers, at-set, at-push, get-push, get-remove, skip, to-map, under-back, set-other, by-place}
+use Rattle.core_session.proofs.Prelude.{◌≡◌, ◌≢◌, ◌<◌, ◌≤◌, ◌+◌, ◌⊎◌, inl, inr, ℕ, zero, suc, List, [], ◌∷◌, ◌++◌, length, replicate, map, remove, Bool, true, false, nat_eq, Option, Some, None, position, slice_get, slice_set, Err, refl, sym, ap, subst, ◌∙◌, arith, eqb-true, eqb-false, Waiting, waiting_at, Answer, Value, Entry, Began, Answered, Delivered, Call, Op, IsWriter, At, IsBusy, Ended, UnderWay, RefusedWrite, At-below, At-cases, At-one, said_of, Pending, all_pending, Step, Shelf, Mounted, Machine, machine_of, Lane, Purpose, State, Busy, Over, Setup, IsFresh, is_busy, IsIdle, numbers_of, with_state, Makes, IsRefused, Leads, Stirs, counted, StartsLane, TakesAt, AnswersAt, View, turn_at, unmade_turn, AreApart, IsSetUp, Reaches, begins-unbegun, taken_one, Known, LanesKnown, quiet-facts, lanes-stay, lanes-begin, lanes-under-way, idle-numbers, at-set, at-push, get-push, get-remove, skip, to-map, under-back, set-other, by-place}
 use Rattle.client_core.specs.Steps.{IsBusyAt, Refuses}
 use Rattle.std.proofs.lemmas.List.{length-replicate}
 use Rattle.world_model.specs.declared.answer.Answer.TheVariants as answers
 use Rattle.world_model.specs.declared.op.Op.TheVariants as ops
 use Rattle.claims.specs.Asks.{Placed, count_of, most_pending, write as a_write, fill as a_fill, put as a_put}
 use Rattle.claims.specs.Touched.{write as refused_write, fill as refused_fill}
-use Rattle.client_shelf.specs.declared.next.Next.TheVariants as nexts
+use Rattle.client_shelf.specs.declared.step.Step.TheVariants as nexts
 use Rattle.core_answers.proofs.asks.Along.{IsPlain, KeepsAlong, reached-along}
 use Rattle.core_session.proofs.room.Entered.{IsPut, IsDone, LaneSafe, Safe, Entered, silent-now, entered-with, entered-lanes, answered-now-put, safe-push, safe-remove, began-early, under-early}
 use Rattle.core_session.proofs.room.Machines.{all-starts, all-resumes, all-takes}
@@ -291,7 +291,7 @@ module _ (h : List Entry) (base v : View) (at number : ℕ) (machine after : Mac
       set-room h base.lanes (lanes-under-way h base known).apart at number machine state lanes set (all_pending base.shelf.back) pending r x op u verdict
 
   -- what the step of the machine leads to
-  pub leads-room : (x : ℕ) (op : Op) → UnderWay h number x (length h) op → LanesKnown h v → (next : Next) (new : View) → Room h base
+  pub leads-room : (x : ℕ) (op : Op) → UnderWay h number x (length h) op → LanesKnown h v → (next : Step) (new : View) → Room h base
       → Verdict (all_pending base.shelf.back) (all_pending v.shelf.back) (stage_of machine) (outcome next (stage_of after)) → Leads v at number after next new → Room h new
   leads-room x op u later (nexts.Send call) new r verdict (inl m) = subst (Room h) (sym m.is) (its x op u (Busy after) v.lanes (all_pending v.shelf.back) s r verdict)
   leads-room x op u later (nexts.Send call) new r verdict (inr f) = subst (Room h) (sym f.is) (by f.next f.state f.leads
@@ -308,7 +308,7 @@ module _ (h : List Entry) (base v : View) (at number : ℕ) (machine after : Mac
             others = λ k other. set-other v.lanes at k (record { number = number; state = state }) other;
           }) (all_pending v.shelf.back) (all_pending f.left.back) mid x op u verdict
 
-      by : (next : Next) (state : State) → IsRefused f.after next state → Verdict (all_pending v.shelf.back) (all_pending f.left.back) (stage_of after) (outcome next (stage_of f.after))
+      by : (next : Step) (state : State) → IsRefused f.after next state → Verdict (all_pending v.shelf.back) (all_pending f.left.back) (stage_of after) (outcome next (stage_of f.after))
           → Room h (with_state v at number state f.left)
       by (nexts.Send again) state is verdict = absurd is
       by nexts.Wait state is verdict =

@@ -1,8 +1,8 @@
 -- How far an operation that writes has come, and what one step of any operation makes of how many bytes are pending.
-use Rattle.core_session.proofs.Prelude.{◌≡◌, ◌≤◌, ◌<◌, ◌+◌, ◌-◌, ◌⊎◌, inl, inr, ℕ, Bool, true, false, List, [], ◌∷◌, length, replicate, Option, Some, None, Result, Ok, Err, refl, sym, ap, subst, ◌∙◌, arith, Answer, Fault, Value, Call, Next, Putting, Writing, FileMachine, Machine, Opener, file_of, State, Busy, Over}
+use Rattle.core_session.proofs.Prelude.{◌≡◌, ◌≤◌, ◌<◌, ◌+◌, ◌-◌, ◌⊎◌, inl, inr, ℕ, Bool, true, false, List, [], ◌∷◌, length, replicate, Option, Some, None, Result, Ok, Err, refl, sym, ap, subst, ◌∙◌, arith, Answer, Fault, Value, Call, Step, Putting, Writing, FileMachine, Machine, Opener, file_of, State, Busy, Over}
 use Rattle.world_model.specs.declared.answer.Answer.TheVariants as answers
 use Rattle.claims.specs.Asks.{most_pending}
-use Rattle.client_shelf.specs.declared.next.Next.TheVariants as nexts
+use Rattle.client_shelf.specs.declared.step.Step.TheVariants as nexts
 use Rattle.file_ops.specs.declared.put_file.Putting.TheVariants as puttings
 use Rattle.file_ops.specs.declared.write_file.Text.{Text}
 use Rattle.file_ops.specs.declared.write_file.Text.TheVariants as texts
@@ -58,7 +58,7 @@ pub data Outcome : Type 0 where
   going : (stage : Stage) → Outcome
   over : (answer : Answer) → Outcome
 
-abbrev pub outcome : Next → Stage → Outcome
+abbrev pub outcome : Step → Stage → Outcome
 outcome (nexts.Send call) stage = going stage
 outcome nexts.Wait stage = going stage
 outcome (nexts.Done answer) stage = over answer
@@ -80,13 +80,13 @@ pub data Verdict (old after : ℕ) (stage : Stage) (out : Outcome) : Type 0 wher
 
 -- ---- one that writes nothing
 
-pub quiet-verdict : (old after : ℕ) (stage : Stage) (next : Next) → after ≤ old → Verdict old after stage (outcome next stage)
+pub quiet-verdict : (old after : ℕ) (stage : Stage) (next : Step) → after ≤ old → Verdict old after stage (outcome next stage)
 quiet-verdict old after stage (nexts.Send call) less = rests less refl
 quiet-verdict old after stage nexts.Wait less = rests less refl
 quiet-verdict old after stage (nexts.Done answer) less = ends answer less refl
 
 -- with the stage that it has after it
-pub same-verdict : (old after : ℕ) (stage later : Stage) (next : Next) → later ≡ stage → after ≤ old → Verdict old after stage (outcome next later)
+pub same-verdict : (old after : ℕ) (stage later : Stage) (next : Step) → later ≡ stage → after ≤ old → Verdict old after stage (outcome next later)
 same-verdict old after stage later next same less =
     subst (λ (s : Stage). Verdict old after stage (outcome next s)) (sym same) (quiet-verdict old after stage next less)
 
@@ -99,39 +99,39 @@ made-size (texts.Fill count byte) = omega arith
 -- ---- a step of a write, alone or of a put
 
 -- it doesn't end
-abbrev pub IsGoing : Next → Type 0
+abbrev pub IsGoing : Step → Type 0
 IsGoing next = (next ≡ nexts.Wait) ⊎ ((call : Call) × (next ≡ nexts.Send call))
 
-pub going-outcome : (next : Next) (stage : Stage) → IsGoing next → outcome next stage ≡ going stage
-going-outcome next stage (inl is) = ap (λ (n : Next). outcome n stage) is
-going-outcome next stage (inr is) = ap (λ (n : Next). outcome n stage) is.1
+pub going-outcome : (next : Step) (stage : Stage) → IsGoing next → outcome next stage ≡ going stage
+going-outcome next stage (inl is) = ap (λ (n : Step). outcome n stage) is
+going-outcome next stage (inr is) = ap (λ (n : Step). outcome n stage) is.1
 
 -- Its bytes were to become pending: they are, or there was no room for them, or no memory.
-pub data Written (old after size : ℕ) (next : Next) (state : Writing) : Type 0 where
+pub data Written (old after size : ℕ) (next : Step) (state : Writing) : Type 0 where
   crowds : after ≤ old → most_pending < old + size → IsGoing next → is_room state ≡ true → Written old after size next state
   gives : (fault : Fault) → after ≤ old → next ≡ nexts.Done (answers.Refused fault) → Written old after size next state
   adds : (value : Value) → after ≤ old + size → next ≡ nexts.Done (answers.Done value) → Written old after size next state
 
 -- it goes on as it was, or so
-pub data Worked (old after size : ℕ) (room : Bool) (next : Next) (state : Writing) : Type 0 where
+pub data Worked (old after size : ℕ) (room : Bool) (next : Step) (state : Writing) : Type 0 where
   on : after ≤ old → IsGoing next → is_room state ≡ room → Worked old after size room next state
   written : Written old after size next state → Worked old after size room next state
 
 -- of more bytes, and from more that were pending
-pub wider : (old more after size larger : ℕ) (next : Next) (state : Writing) → old ≤ more → size ≤ larger → Written old after size next state → Written more after larger next state
+pub wider : (old more after size larger : ℕ) (next : Step) (state : Writing) → old ≤ more → size ≤ larger → Written old after size next state → Written more after larger next state
 wider old more after size larger next state low few (crowds less full goes room) = crowds (omega (arith, less, low)) (omega (arith, full, low, few)) goes room
 wider old more after size larger next state low few (gives fault less is) = gives fault (omega (arith, less, low)) is
 wider old more after size larger next state low few (adds value less is) = adds value (omega (arith, less, low, few)) is
 
-pub written-verdict : (old after size : ℕ) (room : Bool) (next : Next) (state : Writing) → Written old after size next state
+pub written-verdict : (old after size : ℕ) (room : Bool) (next : Step) (state : Writing) → Written old after size next state
     → Verdict old after (storing size room) (outcome next (storing size (is_room state)))
 written-verdict old after size room next state (crowds less full goes is) =
     crowds_store size room less full refl (going-outcome next (storing size (is_room state)) goes ∙ ap (λ (b : Bool). going (storing size b)) is)
-written-verdict old after size room next state (gives fault less is) = ends (answers.Refused fault) less (ap (λ (n : Next). outcome n (storing size (is_room state))) is)
+written-verdict old after size room next state (gives fault less is) = ends (answers.Refused fault) less (ap (λ (n : Step). outcome n (storing size (is_room state))) is)
 written-verdict old after size room next state (adds value more is) =
-    stores size room value more refl (ap (λ (n : Next). outcome n (storing size (is_room state))) is)
+    stores size room value more refl (ap (λ (n : Step). outcome n (storing size (is_room state))) is)
 
-pub worked-verdict : (old after size : ℕ) (room : Bool) (next : Next) (state : Writing) → Worked old after size room next state
+pub worked-verdict : (old after size : ℕ) (room : Bool) (next : Step) (state : Writing) → Worked old after size room next state
     → Verdict old after (storing size room) (outcome next (storing size (is_room state)))
 worked-verdict old after size room next state (on less goes is) =
     rests less (going-outcome next (storing size (is_room state)) goes ∙ ap (λ (b : Bool). going (storing size b)) is)
@@ -140,31 +140,31 @@ worked-verdict old after size room next state (written w) = written-verdict old 
 -- ---- the same of a put
 
 -- what follows a step of its write
-abbrev pub PutEnds : Next → ℕ → Outcome → Type 0
+abbrev pub PutEnds : Step → ℕ → Outcome → Type 0
 PutEnds (nexts.Send call) size out = out ≡ going (putting size true)
 PutEnds nexts.Wait size out = out ≡ going (putting size true)
 PutEnds (nexts.Done (answers.Done value)) size out = (out ≡ going settling) ⊎ ((answer : Answer) × (out ≡ over answer))
 PutEnds (nexts.Done (answers.Refused fault)) size out = (answer : Answer) × (out ≡ over answer)
 
-going-put : (told : Next) (size : ℕ) (out : Outcome) → IsGoing told → PutEnds told size out → out ≡ going (putting size true)
-going-put told size out (inl is) e = subst (λ (n : Next). PutEnds n size out) is e
-going-put told size out (inr is) e = subst (λ (n : Next). PutEnds n size out) is.1 e
+going-put : (told : Step) (size : ℕ) (out : Outcome) → IsGoing told → PutEnds told size out → out ≡ going (putting size true)
+going-put told size out (inl is) e = subst (λ (n : Step). PutEnds n size out) is e
+going-put told size out (inr is) e = subst (λ (n : Step). PutEnds n size out) is.1 e
 
-pub put-verdict : (old mid after size : ℕ) (room : Bool) (told : Next) (state : Writing) (out : Outcome) → Written old mid size told state → PutEnds told size out → after ≤ mid
+pub put-verdict : (old mid after size : ℕ) (room : Bool) (told : Step) (state : Writing) (out : Outcome) → Written old mid size told state → PutEnds told size out → after ≤ mid
     → Verdict old after (putting size room) out
 put-verdict old mid after size room told state out (crowds less full goes is) e low =
     crowds_put size room (omega (arith, less, low)) full refl (going-put told size out goes e)
 put-verdict old mid after size room told state out (gives fault less is) e low =
-    let o = subst (λ (n : Next). PutEnds n size out) is e in ends o.0 (omega (arith, less, low)) o.1
+    let o = subst (λ (n : Step). PutEnds n size out) is e in ends o.0 (omega (arith, less, low)) o.1
 put-verdict old mid after size room told state out (adds value more is) e low =
-    by (subst (λ (n : Next). PutEnds n size out) is e)
+    by (subst (λ (n : Step). PutEnds n size out) is e)
   where
     by : (out ≡ going settling) ⊎ ((answer : Answer) × (out ≡ over answer)) → Verdict old after (putting size room) out
     by (inl o) = puts size room (omega (arith, more, low)) refl o
     by (inr o) = puts_over size room o.0 (omega (arith, more, low)) refl o.1
 
 -- where it made room before
-pub put-worked : (old mid after size : ℕ) (told : Next) (state : Writing) (out : Outcome) (room : Bool) → Worked old mid size room told state → PutEnds told size out → after ≤ mid
+pub put-worked : (old mid after size : ℕ) (told : Step) (state : Writing) (out : Outcome) (room : Bool) → Worked old mid size room told state → PutEnds told size out → after ≤ mid
     → Verdict old after (putting size true) out
 put-worked old mid after size told state out room (on less goes is) e low = rests (omega (arith, less, low)) (going-put told size out goes e)
 put-worked old mid after size told state out room (written w) e low = put-verdict old mid after size true told state out w e low

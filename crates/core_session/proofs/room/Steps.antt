@@ -1,11 +1,11 @@
 -- What one step of any operation makes of how many bytes are pending.
-use Rattle.core_session.proofs.Prelude.{◌≡◌, ◌≤◌, ◌<◌, ◌+◌, ◌-◌, ◌⊎◌, inl, inr, ℕ, Bool, true, false, List, [], ◌∷◌, length, replicate, Option, Some, None, Result, Ok, Err, refl, sym, ap, subst, ◌∙◌, arith, ltb-true, Answer, Fault, Reply, Pending, all_pending, Next, Shelf, Turn, left, is_first, OpeningNext, PutFile, Putting, Saving, WriteFile, Writing, is_full, closed_answer, refusal_of, file_to_write, joined, by-step, ends_as}
+use Rattle.core_session.proofs.Prelude.{◌≡◌, ◌≤◌, ◌<◌, ◌+◌, ◌-◌, ◌⊎◌, inl, inr, ℕ, Bool, true, false, List, [], ◌∷◌, length, replicate, Option, Some, None, Result, Ok, Err, refl, sym, ap, subst, ◌∙◌, arith, ltb-true, Answer, Fault, Reply, Pending, all_pending, Step, Shelf, Turn, left, is_first, OpeningStep, PutFile, Putting, Saving, WriteFile, Writing, is_full, closed_answer, refusal_of, file_to_write, joined, by-step, ends_as}
 use Rattle.std.proofs.Common.{nat_lt}
 use Rattle.world_model.specs.declared.answer.Answer.TheVariants as answers
 use Rattle.claims.specs.Asks.{most_pending}
 use Rattle.write_back.specs.Sound.{most_pending as most_held}
-use Rattle.client_shelf.specs.declared.next.Next.TheVariants as nexts
-use Rattle.file_ops.specs.declared.opening.OpeningNext.TheVariants as openings
+use Rattle.client_shelf.specs.declared.step.Step.TheVariants as nexts
+use Rattle.file_ops.specs.declared.opening.OpeningStep.TheVariants as openings
 use Rattle.file_ops.specs.declared.put_file.Putting.TheVariants as puttings
 use Rattle.file_ops.specs.declared.write_file.Writing.TheVariants as writings
 use Rattle.file_ops.specs.Opening as opening
@@ -28,11 +28,11 @@ full-most bytes back full = subst (λ (n : ℕ). n < all_pending back + length b
 -- ---- the save for room
 
 -- a step of it leads the write on, or refuses it
-pub data RoomEnds (next : Next) (state : Writing) : Type 0 where
+pub data RoomEnds (next : Step) (state : Writing) : Type 0 where
   stays : IsGoing next → is_room state ≡ true → RoomEnds next state
   refuses : (fault : Fault) → next ≡ nexts.Done (answers.Refused fault) → RoomEnds next state
 
-room-ends : (told : _) (lane : ℕ) (file : List ℕ) (saved : Saving) (shelf : Shelf) (next : Next) (state : Writing) (after : Shelf)
+room-ends : (told : _) (lane : ℕ) (file : List ℕ) (saved : Saving) (shelf : Shelf) (next : Step) (state : Writing) (after : Shelf)
     → writes.Leads (writes.room_next told) (writes.room_state told file saved) (writes.room_shelf told lane shelf) next state after → RoomEnds next state × (after.back ≡ shelf.back)
 room-ends told lane file saved shelf next state after l = by-step
     (λ t. writes.Leads (writes.room_next t) (writes.room_state t file saved) (writes.room_shelf t lane shelf) next state after → RoomEnds next state × (after.back ≡ shelf.back))
@@ -46,7 +46,7 @@ room-ends told lane file saved shelf next state after l = by-step
     ended (Ok done) l = (stays (inl l.gives_next) (ap is_room l.keeps), ap (λ (s : Shelf). s.back) l.shelf_is)
     ended (Err fault) l = (refuses fault l.gives_next, ap (λ (s : Shelf). s.back) l.shelf_is)
 
-saves-room : (b : Bool) (wsize lane : ℕ) (file : List ℕ) (saving : Saving) (turn : Turn) (shelf : Shelf) (next : Next) (state : Writing) (after : Shelf)
+saves-room : (b : Bool) (wsize lane : ℕ) (file : List ℕ) (saving : Saving) (turn : Turn) (shelf : Shelf) (next : Step) (state : Writing) (after : Shelf)
     → writes.SavesIf b wsize lane file saving turn shelf next state after → RoomEnds next state × Less shelf.back after.back
 saves-room false wsize lane file saving turn shelf next state after s =
     (stays (inl s.gives_next) (ap is_room s.keeps), same-less shelf.back after.back (ap (λ (s : Shelf). s.back) s.shelf_is))
@@ -56,11 +56,11 @@ saves-room true wsize lane file saving turn shelf next state after s =
 
 -- ---- writes and fills
 
-refuses-less : (fault : Fault) (shelf : Shelf) (next : Next) (state : Writing) (after : Shelf) → writes.Refuses fault shelf next state after
+refuses-less : (fault : Fault) (shelf : Shelf) (next : Step) (state : Writing) (after : Shelf) → writes.Refuses fault shelf next state after
     → Less shelf.back after.back
 refuses-less fault shelf next state after r = same-less shelf.back after.back (ap (λ (s : Shelf). s.back) r.shelf_is)
 
-write-written : (wsize lane : ℕ) (file : List ℕ) (offset : ℕ) (bytes : List ℕ) (turn : Turn) (shelf : Shelf) (next : Next) (state : Writing) (after : Shelf)
+write-written : (wsize lane : ℕ) (file : List ℕ) (offset : ℕ) (bytes : List ℕ) (turn : Turn) (shelf : Shelf) (next : Step) (state : Writing) (after : Shelf)
     → writes.Writes wsize lane file offset bytes turn shelf next state after → Written (all_pending shelf.back) (all_pending after.back) (length bytes) next state
 write-written wsize lane file offset bytes turn shelf next state after w = by (is_full bytes shelf.back) refl w
   where
@@ -77,7 +77,7 @@ write-written wsize lane file offset bytes turn shelf next state after w = by (i
     by false full (inl s) = adds _ s.total s.leads.gives_next
     by false full (inr s) = gives _ (refuses-less _ shelf next state after s) s.gives_next
 
-pub write-resumed : (at : Writing) (wsize lane size : ℕ) (turn : Turn) (old : Shelf) (next : Next) (state : Writing) (after : Shelf)
+pub write-resumed : (at : Writing) (wsize lane size : ℕ) (turn : Turn) (old : Shelf) (next : Step) (state : Writing) (after : Shelf)
     → writes.ResumesIn at wsize lane turn old next state after → Worked (all_pending old.back) (all_pending after.back) size (is_room at) next state
 write-resumed writings.Idle wsize lane size turn old next state after s =
     on (same-less old.back after.back (ap (λ (s : Shelf). s.back) s.shelf_is)) (inl s.gives_next) (ap is_room s.keeps)
@@ -89,7 +89,7 @@ write-resumed (writings.Room file saving) wsize lane size turn old next state af
     by (stays going_on room_is) less = on less going_on room_is
     by (refuses fault is) less = written (gives fault less is)
 
-write-followed : (told : _) (wsize : ℕ) (machine : WriteFile) (file : List ℕ) (saved : Saving) (turn : Turn) (shelf : Shelf) (next : Next) (state : Writing) (after : Shelf)
+write-followed : (told : _) (wsize : ℕ) (machine : WriteFile) (file : List ℕ) (saved : Saving) (turn : Turn) (shelf : Shelf) (next : Step) (state : Writing) (after : Shelf)
     → writes.Follows told wsize machine file saved turn shelf next state after
     → Worked (all_pending shelf.back) (all_pending after.back) (length (writes.text_bytes machine.text)) true next state
 write-followed told wsize machine file saved turn shelf next state after f = by-step
@@ -107,11 +107,11 @@ write-followed told wsize machine file saved turn shelf next state after f = by-
     ended (Err fault) f = written (gives fault (same-less shelf.back after.back (ap (λ (s : Shelf). s.back) f.shelf_is)) f.gives_next)
 
 -- of fewer bytes that were pending
-lower : (old mid after size : ℕ) (room : Bool) (next : Next) (state : Writing) → mid ≤ old → Worked mid after size room next state → Worked old after size room next state
+lower : (old mid after size : ℕ) (room : Bool) (next : Step) (state : Writing) → mid ≤ old → Worked mid after size room next state → Worked old after size room next state
 lower old mid after size room next state low (on less goes is) = on (omega (arith, low, less)) goes is
 lower old mid after size room next state low (written w) = written (wider mid old after size size next state low (omega arith) w)
 
-pub write-took : (at : Writing) (wsize : ℕ) (machine : WriteFile) (sent turn : Turn) (came : Result Reply Fault) (old : Shelf) (next : Next) (state : Writing) (after : Shelf)
+pub write-took : (at : Writing) (wsize : ℕ) (machine : WriteFile) (sent turn : Turn) (came : Result Reply Fault) (old : Shelf) (next : Step) (state : Writing) (after : Shelf)
     → writes.TakesIn at wsize machine sent turn came old next state after
     → Worked (all_pending old.back) (all_pending after.back) (length (writes.text_bytes machine.text)) (is_room at) next state
 write-took writings.Idle wsize machine sent turn came old next state after t =
@@ -127,7 +127,7 @@ module _ (wsize : ℕ) (turn : Turn) where
   put-waits : (old new : Shelf) → new ≡ old → Less old.back new.back
   put-waits old new same = same-less old.back new.back (ap (λ (s : Shelf). s.back) same)
 
-  put-ends : (lane : ℕ) (file : List ℕ) (refusal : Option Fault) (old : Shelf) (next : Next) (state : Putting) (after : Shelf)
+  put-ends : (lane : ℕ) (file : List ℕ) (refusal : Option Fault) (old : Shelf) (next : Step) (state : Putting) (after : Shelf)
       → puts_.Ends lane file refusal old next state after → Less old.back after.back
   put-ends lane file refusal old next state after e = gone (puts_.keeps_refused lane file old.puts old.order) e.back
     where
@@ -136,17 +136,17 @@ module _ (wsize : ℕ) (turn : Turn) where
       gone false g = given-less refusal file old.opens old.back after.back g
 
   -- it saves its file, or has its answer
-  abbrev Settles : ℕ → Next → Putting → Type 0
+  abbrev Settles : ℕ → Step → Putting → Type 0
   Settles size next state = (outcome next (put_stage state size) ≡ going settling) ⊎ ((answer : Answer) × (outcome next (put_stage state size) ≡ over answer))
 
-  goes-so : (size : ℕ) (next told : Next) (state at : Putting) → next ≡ told → state ≡ at → outcome next (put_stage state size) ≡ outcome told (put_stage at size)
+  goes-so : (size : ℕ) (next told : Step) (state at : Putting) → next ≡ told → state ≡ at → outcome next (put_stage state size) ≡ outcome told (put_stage at size)
   goes-so size next told state at is keeps =
-      ap (λ (n : Next). outcome n (put_stage state size)) is ∙ ap (λ (p : Putting). outcome told (put_stage p size)) keeps
+      ap (λ (n : Step). outcome n (put_stage state size)) is ∙ ap (λ (p : Putting). outcome told (put_stage p size)) keeps
 
-  ends-so : (size : ℕ) (next : Next) (answer : Answer) (state : Putting) → next ≡ nexts.Done answer → outcome next (put_stage state size) ≡ over answer
-  ends-so size next answer state is = ap (λ (n : Next). outcome n (put_stage state size)) is
+  ends-so : (size : ℕ) (next : Step) (answer : Answer) (state : Putting) → next ≡ nexts.Done answer → outcome next (put_stage state size) ≡ over answer
+  ends-so size next answer state is = ap (λ (n : Step). outcome n (put_stage state size)) is
 
-  put-follows : (gives_ : _) (lane size : ℕ) (saving : Saving) (old : Shelf) (next : Next) (state : Putting) (after : Shelf)
+  put-follows : (gives_ : _) (lane size : ℕ) (saving : Saving) (old : Shelf) (next : Step) (state : Putting) (after : Shelf)
       → puts_.Follows gives_ lane saving old next state after → Settles size next state × Less old.back after.back
   put-follows gives_ lane size saving old next state after f = by-step
       (λ g. puts_.Follows g lane saving old next state after → Settles size next state × Less old.back after.back)
@@ -158,7 +158,7 @@ module _ (wsize : ℕ) (turn : Turn) where
       ))
       gives_ f
 
-  put-queues : (b : Bool) (lane size : ℕ) (saving : Saving) (old : Shelf) (next : Next) (state : Putting) (after : Shelf)
+  put-queues : (b : Bool) (lane size : ℕ) (saving : Saving) (old : Shelf) (next : Step) (state : Putting) (after : Shelf)
       → puts_.QueuesIf b wsize lane turn saving old next state after → Settles size next state × Less old.back after.back
   put-queues false lane size saving old next state after q =
       (inl (goes-so size next nexts.Wait state (puttings.Saves saving) q.next_is q.state_is), put-waits old after q.shelf_is)
@@ -167,7 +167,7 @@ module _ (wsize : ℕ) (turn : Turn) where
       (f.0, less-less old.back g.gone.back after.back (goes-less wsize turn.xid turn.room false saving old.back g.gives g.saved g.gone.back g.goes) f.1)
 
   -- what follows a step of its write
-  put-wrote : (told : Next) (lane size : ℕ) (file : List ℕ) (old : Shelf) (next : Next) (state : Putting) (after : Shelf)
+  put-wrote : (told : Step) (lane size : ℕ) (file : List ℕ) (old : Shelf) (next : Step) (state : Putting) (after : Shelf)
       → puts_.AfterWrite told wsize lane file turn old next state after → PutEnds told size (outcome next (put_stage state size)) × Less old.back after.back
   put-wrote (nexts.Send call) lane size file old next state after a = (goes-so size next (nexts.Send call) state (puttings.Adds file) a.0 a.1, put-waits old after a.2)
   put-wrote nexts.Wait lane size file old next state after a = (goes-so size next nexts.Wait state (puttings.Adds file) a.0 a.1, put-waits old after a.2)
@@ -180,15 +180,15 @@ module _ (wsize : ℕ) (turn : Turn) where
   abbrev SizeOf : PutFile → ℕ
   SizeOf machine = length (writes.text_bytes machine.write.text)
 
-  resized : (old after : ℕ) (stage : Stage) (next : Next) (state : Putting) (size later : ℕ) → later ≡ size → Verdict old after stage (outcome next (put_stage state size))
+  resized : (old after : ℕ) (stage : Stage) (next : Step) (state : Putting) (size later : ℕ) → later ≡ size → Verdict old after stage (outcome next (put_stage state size))
       → Verdict old after stage (outcome next (put_stage state later))
   resized old after stage next state size later same v = subst (λ (n : ℕ). Verdict old after stage (outcome next (put_stage state n))) (sym same) v
 
-  rewritten : (machine new : PutFile) (told : Next) (state : Writing) (mid : Shelf) (file : List ℕ) (next : Next) (after : Shelf)
+  rewritten : (machine new : PutFile) (told : Step) (state : Writing) (mid : Shelf) (file : List ℕ) (next : Step) (after : Shelf)
       → puts_.WritesOn wsize machine file turn told state mid next new after → SizeOf new ≡ SizeOf machine
   rewritten machine new told state mid file next after g = ap SizeOf g.machine_is
 
-  put-opened : (step : OpeningNext) (machine : PutFile) (room : Bool) (old : Shelf) (next : Next) (new : PutFile) (after : Shelf) → machine.state ≡ puttings.Opens
+  put-opened : (step : OpeningStep) (machine : PutFile) (room : Bool) (old : Shelf) (next : Step) (new : PutFile) (after : Shelf) → machine.state ≡ puttings.Opens
       → puts_.AfterOpening step wsize machine turn old next new after
       → Verdict (all_pending old.back) (all_pending after.back) (putting (SizeOf machine) false) (outcome next (put_stage new.state (SizeOf new)))
   put-opened (openings.Send call) machine room old next new after opens_ a =
@@ -209,7 +209,7 @@ module _ (wsize : ℕ) (turn : Turn) where
   put-opened (openings.Ended (Err fault)) machine room old next new after opens_ a =
       ends (answers.Refused fault) (put-waits old after a.2) (ends-so (SizeOf new) next (answers.Refused fault) new.state a.0)
 
-  put-room : (machine new : PutFile) (file : List ℕ) (room : Bool) (told : Next) (state : Writing) (old mid : Shelf) (next : Next) (after : Shelf)
+  put-room : (machine new : PutFile) (file : List ℕ) (room : Bool) (told : Step) (state : Writing) (old mid : Shelf) (next : Step) (after : Shelf)
       → Worked (all_pending old.back) (all_pending mid.back) (SizeOf machine) room told state → puts_.WritesOn wsize machine file turn told state mid next new after
       → Verdict (all_pending old.back) (all_pending after.back) (putting (SizeOf machine) true) (outcome next (put_stage new.state (SizeOf new)))
   put-room machine new file room told state old mid next after w g =
@@ -218,17 +218,17 @@ module _ (wsize : ℕ) (turn : Turn) where
       (rewritten machine new told state mid file next after g)
       (put-worked (all_pending old.back) (all_pending mid.back) (all_pending after.back) (SizeOf machine) told state (outcome next (put_stage new.state (SizeOf machine))) room w f.0 f.1)
 
-  put-settles : (old after size : ℕ) (next : Next) (state : Putting) → Settles size next state → after ≤ old → Verdict old after settling (outcome next (put_stage state size))
+  put-settles : (old after size : ℕ) (next : Step) (state : Putting) → Settles size next state → after ≤ old → Verdict old after settling (outcome next (put_stage state size))
   put-settles old after size next state (inl on_) less = rests less on_
   put-settles old after size next state (inr over_) less = ends over_.0 less over_.1
 
-  stays-put : (at : Putting) (machine : PutFile) (old : Shelf) (next : Next) (new : PutFile) (after : Shelf) → machine.state ≡ at → puts_.Stays machine old next new after
+  stays-put : (at : Putting) (machine : PutFile) (old : Shelf) (next : Step) (new : PutFile) (after : Shelf) → machine.state ≡ at → puts_.Stays machine old next new after
       → Verdict (all_pending old.back) (all_pending after.back) (put_stage at (SizeOf machine)) (outcome next (put_stage new.state (SizeOf new)))
   stays-put at machine old next new after is s =
       same-verdict (all_pending old.back) (all_pending after.back) (put_stage at (SizeOf machine)) (put_stage new.state (SizeOf new)) next
       (ap (λ (m : PutFile). put_stage m.state (SizeOf m)) s.machine_is ∙ ap (λ (p : Putting). put_stage p (SizeOf machine)) is) (put-waits old after s.shelf_is)
 
-  pub put-resumed : (at : Putting) (machine : PutFile) (old : Shelf) (next : Next) (new : PutFile) (after : Shelf) → machine.state ≡ at
+  pub put-resumed : (at : Putting) (machine : PutFile) (old : Shelf) (next : Step) (new : PutFile) (after : Shelf) → machine.state ≡ at
       → puts_.Resumes at wsize machine turn old next new after
       → Verdict (all_pending old.back) (all_pending after.back) (put_stage at (SizeOf machine)) (outcome next (put_stage new.state (SizeOf new)))
   put-resumed puttings.Idle machine old next new after is s = stays-put puttings.Idle machine old next new after is s
@@ -243,7 +243,7 @@ module _ (wsize : ℕ) (turn : Turn) where
       resized (all_pending old.back) (all_pending after.back) settling next new.state (SizeOf machine) (SizeOf new) (ap SizeOf s.1)
       (put-settles (all_pending old.back) (all_pending after.back) (SizeOf machine) next new.state f.0 f.1)
 
-  pub put-took : (at : Putting) (machine : PutFile) (sent : Turn) (came : Result Reply Fault) (old : Shelf) (next : Next) (new : PutFile) (after : Shelf) → machine.state ≡ at
+  pub put-took : (at : Putting) (machine : PutFile) (sent : Turn) (came : Result Reply Fault) (old : Shelf) (next : Step) (new : PutFile) (after : Shelf) → machine.state ≡ at
       → puts_.Takes at wsize machine sent turn came old next new after
       → Verdict (all_pending old.back) (all_pending after.back) (put_stage at (SizeOf machine)) (outcome next (put_stage new.state (SizeOf new)))
   put-took puttings.Idle machine sent came old next new after is t = stays-put puttings.Idle machine old next new after is t
@@ -264,7 +264,7 @@ module _ (wsize : ℕ) (turn : Turn) where
 
 -- ---- a write or a fill, whole
 
-module _ (wsize : ℕ) (machine : WriteFile) (turn : Turn) (old : Shelf) (next : Next) (new : WriteFile) (after : Shelf) where
+module _ (wsize : ℕ) (machine : WriteFile) (turn : Turn) (old : Shelf) (next : Step) (new : WriteFile) (after : Shelf) where
   abbrev Size : ℕ
   Size = length (writes.text_bytes machine.text)
 
@@ -274,7 +274,7 @@ module _ (wsize : ℕ) (machine : WriteFile) (turn : Turn) (old : Shelf) (next :
   write-unmade : (fault : Fault) → writes.RefusesUnmade fault machine old next new after → Now
   write-unmade fault r =
       ends (answers.Refused fault) (refuses-less fault old next new.state after r.refuses)
-      (ap (λ (n : Next). outcome n (storing (length (writes.text_bytes new.text)) (is_room new.state))) r.refuses.gives_next)
+      (ap (λ (n : Step). outcome n (storing (length (writes.text_bytes new.text)) (is_room new.state))) r.refuses.gives_next)
 
   pub write-started : writes.Starts wsize machine turn old next new after → Now
   write-started s = at (file_to_write machine.lane machine.slot old.opens) s

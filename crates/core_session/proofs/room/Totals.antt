@@ -1,5 +1,5 @@
 -- No step of a save makes more bytes pending than were, nor what an operation gives up or cuts.
-use Rattle.core_session.proofs.Prelude.{◌≡◌, ◌≤◌, ◌+◌, ◌-◌, ◌&&◌, ◌⊎◌, inl, inr, ℕ, Bool, true, false, List, [], ◌∷◌, Option, Some, None, Result, Ok, Err, refl, sym, ap, subst, ◌∙◌, arith, Verf, Fault, Reply, lost, chosen, Pending, of_file, all_pending, Segments, last_end, Verdict, AllStable, SendAgain, verdict_of, Opens, Next, Repeat, Shelf, Turn, goes_again, is_first, CloseFile, Closing, Removal, Sending, Committing, Resending, CommittingAgain, Saving, SyncFile, Syncing, GivesUpBy, refusal_of, remove_busy, commit_told, file_at, joined, by-step, ends_as}
+use Rattle.core_session.proofs.Prelude.{◌≡◌, ◌≤◌, ◌+◌, ◌-◌, ◌&&◌, ◌⊎◌, inl, inr, ℕ, Bool, true, false, List, [], ◌∷◌, Option, Some, None, Result, Ok, Err, refl, sym, ap, subst, ◌∙◌, arith, Verf, Fault, Reply, lost, chosen, Pending, of_file, all_pending, Segments, last_end, Verdict, AllStable, SendAgain, verdict_of, Opens, Step, Repeat, Shelf, Turn, goes_again, is_first, CloseFile, Closing, Removal, Sending, Committing, Resending, CommittingAgain, Saving, SyncFile, Syncing, GivesUpBy, refusal_of, remove_busy, commit_told, file_at, joined, by-step, ends_as}
 use Rattle.file_ops.specs.declared.close_file.Closing.TheVariants as closing
 use Rattle.file_ops.specs.declared.saving.Phase.{Phase}
 use Rattle.file_ops.specs.declared.sync_file.Syncing.TheVariants as syncing
@@ -93,12 +93,12 @@ given-less (Some fault) file opens old new g = g.total
 -- ---- syncs
 
 module _ (wsize : ℕ) (turn : Turn) where
-  sync-queues : (b : Bool) (lane : ℕ) (saving : Saving) (old : Shelf) (next : Next) (state : Syncing) (new : Shelf)
+  sync-queues : (b : Bool) (lane : ℕ) (saving : Saving) (old : Shelf) (next : Step) (state : Syncing) (new : Shelf)
       → syncs.QueuesIf b wsize lane turn saving old next state new → Less old.back new.back
   sync-queues true lane saving old next state new q = goes-less wsize turn.xid turn.room false saving old.back q.gives q.saved new.back q.goes
   sync-queues false lane saving old next state new q = same-less old.back new.back (ap (λ (s : Shelf). s.back) q.shelf_is)
 
-  pub sync-starts : (machine : SyncFile) (old : Shelf) (next : Next) (state : Syncing) (new : Shelf) → syncs.Starts wsize machine turn old next state new
+  pub sync-starts : (machine : SyncFile) (old : Shelf) (next : Step) (state : Syncing) (new : Shelf) → syncs.Starts wsize machine turn old next state new
       → Less old.back new.back
   sync-starts machine old next state new s = at (file_at machine.lane machine.slot old.opens) s
     where
@@ -107,12 +107,12 @@ module _ (wsize : ℕ) (turn : Turn) where
       at (Some file) s = sync-queues (is_first machine.lane (joined machine.lane file old).order) machine.lane (saves.begun file old.seq)
           (joined machine.lane file old) next state new s
 
-  pub sync-resumes : (at : Syncing) (machine : SyncFile) (old : Shelf) (next : Next) (state : Syncing) (new : Shelf)
+  pub sync-resumes : (at : Syncing) (machine : SyncFile) (old : Shelf) (next : Step) (state : Syncing) (new : Shelf)
       → syncs.Resumes at wsize machine turn old next state new → Less old.back new.back
   sync-resumes syncing.Idle machine old next state new s = same-less old.back new.back (ap (λ (s : Shelf). s.back) s.shelf_is)
   sync-resumes (syncing.Saves saving) machine old next state new s = sync-queues (is_first machine.lane old.order) machine.lane saving old next state new s
 
-  pub sync-takes : (sent : Turn) (came : Result Reply Fault) (at : Syncing) (machine : SyncFile) (old : Shelf) (next : Next) (state : Syncing) (new : Shelf)
+  pub sync-takes : (sent : Turn) (came : Result Reply Fault) (at : Syncing) (machine : SyncFile) (old : Shelf) (next : Step) (state : Syncing) (new : Shelf)
       → syncs.Takes at wsize machine sent turn came old next state new → Less old.back new.back
   sync-takes sent came syncing.Idle machine old next state new t = same-less old.back new.back (ap (λ (s : Shelf). s.back) t.shelf_is)
   sync-takes sent came (syncing.Saves saving) machine old next state new t =
@@ -123,7 +123,7 @@ module _ (wsize : ℕ) (turn : Turn) where
   close-waits : (old new : Shelf) → new ≡ old → Less old.back new.back
   close-waits old new same = same-less old.back new.back (ap (λ (s : Shelf). s.back) same)
 
-  close-frees : (lane slot : ℕ) (file : List ℕ) (refusal : Option Fault) (old : Shelf) (next : Next) (state : Closing) (new : Shelf)
+  close-frees : (lane slot : ℕ) (file : List ℕ) (refusal : Option Fault) (old : Shelf) (next : Step) (state : Closing) (new : Shelf)
       → closes.Frees lane slot turn.room file refusal old next state new → Less old.back new.back
   close-frees lane slot file refusal old next state new f =
       less-less old.back f.freed.back new.back (same-less old.back f.freed.back (ap (λ (s : Shelf). s.back) f.slot_is)) (at f.place f.ends)
@@ -132,7 +132,7 @@ module _ (wsize : ℕ) (turn : Turn) where
       at None e = given-less refusal file f.freed.opens f.freed.back new.back e.back
       at (Some place) e = close-waits f.freed new e.shelf_is
 
-  close-follows : (gives : _) (lane slot : ℕ) (begun : Bool) (saving : Saving) (old : Shelf) (next : Next) (state : Closing) (new : Shelf)
+  close-follows : (gives : _) (lane slot : ℕ) (begun : Bool) (saving : Saving) (old : Shelf) (next : Step) (state : Closing) (new : Shelf)
       → closes.Follows gives lane slot turn.room begun saving old next state new → Less old.back new.back
   close-follows gives lane slot begun saving old next state new f = by-step
       (λ g. closes.Follows g lane slot turn.room begun saving old next state new → Less old.back new.back)
@@ -141,13 +141,13 @@ module _ (wsize : ℕ) (turn : Turn) where
       (λ result f. close-frees lane slot saving.file (refusal_of result) old next state new f)
       gives f
 
-  close-on : (lane slot : ℕ) (begun : Bool) (saving : Saving) (old : Shelf) (next : Next) (state : Closing) (new : Shelf)
+  close-on : (lane slot : ℕ) (begun : Bool) (saving : Saving) (old : Shelf) (next : Step) (state : Closing) (new : Shelf)
       → closes.GoesOn wsize lane slot turn begun saving old next state new → Less old.back new.back
   close-on lane slot begun saving old next state new g =
       less-less old.back g.gone.back new.back (goes-less wsize turn.xid turn.room false saving old.back g.gives g.saved g.gone.back g.goes)
       (close-follows g.gives lane slot begun g.saved g.gone next state new g.follows)
 
-  close-queues : (b : Bool) (lane slot : ℕ) (saving : Saving) (old : Shelf) (next : Next) (state : Closing) (new : Shelf)
+  close-queues : (b : Bool) (lane slot : ℕ) (saving : Saving) (old : Shelf) (next : Step) (state : Closing) (new : Shelf)
       → closes.QueuesIf b wsize lane slot turn saving old next state new → Less old.back new.back
   close-queues false lane slot saving old next state new q = close-waits old new q.shelf_is
   close-queues true lane slot saving old next state new q = at (last_end (of_file saving.file old.back).segments) q
@@ -156,7 +156,7 @@ module _ (wsize : ℕ) (turn : Turn) where
       at None b = close-frees lane slot saving.file None old next state new b
       at (Some end) b = close-on lane slot false saving old next state new b
 
-  pub close-starts : (machine : CloseFile) (old : Shelf) (next : Next) (state : Closing) (new : Shelf) → closes.Starts wsize machine turn old next state new
+  pub close-starts : (machine : CloseFile) (old : Shelf) (next : Step) (state : Closing) (new : Shelf) → closes.Starts wsize machine turn old next state new
       → Less old.back new.back
   close-starts machine old next state new s = at (file_at machine.lane machine.slot old.opens) s
     where
@@ -165,7 +165,7 @@ module _ (wsize : ℕ) (turn : Turn) where
       at (Some file) s = close-queues (is_first machine.lane (joined machine.lane file old).order) machine.lane machine.slot (saves.begun file old.seq)
           (joined machine.lane file old) next state new s
 
-  pub close-resumes : (at : Closing) (machine : CloseFile) (old : Shelf) (next : Next) (state : Closing) (new : Shelf)
+  pub close-resumes : (at : Closing) (machine : CloseFile) (old : Shelf) (next : Step) (state : Closing) (new : Shelf)
       → closes.Resumes at wsize machine turn old next state new → Less old.back new.back
   close-resumes closing.Idle machine old next state new s = close-waits old new s.shelf_is
   close-resumes (closing.Queued saving) machine old next state new s =
@@ -178,7 +178,7 @@ module _ (wsize : ℕ) (turn : Turn) where
   close-resumes (closing.ToRemove removal) machine old next state new s = close-waits old new s.shelf_is
   close-resumes (closing.Removing removal) machine old next state new s = close-waits old new s.shelf_is
 
-  pub close-takes : (sent : Turn) (came : Result Reply Fault) (at : Closing) (machine : CloseFile) (old : Shelf) (next : Next) (state : Closing) (new : Shelf)
+  pub close-takes : (sent : Turn) (came : Result Reply Fault) (at : Closing) (machine : CloseFile) (old : Shelf) (next : Step) (state : Closing) (new : Shelf)
       → closes.Takes at wsize machine sent turn came old next state new → Less old.back new.back
   close-takes sent came closing.Idle machine old next state new t = close-waits old new t.shelf_is
   close-takes sent came (closing.Queued saving) machine old next state new t = close-waits old new t.shelf_is

@@ -1,5 +1,5 @@
 -- Along a history: each byte of an ok put that was alone was made stable.
-use Rattle.core_session.proofs.Prelude.{◌≡◌, ◌⊎◌, inl, inr, ◌<◌, ◌≤◌, ◌^◌, ◌+◌, ◌-◌, ℕ, List, [], ◌∷◌, ◌++◌, length, Bool, true, false, nat_eq, Option, Some, None, option_map, position, slice_get, slice_set, refl, sym, ap, subst, ◌∙◌, arith, slice_index, eqb-true, xid_at, Waiting, next_xid, waiting_at, without, others_taken, gone, Answer, Value, Entry, Began, Answered, Sent, Delivered, Call, Op, At, HasXid, At-grow, At-below, At-back, At-last, At-cases, said_of, Next, Shelf, Pending, IsFree, IsUnused, Mounted, Machine, machine_of, last_of, front_of, Fits, Starts, walk_of, Lane, Purpose, State, Busy, Over, Setup, is_busy, with_state, Leads, Stirs, counted, StartsLane, TakesAt, AnswersAt, View, turn_at, in_flight, Reaches, IsSetUp, HearsRecord, begins-unbegun, taken_one, flies_of, Known, purpose_at, taker-is, taker-one, Rows, same-rows, silent-grow, rows-grow, taken-quiet, not-sent, taken-rows, Stays, stirs-stay, starts-stay, steps-stay, SameCalls, waits-late, unused-next, starts-under, resumes-under, takes-under, SameUnder, After, Free, AllMadeStable}
+use Rattle.core_session.proofs.Prelude.{◌≡◌, ◌⊎◌, inl, inr, ◌<◌, ◌≤◌, ◌^◌, ◌+◌, ◌-◌, ℕ, List, [], ◌∷◌, ◌++◌, length, Bool, true, false, nat_eq, Option, Some, None, option_map, position, slice_get, slice_set, refl, sym, ap, subst, ◌∙◌, arith, slice_index, eqb-true, xid_at, Waiting, next_xid, waiting_at, without, others_taken, gone, Answer, Value, Entry, Began, Answered, Sent, Delivered, Call, Op, At, HasXid, At-grow, At-below, At-back, At-last, At-cases, said_of, Step, Shelf, Pending, IsFree, IsUnused, Mounted, Machine, machine_of, last_of, front_of, Fits, Starts, walk_of, Lane, Purpose, State, Busy, Over, Setup, is_busy, with_state, Leads, Stirs, counted, StartsLane, TakesAt, AnswersAt, View, turn_at, in_flight, Reaches, IsSetUp, HearsRecord, begins-unbegun, taken_one, flies_of, Known, purpose_at, taker-is, taker-one, Rows, same-rows, silent-grow, rows-grow, taken-quiet, not-sent, taken-rows, Stays, stirs-stay, starts-stay, steps-stay, SameCalls, waits-late, unused-next, starts-under, resumes-under, takes-under, SameUnder, After, Free, AllMadeStable}
 use Rattle.std.specs.Prelude.{remove}
 use Rattle.write_back.specs.Files.{IsNothing}
 use Rattle.op_machines.specs.Begun.{put_of}
@@ -7,7 +7,7 @@ use Rattle.core_facts.proofs.Flights.{Flies}
 use Rattle.core_session.specs.saves.PutsWritten.{IsAlone, PutsWritten}
 use Rattle.world_model.specs.declared.answer.Answer.TheVariants as answers
 use Rattle.world_model.specs.declared.op.Op.TheVariants as ops
-use Rattle.client_shelf.specs.declared.next.Next.TheVariants as nexts
+use Rattle.client_shelf.specs.declared.step.Step.TheVariants as nexts
 use Rattle.file_ops.specs.PutFile.{not_begun}
 use Rattle.core_facts.proofs.Flown.{Flown, sender, look_at}
 use Rattle.core_answers.proofs.writes.AllFits as fitting
@@ -115,7 +115,7 @@ free-after : (old new : Pending) → SameUnder 0 old new → IsUnused 0 old → 
 free-after old new same free file = same file ∙ free file
 
 -- the piece of a WRITE that is asked for
-asked-piece : (xid : ℕ) (next : Next) (machine : Machine) (back : Pending) → After (Free xid) (Has xid) next back → fitting.Asks next machine → (call : Call) → next ≡ nexts.Send call → (f : List ℕ)
+asked-piece : (xid : ℕ) (next : Step) (machine : Machine) (back : Pending) → After (Free xid) (Has xid) next back → fitting.Asks next machine → (call : Call) → next ≡ nexts.Send call → (f : List ℕ)
     → flies_of machine ≡ Some f → IsSent xid f back
 asked-piece xid (nexts.Send call) machine back a asks other is f flies = let i = a f (asks.sends f flies) in record { piece = i.piece; there = i.there }
 asked-piece xid nexts.Wait machine back a asks other is f flies = absurd (cc)

@@ -1,15 +1,15 @@
 -- What each step of a put makes of its bytes, its path among it, where nothing else is pending.
-use Rattle.core_session.proofs.Prelude.{◌≡◌, ◌≤◌, ◌^◌, ◌+◌, ◌-◌, ℕ, Bool, true, false, List, [], length, Result, Ok, Err, refl, sym, ap, subst, ◌∙◌, arith, slice_index, Fault, Reply, Next, Shelf, Turn, Pending, of_file, IsFree, FilePending, covers, OpeningNext, PutFile, Putting, Saving, WalkNext, walk-takes-kept, Machine, Opener, PathMachine, file_of, slot_taken, begun_at, Starts, Resumes, Takes}
+use Rattle.core_session.proofs.Prelude.{◌≡◌, ◌≤◌, ◌^◌, ◌+◌, ◌-◌, ℕ, Bool, true, false, List, [], length, Result, Ok, Err, refl, sym, ap, subst, ◌∙◌, arith, slice_index, Fault, Reply, Step, Shelf, Turn, Pending, of_file, IsFree, FilePending, covers, OpeningStep, PutFile, Putting, Saving, WalkStep, walk-takes-kept, Machine, Opener, PathMachine, file_of, slot_taken, begun_at, Starts, Resumes, Takes}
 use Rattle.std.specs.Prelude.{Contains}
 use Rattle.write_back.specs.Files.{numbers_of, IsNewest, IsNothing}
 use Rattle.op_machines.specs.Openers.{opening_in, placed}
 use Rattle.world_model.specs.declared.answer.Answer.TheVariants as answers
-use Rattle.client_shelf.specs.declared.next.Next.TheVariants as nexts
-use Rattle.file_ops.specs.declared.opening.OpeningNext.TheVariants as openings
+use Rattle.client_shelf.specs.declared.step.Step.TheVariants as nexts
+use Rattle.file_ops.specs.declared.opening.OpeningStep.TheVariants as openings
 use Rattle.file_ops.specs.declared.put_file.Putting.TheVariants as putting
 use Rattle.file_ops.specs.PutFile as puts
 use Rattle.file_ops.specs.WriteFile as writes
-use Rattle.name_ops.specs.declared.walk.WalkNext.TheVariants as walks
+use Rattle.name_ops.specs.declared.walk.WalkStep.TheVariants as walks
 use Rattle.name_ops.specs.Walking as walking
 use Rattle.op_machines.specs.declared.machine.Machine.TheVariants as machines
 use Rattle.op_machines.specs.declared.opener.Opener.TheVariants as openers
@@ -29,21 +29,21 @@ pub record SameText (m new : PutFile) : Type 0 where
 text-of : (m new to : PutFile) → new ≡ to → SameText m to → SameText m new
 text-of m new to is s = record { offset = ap (λ (z : PutFile). z.write.offset) is ∙ s.offset; text = ap (λ (z : PutFile). z.write.text) is ∙ s.text }
 
-opened-text : (step : OpeningNext) (wsize : ℕ) (m : PutFile) (turn : Turn) (old : Shelf) (next : Next) (new : PutFile) (after : Shelf) → puts.AfterOpening step wsize m turn old next new after → SameText m new
+opened-text : (step : OpeningStep) (wsize : ℕ) (m : PutFile) (turn : Turn) (old : Shelf) (next : Step) (new : PutFile) (after : Shelf) → puts.AfterOpening step wsize m turn old next new after → SameText m new
 opened-text (openings.Send call) wsize m turn old next new after f = text-of m new m f.1 (record { offset = refl; text = refl })
 opened-text openings.Wait wsize m turn old next new after f = text-of m new m f.machine_is (record { offset = refl; text = refl })
 opened-text (openings.Ended (Ok file)) wsize m turn old next new after f =
     record { offset = ap (λ (z : PutFile). z.write.offset) f.goes.machine_is; text = ap (λ (z : PutFile). z.write.text) f.goes.machine_is }
 opened-text (openings.Ended (Err fault)) wsize m turn old next new after f = record { offset = ap (λ (z : PutFile). z.write.offset) f.1; text = ap (λ (z : PutFile). z.write.text) f.1 }
 
-resumes-text : (state : Putting) (wsize : ℕ) (m : PutFile) (turn : Turn) (old : Shelf) (next : Next) (new : PutFile) (after : Shelf) → puts.Resumes state wsize m turn old next new after → SameText m new
+resumes-text : (state : Putting) (wsize : ℕ) (m : PutFile) (turn : Turn) (old : Shelf) (next : Step) (new : PutFile) (after : Shelf) → puts.Resumes state wsize m turn old next new after → SameText m new
 resumes-text putting.Idle wsize m turn old next new after r = text-of m new m r.machine_is (record { offset = refl; text = refl })
 resumes-text putting.Opens wsize m turn old next new after r = record { offset = ap (λ (z : PutFile). z.write.offset) r.1; text = ap (λ (z : PutFile). z.write.text) r.1 }
 resumes-text (putting.Adds file) wsize m turn old next new after r =
     record { offset = ap (λ (z : PutFile). z.write.offset) r.goes.machine_is; text = ap (λ (z : PutFile). z.write.text) r.goes.machine_is }
 resumes-text (putting.Saves s) wsize m turn old next new after r = record { offset = ap (λ (z : PutFile). z.write.offset) r.1; text = ap (λ (z : PutFile). z.write.text) r.1 }
 
-takes-text : (state : Putting) (wsize : ℕ) (m : PutFile) (sent turn : Turn) (came : Result Reply Fault) (old : Shelf) (next : Next) (new : PutFile) (after : Shelf)
+takes-text : (state : Putting) (wsize : ℕ) (m : PutFile) (sent turn : Turn) (came : Result Reply Fault) (old : Shelf) (next : Step) (new : PutFile) (after : Shelf)
     → puts.Takes state wsize m sent turn came old next new after → SameText m new
 takes-text putting.Idle wsize m sent turn came old next new after t = text-of m new m t.machine_is (record { offset = refl; text = refl })
 takes-text putting.Opens wsize m sent turn came old next new after t =
@@ -92,14 +92,14 @@ module _ (offset : ℕ) (bytes : List ℕ) (last : offset + length bytes ≤ 2 ^
     pub empty : m.arrived ≡ false → IsNothing back
     pub has : m.arrived ≡ true → PutAt offset bytes Wrote Finished p.state back
 
-  abbrev pub PutGoes : Next → Machine → Pending → Type 0
+  abbrev pub PutGoes : Step → Machine → Pending → Type 0
   PutGoes (nexts.Send call) machine back = PutRuns machine back
   PutGoes nexts.Wait machine back = PutRuns machine back
   PutGoes (nexts.Done (answers.Done value)) machine back = (file : List ℕ) × ((place : ℕ) → covers offset (length bytes) place ≡ true → Finished file place)
   PutGoes (nexts.Done (answers.Refused fault)) machine back = Unit {0}
 
   -- the step of the put as that of its path
-  then-put : (m : PathMachine) (q : PutFile) (next : Next) (back : Pending) → m.arrived ≡ true → HasText q → PutLeaves offset bytes Wrote Finished next q.state back
+  then-put : (m : PathMachine) (q : PutFile) (next : Step) (back : Pending) → m.arrived ≡ true → HasText q → PutLeaves offset bytes Wrote Finished next q.state back
       → PutGoes next (machines.Path (record m { opener = openers.Put q })) back
   then-put m q (nexts.Send call) back there text t = record {
     m = record m { opener = openers.Put q };
@@ -122,11 +122,11 @@ module _ (offset : ℕ) (bytes : List ℕ) (last : offset + length bytes ≤ 2 ^
   then-put m q (nexts.Done (answers.Done value)) back there text t = t
   then-put m q (nexts.Done (answers.Refused fault)) back there text t = tt
 
-  goes-as : (next : Next) (to new : Machine) (back : Pending) → new ≡ to → PutGoes next to back → PutGoes next new back
+  goes-as : (next : Step) (to new : Machine) (back : Pending) → new ≡ to → PutGoes next to back → PutGoes next new back
   goes-as next to new back is t = subst (λ (n : Machine). PutGoes next n back) (sym is) t
 
   -- of the bytes that it has
-  leaves-here : (p : PutFile) (next : Next) (state : Putting) (back : Pending) → HasText p → PutLeaves p.write.offset (writes.made_bytes p.write.text) Wrote Finished next state back
+  leaves-here : (p : PutFile) (next : Step) (state : Putting) (back : Pending) → HasText p → PutLeaves p.write.offset (writes.made_bytes p.write.text) Wrote Finished next state back
       → PutLeaves offset bytes Wrote Finished next state back
   leaves-here p next state back text l =
       subst (λ (bs : List ℕ). PutLeaves offset bs Wrote Finished next state back) text.text_is
@@ -137,7 +137,7 @@ module _ (offset : ℕ) (bytes : List ℕ) (last : offset + length bytes ≤ 2 ^
       subst (λ (o : ℕ). PutAt o (writes.made_bytes p.write.text) Wrote Finished state back) (sym text.offset_is)
       (subst (λ (bs : List ℕ). PutAt offset bs Wrote Finished state back) (sym text.text_is) l)
 
-  module _ (wsize : ℕ) (turn : Turn) (some : 1 ≤ wsize) (old : Shelf) (free : (file : List ℕ) → IsFree turn.xid file old.back) (next : Next) (after : Shelf) where
+  module _ (wsize : ℕ) (turn : Turn) (some : 1 ≤ wsize) (old : Shelf) (free : (file : List ℕ) → IsFree turn.xid file old.back) (next : Step) (after : Shelf) where
     opener-goes : (m : PathMachine) (opener : Opener) (q : PutFile) (new : PathMachine) → m.arrived ≡ true → new ≡ record m { opener = opener } → opener ≡ openers.Put q → HasText q
         → PutLeaves offset bytes Wrote Finished next q.state after.back → PutGoes next (machines.Path new) after.back
     opener-goes m opener q new there is at text t =
@@ -162,10 +162,10 @@ module _ (offset : ℕ) (bytes : List ℕ) (last : offset + length bytes ≤ 2 ^
         by k to step = of k to (subst (λ (o : Opener). steps.Resumes wsize (file_of (openers.Put p)) turn old next (file_of o) after) to step)
 
     -- on its way
-    follows-goes : (step : WalkNext) (m : PathMachine) (p : PutFile) (new : PathMachine) → m.opener ≡ openers.Put p → m.arrived ≡ false → HasText p → IsNothing old.back
+    follows-goes : (step : WalkStep) (m : PathMachine) (p : PutFile) (new : PathMachine) → m.opener ≡ openers.Put p → m.arrived ≡ false → HasText p → IsNothing old.back
         → paths.Follows step wsize m turn old next new after → PutGoes next (machines.Path new) after.back
     follows-goes (walks.Send call) m p new at on_way text empty f =
-        subst (λ (n : Next). PutGoes n (machines.Path new) after.back) (sym f.0)
+        subst (λ (n : Step). PutGoes n (machines.Path new) after.back) (sym f.0)
         (record {
           m = m;
           p = p;
@@ -176,7 +176,7 @@ module _ (offset : ℕ) (bytes : List ℕ) (last : offset + length bytes ≤ 2 ^
           has = λ there. absurd (let no_way : true ≡ false = sym there ∙ on_way in cc);
         })
     follows-goes walks.Wait m p new at on_way text empty f =
-        subst (λ (n : Next). PutGoes n (machines.Path new) after.back) (sym f.0)
+        subst (λ (n : Step). PutGoes n (machines.Path new) after.back) (sym f.0)
         (record {
           m = m;
           p = p;
@@ -189,17 +189,17 @@ module _ (offset : ℕ) (bytes : List ℕ) (last : offset + length bytes ≤ 2 ^
     follows-goes (walks.At dir) m p new at on_way text empty f =
         then-goes (record m { opener = placed dir m.opener; arrived = true }) (record p { opening = opening_in dir p.opening; state = putting.Opens }) new refl (ap (placed dir) at)
         (record { offset_is = text.offset_is; text_is = text.text_is }) empty f
-    follows-goes (walks.Refused fault) m p new at on_way text empty f = subst (λ (n : Next). PutGoes n (machines.Path new) after.back) (sym f.0) tt
+    follows-goes (walks.Refused fault) m p new at on_way text empty f = subst (λ (n : Step). PutGoes n (machines.Path new) after.back) (sym f.0) tt
 
   -- a step without a reply
-  path-goes : (b : Bool) (wsize : ℕ) (turn : Turn) (m : PathMachine) (p : PutFile) (old : Shelf) (next : Next) (new : PathMachine) (after : Shelf) → 1 ≤ wsize
+  path-goes : (b : Bool) (wsize : ℕ) (turn : Turn) (m : PathMachine) (p : PutFile) (old : Shelf) (next : Step) (new : PathMachine) (after : Shelf) → 1 ≤ wsize
       → ((file : List ℕ) → IsFree turn.xid file old.back) → m.arrived ≡ b → m.opener ≡ openers.Put p → HasText p → (m.arrived ≡ false → IsNothing old.back)
       → (m.arrived ≡ true → PutAt offset bytes Wrote Finished p.state old.back) → paths.PathResumes b wsize m turn old next new after → PutGoes next (machines.Path new) after.back
   path-goes true wsize turn m p old next new after some free is at text empty has r = then-goes wsize turn some old free next after m p new is at text (has is) r
   path-goes false wsize turn m p old next new after some free is at text empty has r =
       follows-goes wsize turn some (walking.go_shelf m.walk turn old) free next after (walking.go_next m.walk turn old) (record m { walk = walking.go_after m.walk turn old }) p new at is text (empty is) r
 
-  pub runs-resumes : (wsize : ℕ) (turn : Turn) (machine : Machine) (old : Shelf) (next : Next) (new : Machine) (after : Shelf) → 1 ≤ wsize
+  pub runs-resumes : (wsize : ℕ) (turn : Turn) (machine : Machine) (old : Shelf) (next : Step) (new : Machine) (after : Shelf) → 1 ≤ wsize
       → ((file : List ℕ) → IsFree turn.xid file old.back) → PutRuns machine old.back → Resumes wsize machine turn old next new after → PutGoes next new after.back
   runs-resumes wsize turn machine old next new after some free k r =
       let s = (let moved : Resumes wsize (machines.Path k.m) turn old next new after = subst (λ (n : Machine). Resumes wsize n turn old next new after) k.is r in moved) in
@@ -207,7 +207,7 @@ module _ (offset : ℕ) (bytes : List ℕ) (last : offset + length bytes ≤ 2 ^
       (path-goes k.m.arrived wsize turn k.m k.p old next s.machine after some free refl k.opener k.text k.empty k.has s.step)
 
   -- the first step
-  pub runs-starts : (wsize : ℕ) (turn : Turn) (m : PathMachine) (p : PutFile) (old : Shelf) (next : Next) (new : Machine) (after : Shelf) → 1 ≤ wsize
+  pub runs-starts : (wsize : ℕ) (turn : Turn) (m : PathMachine) (p : PutFile) (old : Shelf) (next : Step) (new : Machine) (after : Shelf) → 1 ≤ wsize
       → ((file : List ℕ) → IsFree turn.xid file old.back) → m.opener ≡ openers.Put p → HasText p → PutAt offset bytes Wrote Finished p.state old.back → IsNothing old.back
       → Starts wsize (machines.Path m) turn old next new after → PutGoes next new after.back
   runs-starts wsize turn m p old next new after some free at text has empty s =
@@ -218,7 +218,7 @@ module _ (offset : ℕ) (bytes : List ℕ) (last : offset + length bytes ≤ 2 ^
 
   -- ---- a step with what came
 
-  then-takes : (wsize : ℕ) (sent turn : Turn) (came : Result Reply Fault) (some : 1 ≤ wsize) (old : Shelf) (free : (file : List ℕ) → IsFree turn.xid file old.back) (next : Next) (after : Shelf)
+  then-takes : (wsize : ℕ) (sent turn : Turn) (came : Result Reply Fault) (some : 1 ≤ wsize) (old : Shelf) (free : (file : List ℕ) → IsFree turn.xid file old.back) (next : Step) (after : Shelf)
       (m : PathMachine) (p : PutFile) (new : PathMachine) → m.arrived ≡ true → m.opener ≡ openers.Put p → HasText p → PutAt offset bytes Wrote Finished p.state old.back
       → SaveKnown Wrote Finished wsize turn some p.state p sent came old.back → paths.ThenTakes wsize m sent turn came old next new after → PutGoes next (machines.Path new) after.back
   then-takes wsize sent turn came some old free next after m p new there at text has known t =
@@ -256,7 +256,7 @@ module _ (offset : ℕ) (bytes : List ℕ) (last : offset + length bytes ≤ 2 ^
       by : (k : Opener) → t.opener ≡ k → steps.Takes wsize (file_of (openers.Put p)) sent turn came old next (file_of t.opener) after → PutGoes next (machines.Path new) after.back
       by k to step = of k to (subst (λ (o : Opener). steps.Takes wsize (file_of (openers.Put p)) sent turn came old next (file_of o) after) to step)
 
-  path-takes : (b : Bool) (wsize : ℕ) (sent turn : Turn) (came : Result Reply Fault) (some : 1 ≤ wsize) (m : PathMachine) (p : PutFile) (old : Shelf) (next : Next) (new : PathMachine) (after : Shelf)
+  path-takes : (b : Bool) (wsize : ℕ) (sent turn : Turn) (came : Result Reply Fault) (some : 1 ≤ wsize) (m : PathMachine) (p : PutFile) (old : Shelf) (next : Step) (new : PathMachine) (after : Shelf)
       → ((file : List ℕ) → IsFree turn.xid file old.back) → m.arrived ≡ b → m.opener ≡ openers.Put p → HasText p → (m.arrived ≡ false → IsNothing old.back)
       → (m.arrived ≡ true → PutAt offset bytes Wrote Finished p.state old.back) → (m.arrived ≡ true → SaveKnown Wrote Finished wsize turn some p.state p sent came old.back)
       → paths.PathTakes b wsize m sent turn came old next new after → PutGoes next (machines.Path new) after.back
@@ -267,7 +267,7 @@ module _ (offset : ℕ) (bytes : List ℕ) (last : offset + length bytes ≤ 2 ^
       follows-goes wsize turn some t.heard (λ file. subst (λ (q : Pending). IsFree turn.xid file q) (sym kept.back) (free file)) next after t.step t.walked p new
       (ap (λ (w : PathMachine). w.opener) t.walked_is ∙ at) (ap (λ (w : PathMachine). w.arrived) t.walked_is ∙ is) text (subst IsNothing (sym kept.back) (empty is)) t.follows
 
-  pub runs-takes : (wsize : ℕ) (sent turn : Turn) (came : Result Reply Fault) (some : 1 ≤ wsize) (machine : Machine) (old : Shelf) (next : Next) (new : Machine) (after : Shelf)
+  pub runs-takes : (wsize : ℕ) (sent turn : Turn) (came : Result Reply Fault) (some : 1 ≤ wsize) (machine : Machine) (old : Shelf) (next : Step) (new : Machine) (after : Shelf)
       → ((file : List ℕ) → IsFree turn.xid file old.back) → (k : PutRuns machine old.back) → (k.m.arrived ≡ true → SaveKnown Wrote Finished wsize turn some k.p.state k.p sent came old.back)
       → Takes wsize machine sent turn came old next new after → PutGoes next new after.back
   runs-takes wsize sent turn came some machine old next new after free k known t =

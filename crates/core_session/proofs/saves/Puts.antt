@@ -1,9 +1,9 @@
 -- Along a history in which a put is the only operation: each of its bytes is accounted for until its answer.
-use Rattle.core_session.proofs.Prelude.{◌≡◌, ◌⊎◌, inl, inr, ◌≤◌, ◌^◌, ◌+◌, ◌-◌, ℕ, zero, suc, List, [], ◌∷◌, ◌++◌, length, Bool, true, false, nat_eq, Option, Some, None, Err, slice_get, slice_set, refl, sym, ap, subst, ◌∙◌, arith, slice_index, eqb-true, Waiting, next_xid, waiting_at, made_call, others_made, Fault, Entry, Sent, Call, At, HasXid, proc_of, length_last, Next, Turn, Pending, of_file, IsFree, piece_under, Putting, Saving, Machine, Opener, file_of, Lane, Purpose, State, Busy, Over, Setup, record_of, IsRefused, Leads, View, turn_at, unmade_turn, flies_if, flies_put, flies_of, flies_path, flies_file, Rows, IsAwaited, MadeStable, AllMadeStable}
+use Rattle.core_session.proofs.Prelude.{◌≡◌, ◌⊎◌, inl, inr, ◌≤◌, ◌^◌, ◌+◌, ◌-◌, ℕ, zero, suc, List, [], ◌∷◌, ◌++◌, length, Bool, true, false, nat_eq, Option, Some, None, Err, slice_get, slice_set, refl, sym, ap, subst, ◌∙◌, arith, slice_index, eqb-true, Waiting, next_xid, waiting_at, made_call, others_made, Fault, Entry, Sent, Call, At, HasXid, proc_of, length_last, Step, Turn, Pending, of_file, IsFree, piece_under, Putting, Saving, Machine, Opener, file_of, Lane, Purpose, State, Busy, Over, Setup, record_of, IsRefused, Leads, View, turn_at, unmade_turn, flies_if, flies_put, flies_of, flies_path, flies_file, Rows, IsAwaited, MadeStable, AllMadeStable}
 use Rattle.std.specs.Prelude.{IsSome}
 use Rattle.core_session.specs.saves.Evidence.{IsHeldBy}
 use Rattle.world_model.specs.declared.answer.Answer.TheVariants as answers
-use Rattle.client_shelf.specs.declared.next.Next.TheVariants as nexts
+use Rattle.client_shelf.specs.declared.step.Step.TheVariants as nexts
 use Rattle.write_back.specs.Pieces.{Sent as Piece}
 use Rattle.file_ops.specs.declared.put_file.Putting.TheVariants as putting
 use Rattle.file_ops.specs.Saves as saves
@@ -37,7 +37,7 @@ module _ (x offset : ℕ) (bytes : List ℕ) (last : offset + length bytes ≤ 2
   abbrev pub Runs : List Entry → List (ℕ × Waiting Purpose) → Machine → Pending → Type 0
   Runs h calls machine back = PutRuns offset bytes last (Wrote h calls) (Made h) machine back
 
-  abbrev pub Goes : List Entry → List (ℕ × Waiting Purpose) → Next → Machine → Pending → Type 0
+  abbrev pub Goes : List Entry → List (ℕ × Waiting Purpose) → Step → Machine → Pending → Type 0
   Goes h calls next machine back = PutGoes offset bytes last (Wrote h calls) (Made h) next machine back
 
   abbrev pub StateSo : List Entry → List (ℕ × Waiting Purpose) → Pending → State → Type 0
@@ -87,7 +87,7 @@ module _ (x offset : ℕ) (bytes : List ℕ) (last : offset + length bytes ≤ 2
   state-calls h old new back (Over (answers.Done value)) was s = s
   state-calls h old new back (Over (answers.Refused fault)) was s = tt
 
-  pub goes-calls : (h : List Entry) (old new : List (ℕ × Waiting Purpose)) (back : Pending) (next : Next) (machine : Machine)
+  pub goes-calls : (h : List Entry) (old new : List (ℕ × Waiting Purpose)) (back : Pending) (next : Step) (machine : Machine)
       → ((xid : ℕ) (w : Waiting Purpose) → waiting_at xid new ≡ Some w → ((v : Waiting Purpose) × (waiting_at xid old ≡ Some v) × (v.bytes ≡ w.bytes)) ⊎ ((i : ℕ) (b : List ℕ) → At h i (Sent b) → HasXid b xid → ⊥))
       → Goes h old next machine back → Goes h new next machine back
   goes-calls h old new back (nexts.Send call) machine was g = state-calls h old new back (Busy machine) was g
@@ -132,7 +132,7 @@ module _ (x offset : ℕ) (bytes : List ℕ) (last : offset + length bytes ≤ 2
       )
 
   module _ (setup : Setup) where
-    pub leads-so : (h : List Entry) (v new : View) (number : ℕ) (machine : Machine) (next : Next) → Rows setup h v → v.lanes ≡ record { number = number; state = Busy machine } ∷ [] → 1 ≤ v.wsize
+    pub leads-so : (h : List Entry) (v new : View) (number : ℕ) (machine : Machine) (next : Step) → Rows setup h v → v.lanes ≡ record { number = number; state = Busy machine } ∷ [] → 1 ≤ v.wsize
         → ((file : List ℕ) → IsFree 0 file v.shelf.back) → ((call : Call) → next ≡ nexts.Send call → (f : List ℕ) → flies_of machine ≡ Some f → IsSent (next_xid v.calls) f v.shelf.back)
         → Goes h v.calls.calls next machine v.shelf.back → Leads v 0 number machine next new → OneLane h new
     leads-so h v new number machine (nexts.Send call) rows lanes some free it goes (inl mk) = subst (OneLane h) (sym mk.is) (record {
@@ -163,16 +163,16 @@ module _ (x offset : ℕ) (bytes : List ℕ) (last : offset + length bytes ≤ 2
         lanes-then : (state : State) → f.state ≡ state → slice_set v.lanes 0 (record { number = number; state = f.state }) ≡ record { number = number; state = state } ∷ []
         lanes-then state is = ap (λ (ls : List Lane). slice_set ls 0 (record { number = number; state = f.state })) lanes ∙ ap (λ (st : State). record { number = number; state = st } ∷ []) is
 
-        by : (n : Next) → f.next ≡ n → IsRefused f.after n f.state → OneLane h new
+        by : (n : Step) → f.next ≡ n → IsRefused f.after n f.state → OneLane h new
         by (nexts.Send again) is none = absurd none
         by nexts.Wait is st = subst (OneLane h) (sym f.is) (record {
           number = number;
           state = Busy f.after;
           lanes = lanes-then (Busy f.after) st;
-          so = subst (λ (z : Next). Goes h v.calls.calls z f.after f.left.back) is left;
+          so = subst (λ (z : Step). Goes h v.calls.calls z f.after f.left.back) is left;
         })
         by (nexts.Done (answers.Done value)) is st =
-            let g = subst (λ (z : Next). Goes h v.calls.calls z f.after f.left.back) is left in
+            let g = subst (λ (z : Step). Goes h v.calls.calls z f.after f.left.back) is left in
             subst (OneLane h) (sym f.is) (record { number = number; state = Over (answers.Done value); lanes = lanes-then (Over (answers.Done value)) st; so = record { file = g.0; each = g.1 } })
         by (nexts.Done (answers.Refused fault)) is st =
             subst (OneLane h) (sym f.is) (record { number = number; state = Over (answers.Refused fault); lanes = lanes-then (Over (answers.Refused fault)) st; so = tt })

@@ -1,10 +1,10 @@
 -- What the operation of a call knows of it, as a record that answers it is heard.
-use Rattle.core_session.proofs.Prelude.{◌≡◌, ◌≤◌, ◌^◌, ◌+◌, ◌-◌, ℕ, List, [], ◌∷◌, ◌++◌, length, Bool, true, false, Some, Ok, option_map, slice_get, refl, sym, ap, subst, ◌∙◌, arith, slice_index, Verf, Wcc, xid_at, Waiting, waiting_at, Entry, Began, Delivered, Call, Op, At, SpellsCall, commit_call, length_last, said_of, Next, Shelf, Turn, Putting, Saving, Mounted, Machine, machine_of, Purpose, Busy, Setup, View, Reaches, HearsRecord, begins-unbegun, flies_of, TaleLaws, reached-good, Did, one-call, written_file, write_of, CallFits, fits-laws, MadeStable}
+use Rattle.core_session.proofs.Prelude.{◌≡◌, ◌≤◌, ◌^◌, ◌+◌, ◌-◌, ℕ, List, [], ◌∷◌, ◌++◌, length, Bool, true, false, Some, Ok, option_map, slice_get, refl, sym, ap, subst, ◌∙◌, arith, slice_index, Verf, Wcc, xid_at, Waiting, waiting_at, Entry, Began, Delivered, Call, Op, At, SpellsCall, commit_call, length_last, said_of, Step, Shelf, Turn, Putting, Saving, Mounted, Machine, machine_of, Purpose, Busy, Setup, View, Reaches, HearsRecord, begins-unbegun, flies_of, TaleLaws, reached-good, Did, one-call, written_file, write_of, CallFits, fits-laws, MadeStable}
 use Rattle.core_answers.specs.writes.Carried.{IsCarried}
 use Rattle.core_facts.proofs.Expects.{ExpectLaws}
 use Rattle.nfs_file_calls.specs.declared.owned.FileKept.TheVariants as kept
 use Rattle.world_model.specs.declared.message.Reply.TheVariants as replies
-use Rattle.client_shelf.specs.declared.next.Next.TheVariants as nexts
+use Rattle.client_shelf.specs.declared.step.Step.TheVariants as nexts
 use Rattle.file_ops.specs.declared.put_file.Putting.TheVariants as putting
 use Rattle.file_ops.specs.Saves as saves
 use Rattle.file_ops.specs.WriteFile as writes
@@ -27,7 +27,7 @@ expects-laws = record {
   takes = λ m wsize sent turn came old next new after others one s. let e = expects-takes m wsize sent turn came old next new after others one s in (e.asked, e.kept);
 }
 
-any-did : (h : List Entry) (x : ℕ) (op : Op) (next : Next) (new : Machine) (after : Shelf)
+any-did : (h : List Entry) (x : ℕ) (op : Op) (next : Step) (new : Machine) (after : Shelf)
     → Did (λ g y o c. Unit {0}) (λ g s. Unit {0}) (λ g y o s. Unit {0}) h x op next new after
 any-did h x op (nexts.Send call) new after = record { shelf = tt; asks = tt; then_ = tt }
 any-did h x op nexts.Wait new after = record { shelf = tt; asks = tt; then_ = tt }

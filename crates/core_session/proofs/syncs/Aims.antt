@@ -1,6 +1,6 @@
 -- A put brings its bytes to one file and saves that one: what is told of its bytes and of its file is told, in each step, of this file alone.
-use Rattle.core_session.proofs.Prelude.{◌≡◌, ℕ, Bool, true, false, nat_eq, List, [], Option, Some, None, Result, Ok, Err, refl, sym, ap, ◌∙◌, arith, eqb-true, eqb-false, Fault, Reply, Pending, LaneFile, Next, Shelf, Turn, OpeningNext, PutFile, Putting, Saving, Writing, FileMachine, Machine, Opener, PathMachine, file_of, Takes}
-use Rattle.file_ops.specs.declared.opening.OpeningNext.TheVariants as openings
+use Rattle.core_session.proofs.Prelude.{◌≡◌, ℕ, Bool, true, false, nat_eq, List, [], Option, Some, None, Result, Ok, Err, refl, sym, ap, ◌∙◌, arith, eqb-true, eqb-false, Fault, Reply, Pending, LaneFile, Step, Shelf, Turn, OpeningStep, PutFile, Putting, Saving, Writing, FileMachine, Machine, Opener, PathMachine, file_of, Takes}
+use Rattle.file_ops.specs.declared.opening.OpeningStep.TheVariants as openings
 use Rattle.file_ops.specs.declared.put_file.Putting.TheVariants as putting
 use Rattle.file_ops.specs.declared.write_file.Writing.TheVariants as writing
 use Rattle.file_ops.specs.PutFile as puts
@@ -220,11 +220,11 @@ aimed-has f W t q b o tgt m e h = by (nat_eq (job_kind m) 3) refl
 
 -- ---- where its opening ends
 
-module _ (A : List ℕ → ℕ → List ℕ → Type 0) (k wsize : ℕ) (sent turn : Turn) (came : Result Reply Fault) (old : Shelf) (next : Next) where
+module _ (A : List ℕ → ℕ → List ℕ → Type 0) (k wsize : ℕ) (sent turn : Turn) (came : Result Reply Fault) (old : Shelf) (next : Step) where
   abbrev pub AimedAt : List ℕ → List ℕ → ℕ → List ℕ → Type 0
   AimedAt tgt file offset bytes = A file offset bytes × (k ≡ 3 → file ≡ tgt)
 
-  one-opened : (g file : List ℕ) → ◌≡◌ {A = OpeningNext} (openings.Ended (Ok g)) (openings.Ended (Ok file)) → file ≡ g
+  one-opened : (g file : List ℕ) → ◌≡◌ {A = OpeningStep} (openings.Ended (Ok g)) (openings.Ended (Ok file)) → file ≡ g
   one-opened g file e = cc
 
   put-taken : (at : Putting) (m : PutFile) (new : PutFile) (after : Shelf) (t : puts.Takes at wsize m sent turn came old next new after)
@@ -232,7 +232,7 @@ module _ (A : List ℕ → ℕ → List ℕ → Type 0) (k wsize : ℕ) (sent tu
   put-taken putting.Idle m new after t = ([], tt, λ h. tt)
   put-taken putting.Opens m new after t = by t.step refl
     where
-      by : (step : OpeningNext) → t.step ≡ step
+      by : (step : OpeningStep) → t.step ≡ step
           → (tgt : List ℕ) × Unit {0} × (PutOpens A putting.Opens wsize m sent turn came old next new after t → PutOpens (AimedAt tgt) putting.Opens wsize m sent turn came old next new after t)
       by (openings.Send call) e = ([], tt, λ h file is. absurd (let no_way : openings.Send call ≡ openings.Ended (Ok file) = sym e ∙ is in cc))
       by openings.Wait e = ([], tt, λ h file is. absurd (let no_way : openings.Wait ≡ openings.Ended (Ok file) = sym e ∙ is in cc))

@@ -1,10 +1,10 @@
 -- The same of any operation, also of one on names or on its way to a directory.
-use Rattle.core_session.proofs.Prelude.{◌≡◌, ◌-◌, ℕ, Bool, true, false, Option, Some, None, List, Result, refl, sym, ap, subst, ◌∙◌, Fault, Reply, Pending, Opens, LaneFile, Shelf, Turn, Next, Saving, WalkNext, walk-takes-kept, name-goes-kept, name-takes-kept, Machine, Opener, PathMachine, file_of, slot_taken, begun_at, Starts, Resumes, Takes}
+use Rattle.core_session.proofs.Prelude.{◌≡◌, ◌-◌, ℕ, Bool, true, false, Option, Some, None, List, Result, refl, sym, ap, subst, ◌∙◌, Fault, Reply, Pending, Opens, LaneFile, Shelf, Turn, Step, Saving, WalkStep, walk-takes-kept, name-goes-kept, name-takes-kept, Machine, Opener, PathMachine, file_of, slot_taken, begun_at, Starts, Resumes, Takes}
 use Rattle.name_ops.proofs.Keeps.{IsKept}
 use Rattle.op_machines.specs.Openers.{placed}
 use Rattle.world_model.specs.declared.answer.Answer.TheVariants as answers
-use Rattle.client_shelf.specs.declared.next.Next.TheVariants as nexts
-use Rattle.name_ops.specs.declared.walk.WalkNext.TheVariants as walks
+use Rattle.client_shelf.specs.declared.step.Step.TheVariants as nexts
+use Rattle.name_ops.specs.declared.walk.WalkStep.TheVariants as walks
 use Rattle.name_ops.specs.Walking as walking
 use Rattle.op_machines.specs.declared.machine.Machine.TheVariants as machines
 use Rattle.op_machines.specs.declared.opener.Opener.TheVariants as openers
@@ -37,7 +37,7 @@ JobBad j (machines.File m) q b o = FileBad j m q b o
 JobBad j (machines.Path m) q b o = j.R q b o
 JobBad j (machines.Name m) q b o = j.R q b o
 
-abbrev pub JobFin : Job → Next → Machine → Fact
+abbrev pub JobFin : Job → Step → Machine → Fact
 JobFin j (nexts.Send call) m q b o = JobHas (ended j) m q b o
 JobFin j nexts.Wait m q b o = JobHas (ended j) m q b o
 JobFin j (nexts.Done (answers.Done value)) m q b o = JobGood j m q b o
@@ -64,18 +64,18 @@ job_lane lane (machines.File m) = file_lane lane m
 job_lane lane (machines.Path m) = file_lane lane (file_of m.opener)
 job_lane lane (machines.Name m) = lane
 
-abbrev pub JobKnown : Type 0 → (Bool → Shelf → Type 0) → Machine → Next → Shelf → Type 0
+abbrev pub JobKnown : Type 0 → (Bool → Shelf → Type 0) → Machine → Step → Shelf → Type 0
 JobKnown W Z (machines.File m) next final = WriteKnown W Z m next final
 JobKnown W Z (machines.Path m) next final = WriteKnown W Z (file_of m.opener) next final
 JobKnown W Z (machines.Name m) next final = W
 
 -- A of the bytes of a put and of the file that it has opened, where its opening ends at this step
-abbrev pub PathOpens : (List ℕ → ℕ → List ℕ → Type 0) → (b : Bool) (wsize : ℕ) (m : PathMachine) (sent turn : Turn) (came : Result Reply Fault) (old : Shelf) (next : Next) (new : PathMachine) (after : Shelf)
+abbrev pub PathOpens : (List ℕ → ℕ → List ℕ → Type 0) → (b : Bool) (wsize : ℕ) (m : PathMachine) (sent turn : Turn) (came : Result Reply Fault) (old : Shelf) (next : Step) (new : PathMachine) (after : Shelf)
     → paths.PathTakes b wsize m sent turn came old next new after → Type 0
 PathOpens A true wsize m sent turn came old next new after t = FileOpens A wsize (file_of m.opener) sent turn came old next (file_of t.opener) after t.step
 PathOpens A false wsize m sent turn came old next new after t = Unit {0}
 
-abbrev pub JobOpens : (List ℕ → ℕ → List ℕ → Type 0) → (wsize : ℕ) (m : Machine) (sent turn : Turn) (came : Result Reply Fault) (old : Shelf) (next : Next) (new : Machine) (after : Shelf)
+abbrev pub JobOpens : (List ℕ → ℕ → List ℕ → Type 0) → (wsize : ℕ) (m : Machine) (sent turn : Turn) (came : Result Reply Fault) (old : Shelf) (next : Step) (new : Machine) (after : Shelf)
     → Takes wsize m sent turn came old next new after → Type 0
 JobOpens A wsize (machines.File m) sent turn came old next new after t = FileOpens A wsize m sent turn came old next t.machine after t.step
 JobOpens A wsize (machines.Path m) sent turn came old next new after t = PathOpens A m.arrived wsize m sent turn came old next t.machine after t.step
@@ -90,11 +90,11 @@ job_save (machines.File m) = file_save m
 job_save (machines.Path m) = path_save m.arrived m.opener
 job_save (machines.Name m) = None
 
-placed-known : (W : Type 0) (Z : Bool → Shelf → Type 0) (dir : List ℕ) (o : Opener) (next : Next) (final : Shelf) → WriteKnown W Z (file_of o) next final → WriteKnown W Z (file_of (placed dir o)) next final
+placed-known : (W : Type 0) (Z : Bool → Shelf → Type 0) (dir : List ℕ) (o : Opener) (next : Step) (final : Shelf) → WriteKnown W Z (file_of o) next final → WriteKnown W Z (file_of (placed dir o)) next final
 placed-known W Z dir (openers.Open m) next final w = w
 placed-known W Z dir (openers.Put m) next final w = w
 
-begun-known : (W : Type 0) (Z : Bool → Shelf → Type 0) (moment : ℕ) (o : Opener) (next : Next) (final : Shelf) → WriteKnown W Z (file_of o) next final → WriteKnown W Z (file_of (begun_at moment o)) next final
+begun-known : (W : Type 0) (Z : Bool → Shelf → Type 0) (moment : ℕ) (o : Opener) (next : Step) (final : Shelf) → WriteKnown W Z (file_of o) next final → WriteKnown W Z (file_of (begun_at moment o)) next final
 begun-known W Z moment (openers.Open m) next final w = w
 begun-known W Z moment (openers.Put m) next final w = w
 
@@ -110,7 +110,7 @@ begun-lane : (lane moment : ℕ) (o : Opener) → file_lane lane (file_of (begun
 begun-lane lane moment (openers.Open m) = refl
 begun-lane lane moment (openers.Put m) = refl
 
-module _ (j : Job) (lane wsize : ℕ) (turn : Turn) (next : Next) (W : Type 0) (Z : Bool → Shelf → Type 0) where
+module _ (j : Job) (lane wsize : ℕ) (turn : Turn) (next : Step) (W : Type 0) (Z : Bool → Shelf → Type 0) where
   abbrev pub JobFinAt : Machine → Shelf → Type 0
   JobFinAt m s = JobFin j next m s.seq s.back s.order
 
@@ -122,7 +122,7 @@ module _ (j : Job) (lane wsize : ℕ) (turn : Turn) (next : Next) (W : Type 0) (
       here : At j.P after
       here = at-as j.P old.seq old.back old.order after k.seq k.back order p
 
-      by : (n : Next) → JobFin j n to after.seq after.back after.order
+      by : (n : Step) → JobFin j n to after.seq after.back after.order
       by (nexts.Send call) = has after.seq after.back after.order here
       by nexts.Wait = has after.seq after.back after.order here
       by (nexts.Done (answers.Done value)) = good after.seq after.back after.order here
@@ -130,7 +130,7 @@ module _ (j : Job) (lane wsize : ℕ) (turn : Turn) (next : Next) (W : Type 0) (
 
   -- ---- opens and puts on their way
 
-  opener-fin : (n : Next) (m : PathMachine) (opener : Opener) (after : Shelf) → m.arrived ≡ true → FileFin j n (file_of opener) after.seq after.back after.order
+  opener-fin : (n : Step) (m : PathMachine) (opener : Opener) (after : Shelf) → m.arrived ≡ true → FileFin j n (file_of opener) after.seq after.back after.order
       → JobFin j n (machines.Path (record m { opener = opener })) after.seq after.back after.order
   opener-fin (nexts.Send call) m opener after there l = subst (λ (b : Bool). PathHas (ended j) b opener after.seq after.back after.order) (sym there) l
   opener-fin nexts.Wait m opener after there l = subst (λ (b : Bool). PathHas (ended j) b opener after.seq after.back after.order) (sym there) l
@@ -156,19 +156,19 @@ module _ (j : Job) (lane wsize : ℕ) (turn : Turn) (next : Next) (W : Type 0) (
   way-has m new q b o is way p =
       subst (λ (z : PathMachine). JobHas (ended j) (machines.Path z) q b o) (sym is) (subst (λ (c : Bool). PathHas (ended j) c m.opener q b o) (sym way) p)
 
-  follows-path : (step : WalkNext) (m : PathMachine) (old : Shelf) (new : PathMachine) (after : Shelf) → JobLaws j wsize (file_lane lane (file_of m.opener)) turn next W Z → WriteKnown W Z (file_of m.opener) next after → m.arrived ≡ false
+  follows-path : (step : WalkStep) (m : PathMachine) (old : Shelf) (new : PathMachine) (after : Shelf) → JobLaws j wsize (file_lane lane (file_of m.opener)) turn next W Z → WriteKnown W Z (file_of m.opener) next after → m.arrived ≡ false
       → paths.Follows step wsize m turn old next new after → At j.P old → JobFinAt (machines.Path new) after
   follows-path (walks.Send call) m old new after w known way f p =
-      subst (λ (n : Next). JobFin j n (machines.Path new) after.seq after.back after.order) (sym f.0)
+      subst (λ (n : Step). JobFin j n (machines.Path new) after.seq after.back after.order) (sym f.0)
       (way-has m new after.seq after.back after.order f.1 way (subst (At j.P) (sym f.2) p))
   follows-path walks.Wait m old new after w known way f p =
-      subst (λ (n : Next). JobFin j n (machines.Path new) after.seq after.back after.order) (sym f.0)
+      subst (λ (n : Step). JobFin j n (machines.Path new) after.seq after.back after.order) (sym f.0)
       (way-has m new after.seq after.back after.order f.1 way (subst (At j.P) (sym f.2) p))
   follows-path (walks.At dir) m old new after w known way f p =
       then-resumes (record m { opener = placed dir m.opener; arrived = true }) old new after
       (subst (λ (n : ℕ). JobLaws j wsize n turn next W Z) (sym (placed-lane lane dir m.opener)) w) (placed-known W Z dir m.opener next after known) refl f (placed-has j dir m.opener old.seq old.back old.order p)
   follows-path (walks.Refused fault) m old new after w known way f p =
-      subst (λ (n : Next). JobFin j n (machines.Path new) after.seq after.back after.order) (sym f.0) (w.enough after.seq after.back after.order (subst (At j.P) (sym f.2) p))
+      subst (λ (n : Step). JobFin j n (machines.Path new) after.seq after.back after.order) (sym f.0) (w.enough after.seq after.back after.order (subst (At j.P) (sym f.2) p))
 
   path-resumes : (b : Bool) (m : PathMachine) (old : Shelf) (new : PathMachine) (after : Shelf) → JobLaws j wsize (file_lane lane (file_of m.opener)) turn next W Z → WriteKnown W Z (file_of m.opener) next after → m.arrived ≡ b
       → paths.PathResumes b wsize m turn old next new after → At (PathHas j b m.opener) old → JobFinAt (machines.Path new) after
@@ -179,7 +179,7 @@ module _ (j : Job) (lane wsize : ℕ) (turn : Turn) (next : Next) (W : Type 0) (
   path-starts : (taken : Bool) (m : PathMachine) (old : Shelf) (new : PathMachine) (after : Shelf) → JobLaws j wsize (file_lane lane (file_of m.opener)) turn next W Z → WriteKnown W Z (file_of m.opener) next after → m.arrived ≡ false
       → paths.StartsIf taken wsize m turn old next new after → At j.P old → JobFinAt (machines.Path new) after
   path-starts true m old new after w known way s p =
-      subst (λ (n : Next). JobFin j n (machines.Path new) after.seq after.back after.order) (sym s.0) (w.enough after.seq after.back after.order (subst (At j.P) (sym s.2) p))
+      subst (λ (n : Step). JobFin j n (machines.Path new) after.seq after.back after.order) (sym s.0) (w.enough after.seq after.back after.order (subst (At j.P) (sym s.2) p))
   path-starts false m old new after w known way s p =
       path-resumes false (record m { opener = begun_at (turn.moment - 1) m.opener }) old new after
       (subst (λ (n : ℕ). JobLaws j wsize n turn next W Z) (sym (begun-lane lane (turn.moment - 1) m.opener)) w) (begun-known W Z (turn.moment - 1) m.opener next after known) way
@@ -193,7 +193,7 @@ module _ (j : Job) (lane wsize : ℕ) (turn : Turn) (next : Next) (W : Type 0) (
   all-starts (machines.File m) old new after w known first begins s p =
       subst (λ (z : Machine). JobFinAt z after) (sym s.machine_is) (file-fin next (file-starts j lane wsize turn next W Z m old s.machine after w known begins s.step p))
     where
-      file-fin : (n : Next) → FileFin j n s.machine after.seq after.back after.order → JobFin j n (machines.File s.machine) after.seq after.back after.order
+      file-fin : (n : Step) → FileFin j n s.machine after.seq after.back after.order → JobFin j n (machines.File s.machine) after.seq after.back after.order
       file-fin (nexts.Send call) l = l
       file-fin nexts.Wait l = l
       file-fin (nexts.Done (answers.Done value)) l = l
@@ -209,7 +209,7 @@ module _ (j : Job) (lane wsize : ℕ) (turn : Turn) (next : Next) (W : Type 0) (
   all-resumes (machines.File m) old new after w known s h =
       subst (λ (z : Machine). JobFinAt z after) (sym s.machine_is) (file-fin next (file-resumes j lane wsize turn next W Z m old s.machine after w known s.step h))
     where
-      file-fin : (n : Next) → FileFin j n s.machine after.seq after.back after.order → JobFin j n (machines.File s.machine) after.seq after.back after.order
+      file-fin : (n : Step) → FileFin j n s.machine after.seq after.back after.order → JobFin j n (machines.File s.machine) after.seq after.back after.order
       file-fin (nexts.Send call) l = l
       file-fin nexts.Wait l = l
       file-fin (nexts.Done (answers.Done value)) l = l
@@ -239,7 +239,7 @@ module _ (j : Job) (lane wsize : ℕ) (turn : Turn) (next : Next) (W : Type 0) (
     all-takes (machines.File m) old new after w known s opened n h =
         subst (λ (z : Machine). JobFinAt z after) (sym s.machine_is) (file-fin next (file-takes j lane wsize turn next W Z sent came N v m old s.machine after w known s.step opened n h))
       where
-        file-fin : (k : Next) → FileFin j k s.machine after.seq after.back after.order → JobFin j k (machines.File s.machine) after.seq after.back after.order
+        file-fin : (k : Step) → FileFin j k s.machine after.seq after.back after.order → JobFin j k (machines.File s.machine) after.seq after.back after.order
         file-fin (nexts.Send call) l = l
         file-fin nexts.Wait l = l
         file-fin (nexts.Done (answers.Done value)) l = l

@@ -1,8 +1,8 @@
 -- What is known of a byte by the history goes on being known, as entries come and calls are made and answered.
-use Rattle.core_session.proofs.Prelude.{◌≡◌, ◌⊎◌, inl, inr, ◌≤◌, ◌-◌, ℕ, List, [], ◌∷◌, ◌++◌, length, Bool, true, false, nat_eq, Option, Some, None, Result, refl, sym, ap, subst, ◌∙◌, arith, slice_index, eqb-true, xid_at, Waiting, next_xid, made_call, waiting_at, without, others_made, others_taken, gone, Fault, Entry, Began, Sent, Delivered, Call, Reply, Op, SpellsCall, proc_of, At-cases, length_last, Next, Turn, Mounted, Machine, of_file, Flown, fly_at, piece_under, covers, fly-some, fly-under, EachSound, flown-from, Purpose, Busy, Setup, with_state, record_of, Leads, Stirs, counted, StartsLane, TakesAt, View, turn_at, IsUnsent, taken_one, Known, Rows, same-rows, rows-grow, silent-grow, taken-quiet, not-sent, taken-rows, one-call, written_file, IsInFlight, SameCalls}
+use Rattle.core_session.proofs.Prelude.{◌≡◌, ◌⊎◌, inl, inr, ◌≤◌, ◌-◌, ℕ, List, [], ◌∷◌, ◌++◌, length, Bool, true, false, nat_eq, Option, Some, None, Result, refl, sym, ap, subst, ◌∙◌, arith, slice_index, eqb-true, xid_at, Waiting, next_xid, made_call, waiting_at, without, others_made, others_taken, gone, Fault, Entry, Began, Sent, Delivered, Call, Reply, Op, SpellsCall, proc_of, At-cases, length_last, Step, Turn, Mounted, Machine, of_file, Flown, fly_at, piece_under, covers, fly-some, fly-under, EachSound, flown-from, Purpose, Busy, Setup, with_state, record_of, Leads, Stirs, counted, StartsLane, TakesAt, View, turn_at, IsUnsent, taken_one, Known, Rows, same-rows, rows-grow, silent-grow, taken-quiet, not-sent, taken-rows, one-call, written_file, IsInFlight, SameCalls}
 use Rattle.nfs_file_calls.specs.declared.call.FileCall.TheVariants as file_calls
 use Rattle.world_model.specs.declared.message.Call.TheVariants as calls
-use Rattle.client_shelf.specs.declared.next.Next.TheVariants as nexts
+use Rattle.client_shelf.specs.declared.step.Step.TheVariants as nexts
 use Rattle.write_back.specs.Pieces.{Sent as Piece}
 use Rattle.core_session.proofs.saves.Evidenced.{stable-grow}
 use Rattle.core_session.proofs.saves.Told.{held-grow, held-calls}
@@ -47,7 +47,7 @@ pub calls-as : (h : List Entry) (old new : List (ℕ × Waiting Purpose)) → Sa
 calls-as h old new same xid w at = let k = same.waited xid w at in inl (k.was, k.waited, sym k.bytes)
 
 -- what a step leads to
-leads-calls : (setup : Setup) (h : List Entry) (v new : View) (at number : ℕ) (machine : Machine) (next : Next) → Rows setup h v → Leads v at number machine next new
+leads-calls : (setup : Setup) (h : List Entry) (v new : View) (at number : ℕ) (machine : Machine) (next : Step) → Rows setup h v → Leads v at number machine next new
     → CallsKept h v.calls.calls new.calls.calls
 leads-calls setup h v new at number machine (nexts.Send call) rows (inl mk) = subst (λ (z : View). CallsKept h v.calls.calls z.calls.calls) (sym mk.is) was
   where

@@ -1,5 +1,5 @@
 -- What is said of an operation's save, its bytes and its file: under less, taken apart, and by the kind of the operation.
-use Rattle.core_session.proofs.Prelude.{◌-◌, ◌≡◌, ◌≤◌, ◌<◌, ◌⊎◌, arith, inl, inr, ℕ, Bool, true, false, List, Option, Some, None, Result, refl, sym, ap, subst, ◌∙◌, Fault, Reply, Pending, LaneFile, Shelf, Turn, Next, Closing, Opening, PutFile, Putting, Saving, Syncing, Truncating, Writing, FileMachine, Machine, Opener, PathMachine, file_of, slot_taken, begun_at, WalkNext, Starts, Resumes, Takes, of_writing, of_syncing, of_closing, of_putting, in_flight, seat_of, IsLive, IsFreshFor, seat_close, seat_put, flies_if, flies_save, flies_write, flies_sync, flies_close, flies_put, flies_file, flies_path, flies_of}
+use Rattle.core_session.proofs.Prelude.{◌-◌, ◌≡◌, ◌≤◌, ◌<◌, ◌⊎◌, arith, inl, inr, ℕ, Bool, true, false, List, Option, Some, None, Result, refl, sym, ap, subst, ◌∙◌, Fault, Reply, Pending, LaneFile, Shelf, Turn, Step, Closing, Opening, PutFile, Putting, Saving, Syncing, Truncating, Writing, FileMachine, Machine, Opener, PathMachine, file_of, slot_taken, begun_at, WalkStep, Starts, Resumes, Takes, of_writing, of_syncing, of_closing, of_putting, in_flight, seat_of, IsLive, IsFreshFor, seat_close, seat_put, flies_if, flies_save, flies_write, flies_sync, flies_close, flies_put, flies_file, flies_path, flies_of}
 use Rattle.op_machines.specs.Openers.{placed}
 use Rattle.core_facts.proofs.AllSeats.{path_seat, OpenerFresh, OnPath}
 use Rattle.core_facts.proofs.FileSeats.{FileLive, FileFresh, seat_write, seat_sync, seat_file}
@@ -14,7 +14,7 @@ use Rattle.op_machines.specs.declared.file_machine.FileMachine.TheVariants as fi
 use Rattle.op_machines.specs.declared.machine.Machine.TheVariants as machines
 use Rattle.op_machines.specs.declared.opener.Opener.TheVariants as openers
 use Rattle.op_machines.specs.PathSteps as paths
-use Rattle.name_ops.specs.declared.walk.WalkNext.TheVariants as walks
+use Rattle.name_ops.specs.declared.walk.WalkStep.TheVariants as walks
 use Rattle.name_ops.specs.Walking as walking
 use Rattle.op_machines.specs.FileSteps as steps
 use Rattle.core_facts.specs.InFlight.{of_saving, of_file as calls_of}
@@ -229,7 +229,7 @@ job_kind (machines.Path m) = file_kind (file_of m.opener)
 job_kind (machines.Name m) = 0
 
 module _ (wsize : ℕ) (turn : Turn) where
-  file-start-kind : (m : FileMachine) (old : Shelf) (next : Next) (new : FileMachine) (after : Shelf) → steps.Starts wsize m turn old next new after → file_kind new ≡ file_kind m
+  file-start-kind : (m : FileMachine) (old : Shelf) (next : Step) (new : FileMachine) (after : Shelf) → steps.Starts wsize m turn old next new after → file_kind new ≡ file_kind m
   file-start-kind (files.Open m) old next new after s = ap file_kind s.machine_is
   file-start-kind (files.Read m) old next new after s = ap file_kind s.machine_is
   file-start-kind (files.Write m) old next new after s = ap file_kind s.machine_is
@@ -238,7 +238,7 @@ module _ (wsize : ℕ) (turn : Turn) where
   file-start-kind (files.Truncate m) old next new after s = ap file_kind s.machine_is
   file-start-kind (files.Put m) old next new after s = ap file_kind s.machine_is
 
-  file-resume-kind : (m : FileMachine) (old : Shelf) (next : Next) (new : FileMachine) (after : Shelf) → steps.Resumes wsize m turn old next new after → file_kind new ≡ file_kind m
+  file-resume-kind : (m : FileMachine) (old : Shelf) (next : Step) (new : FileMachine) (after : Shelf) → steps.Resumes wsize m turn old next new after → file_kind new ≡ file_kind m
   file-resume-kind (files.Open m) old next new after s = ap file_kind s.machine_is
   file-resume-kind (files.Read m) old next new after s = ap file_kind s.machine_is
   file-resume-kind (files.Write m) old next new after s = ap file_kind s.machine_is
@@ -247,7 +247,7 @@ module _ (wsize : ℕ) (turn : Turn) where
   file-resume-kind (files.Truncate m) old next new after s = ap file_kind s.machine_is
   file-resume-kind (files.Put m) old next new after s = ap file_kind s.machine_is
 
-  file-take-kind : (sent : Turn) (came : Result Reply Fault) (m : FileMachine) (old : Shelf) (next : Next) (new : FileMachine) (after : Shelf) → steps.Takes wsize m sent turn came old next new after
+  file-take-kind : (sent : Turn) (came : Result Reply Fault) (m : FileMachine) (old : Shelf) (next : Step) (new : FileMachine) (after : Shelf) → steps.Takes wsize m sent turn came old next new after
       → file_kind new ≡ file_kind m
   file-take-kind sent came (files.Open m) old next new after s = ap file_kind s.machine_is
   file-take-kind sent came (files.Read m) old next new after s = ap file_kind s.machine_is
@@ -268,41 +268,41 @@ module _ (wsize : ℕ) (turn : Turn) where
   abbrev path_kind : PathMachine → ℕ
   path_kind m = file_kind (file_of m.opener)
 
-  then-kind : (m : PathMachine) (old : Shelf) (next : Next) (new : PathMachine) (after : Shelf) → paths.ThenResumes wsize m turn old next new after → path_kind new ≡ path_kind m
+  then-kind : (m : PathMachine) (old : Shelf) (next : Step) (new : PathMachine) (after : Shelf) → paths.ThenResumes wsize m turn old next new after → path_kind new ≡ path_kind m
   then-kind m old next new after t = ap path_kind t.machine_is ∙ file-resume-kind (file_of m.opener) old next (file_of t.opener) after t.step
 
-  follows-kind : (step : WalkNext) (m : PathMachine) (old : Shelf) (next : Next) (new : PathMachine) (after : Shelf) → paths.Follows step wsize m turn old next new after → path_kind new ≡ path_kind m
+  follows-kind : (step : WalkStep) (m : PathMachine) (old : Shelf) (next : Step) (new : PathMachine) (after : Shelf) → paths.Follows step wsize m turn old next new after → path_kind new ≡ path_kind m
   follows-kind (walks.Send call) m old next new after f = ap path_kind f.1
   follows-kind walks.Wait m old next new after f = ap path_kind f.1
   follows-kind (walks.At dir) m old next new after f = then-kind (record m { opener = placed dir m.opener; arrived = true }) old next new after f ∙ placed-kind dir m.opener
   follows-kind (walks.Refused fault) m old next new after f = ap path_kind f.1
 
-  path-resume-kind : (b : Bool) (m : PathMachine) (old : Shelf) (next : Next) (new : PathMachine) (after : Shelf) → paths.PathResumes b wsize m turn old next new after → path_kind new ≡ path_kind m
+  path-resume-kind : (b : Bool) (m : PathMachine) (old : Shelf) (next : Step) (new : PathMachine) (after : Shelf) → paths.PathResumes b wsize m turn old next new after → path_kind new ≡ path_kind m
   path-resume-kind true m old next new after r = then-kind m old next new after r
   path-resume-kind false m old next new after r =
       follows-kind (walking.go_next m.walk turn old) (record m { walk = walking.go_after m.walk turn old }) (walking.go_shelf m.walk turn old) next new after r
 
-  path-start-kind : (taken : Bool) (m : PathMachine) (old : Shelf) (next : Next) (new : PathMachine) (after : Shelf) → paths.StartsIf taken wsize m turn old next new after → path_kind new ≡ path_kind m
+  path-start-kind : (taken : Bool) (m : PathMachine) (old : Shelf) (next : Step) (new : PathMachine) (after : Shelf) → paths.StartsIf taken wsize m turn old next new after → path_kind new ≡ path_kind m
   path-start-kind true m old next new after s = ap path_kind s.1
   path-start-kind false m old next new after s =
       path-resume-kind m.arrived (record m { opener = begun_at (turn.moment - 1) m.opener }) old next new after s ∙ begun-kind (turn.moment - 1) m.opener
 
-  path-take-kind : (sent : Turn) (came : Result Reply Fault) (b : Bool) (m : PathMachine) (old : Shelf) (next : Next) (new : PathMachine) (after : Shelf) → paths.PathTakes b wsize m sent turn came old next new after
+  path-take-kind : (sent : Turn) (came : Result Reply Fault) (b : Bool) (m : PathMachine) (old : Shelf) (next : Step) (new : PathMachine) (after : Shelf) → paths.PathTakes b wsize m sent turn came old next new after
       → path_kind new ≡ path_kind m
   path-take-kind sent came true m old next new after t = ap path_kind t.machine_is ∙ file-take-kind sent came (file_of m.opener) old next (file_of t.opener) after t.step
   path-take-kind sent came false m old next new after t = follows-kind t.step t.walked t.heard next new after t.follows ∙ ap path_kind t.walked_is
 
-  pub start-kind : (m : Machine) (old : Shelf) (next : Next) (new : Machine) (after : Shelf) → Starts wsize m turn old next new after → job_kind new ≡ job_kind m
+  pub start-kind : (m : Machine) (old : Shelf) (next : Step) (new : Machine) (after : Shelf) → Starts wsize m turn old next new after → job_kind new ≡ job_kind m
   start-kind (machines.File m) old next new after s = ap job_kind s.machine_is ∙ file-start-kind m old next s.machine after s.step
   start-kind (machines.Path m) old next new after s = ap job_kind s.machine_is ∙ path-start-kind (slot_taken m.opener old.opens) m old next s.machine after s.step
   start-kind (machines.Name m) old next new after s = ap job_kind s.machine_is
 
-  pub resume-kind : (m : Machine) (old : Shelf) (next : Next) (new : Machine) (after : Shelf) → Resumes wsize m turn old next new after → job_kind new ≡ job_kind m
+  pub resume-kind : (m : Machine) (old : Shelf) (next : Step) (new : Machine) (after : Shelf) → Resumes wsize m turn old next new after → job_kind new ≡ job_kind m
   resume-kind (machines.File m) old next new after s = ap job_kind s.machine_is ∙ file-resume-kind m old next s.machine after s.step
   resume-kind (machines.Path m) old next new after s = ap job_kind s.machine_is ∙ path-resume-kind m.arrived m old next s.machine after s.step
   resume-kind (machines.Name m) old next new after s = ap job_kind s.machine_is
 
-  pub take-kind : (sent : Turn) (came : Result Reply Fault) (m : Machine) (old : Shelf) (next : Next) (new : Machine) (after : Shelf) → Takes wsize m sent turn came old next new after
+  pub take-kind : (sent : Turn) (came : Result Reply Fault) (m : Machine) (old : Shelf) (next : Step) (new : Machine) (after : Shelf) → Takes wsize m sent turn came old next new after
       → job_kind new ≡ job_kind m
   take-kind sent came (machines.File m) old next new after s = ap job_kind s.machine_is ∙ file-take-kind sent came m old next s.machine after s.step
   take-kind sent came (machines.Path m) old next new after s = ap job_kind s.machine_is ∙ path-take-kind sent came m.arrived m old next s.machine after s.step

@@ -1,5 +1,5 @@
 -- What a step of a lane makes of what guards a byte: it is guarded still, or a close saved it, or one gave it up.
-use Rattle.core_session.proofs.Prelude.{◌≡◌, ◌≢◌, ◌≤◌, ◌⊎◌, inl, inr, ℕ, Bool, true, false, nat_eq, List, length, Option, Some, None, slice_get, refl, sym, ap, ◌∙◌, option_map, Result, Err, eqb-true, eqb-false, IsOpen, Fault, Value, Entry, Modes, file_at, CloseFile, Closing, Removal, Saving, Machine, Lane, State, Busy, Over, Stirs, TakesAt, StartsLane, View, turn_at, AreApart, Turned, IsPast, IsOwed, IsGuarded, slot, past, IsClose, save_in, removal_in, file_in, IsSaving, LetsGo, seat_close, Opened, Reply, Next, Send, Wait, Done, Shelf, Turn, Resumes, Takes, Starts, at-set, at-push, IsPlain}
+use Rattle.core_session.proofs.Prelude.{◌≡◌, ◌≢◌, ◌≤◌, ◌⊎◌, inl, inr, ℕ, Bool, true, false, nat_eq, List, length, Option, Some, None, slice_get, refl, sym, ap, ◌∙◌, option_map, Result, Err, eqb-true, eqb-false, IsOpen, Fault, Value, Entry, Modes, file_at, CloseFile, Closing, Removal, Saving, Machine, Lane, State, Busy, Over, Stirs, TakesAt, StartsLane, View, turn_at, AreApart, Turned, IsPast, IsOwed, IsGuarded, slot, past, IsClose, save_in, removal_in, file_in, IsSaving, LetsGo, seat_close, Opened, Reply, Step, Send, Wait, Done, Shelf, Turn, Resumes, Takes, Starts, at-set, at-push, IsPlain}
 use Rattle.core_facts.proofs.OpenSlots.{plain-starts, plain-resumes, plain-takes}
 use Rattle.world_model.specs.declared.answer.Answer.TheVariants as answers
 use Rattle.file_ops.specs.declared.close_file.Closing.TheVariants as closings
@@ -182,7 +182,7 @@ slot-guard number f v n its_slot none held = by (finite.get v.shelf.opens (n, it
 
 -- ---- an operation that neither opens nor closes a slot leaves the table
 
-led-plain : (wsize : ℕ) (old : Shelf) (S : Next → Machine → Shelf → Type 0) → ((next : Next) (new : Machine) (after : Shelf) → S next new after → IsPlain new × (after.opens ≡ old.opens))
+led-plain : (wsize : ℕ) (old : Shelf) (S : Step → Machine → Shelf → Type 0) → ((next : Step) (new : Machine) (after : Shelf) → S next new after → IsPlain new × (after.opens ≡ old.opens))
     → (state : State) (after : Shelf) → Leading wsize S state after → after.opens ≡ old.opens
 led-plain wsize old S step state after (settles next new s is) = (step next new after s).1
 led-plain wsize old S step state after (unmade call mid between sent turn fault next new s takes is) =
@@ -209,7 +209,7 @@ starts-plain old new number machine t plain =
 
 -- ---- its kind stays
 
-led-kind : (wsize k : ℕ) (S : Next → Machine → Shelf → Type 0) → ((next : Next) (new : Machine) (after : Shelf) → S next new after → job_kind new ≡ k) → (state : State) (after : Shelf)
+led-kind : (wsize k : ℕ) (S : Step → Machine → Shelf → Type 0) → ((next : Step) (new : Machine) (after : Shelf) → S next new after → job_kind new ≡ k) → (state : State) (after : Shelf)
     → Leading wsize S state after → (machine : Machine) → state ≡ Busy machine → job_kind machine ≡ k
 led-kind wsize k S kinds state after (settles (Send call) new s st) machine is = ap job_kind (busy-one machine new (sym is ∙ st)) ∙ kinds (Send call) new after s
 led-kind wsize k S kinds state after (settles Wait new s st) machine is = ap job_kind (busy-one machine new (sym is ∙ st)) ∙ kinds Wait new after s

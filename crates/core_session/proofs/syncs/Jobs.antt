@@ -1,11 +1,11 @@
 -- What each step of an operation on a file makes of its save and of what is pending, with the number of the last write and the order of the files.
-use Rattle.core_session.proofs.Prelude.{◌≡◌, ◌&&◌, ◌||◌, ◌+◌, ℕ, zero, suc, Bool, true, false, not, List, [], ◌∷◌, position, remove, Option, Some, None, Result, Ok, Err, refl, sym, ap, subst, ◌∙◌, inl, inr, list_any, option_map_or, Wcc, Fault, Call, Reply, last_end, nothing, with_cut, Pending, of_file, OnFile, with_bytes, Opens, IsOpen, LaneFile, Repeat, Shelf, Turn, goes_again, fails_busy, added, left, is_first, is_lane, is_other, Next, CloseFile, Closing, Removal, Opening, OpeningNext, PutFile, Putting, Saving, SyncFile, Syncing, TruncateFile, Truncating, WriteFile, Writing, is_full, GivesUpBy, closed_answer, remove_of, remove_busy, TellsOpen, file_to_write, is_quiet, file_at, joined, by-step, ends_as, FileMachine, EndsSo}
+use Rattle.core_session.proofs.Prelude.{◌≡◌, ◌&&◌, ◌||◌, ◌+◌, ℕ, zero, suc, Bool, true, false, not, List, [], ◌∷◌, position, remove, Option, Some, None, Result, Ok, Err, refl, sym, ap, subst, ◌∙◌, inl, inr, list_any, option_map_or, Wcc, Fault, Call, Reply, last_end, nothing, with_cut, Pending, of_file, OnFile, with_bytes, Opens, IsOpen, LaneFile, Repeat, Shelf, Turn, goes_again, fails_busy, added, left, is_first, is_lane, is_other, Step, CloseFile, Closing, Removal, Opening, OpeningStep, PutFile, Putting, Saving, SyncFile, Syncing, TruncateFile, Truncating, WriteFile, Writing, is_full, GivesUpBy, closed_answer, remove_of, remove_busy, TellsOpen, file_to_write, is_quiet, file_at, joined, by-step, ends_as, FileMachine, EndsSo}
 use Rattle.file_ops.specs.Closings.{GivesIf}
 use Rattle.world_model.specs.declared.answer.Answer.TheVariants as answers
 use Rattle.world_model.specs.declared.answer.Value.TheVariants.{Nothing}
-use Rattle.client_shelf.specs.declared.next.Next.TheVariants as nexts
+use Rattle.client_shelf.specs.declared.step.Step.TheVariants as nexts
 use Rattle.file_ops.specs.declared.close_file.Closing.TheVariants as closing
-use Rattle.file_ops.specs.declared.opening.OpeningNext.TheVariants as openings
+use Rattle.file_ops.specs.declared.opening.OpeningStep.TheVariants as openings
 use Rattle.file_ops.specs.declared.put_file.Putting.TheVariants as putting
 use Rattle.file_ops.specs.declared.sync_file.Syncing.TheVariants as syncing
 use Rattle.file_ops.specs.declared.truncate_file.Truncating.TheVariants as truncating
@@ -33,7 +33,7 @@ At P s = P s.seq s.back s.order
 -- ---- what is carried through a step of a save
 
 -- Of a save that goes on L; where it ended P, of its file B, and X where it ended well.
-abbrev pub Out : Fact → (Saving → Fact) → Type 0 → (List ℕ → Type 0) → Next → Saving → Fact
+abbrev pub Out : Fact → (Saving → Fact) → Type 0 → (List ℕ → Type 0) → Step → Saving → Fact
 Out P L X B (nexts.Send call) new q b o = L new q b o
 Out P L X B nexts.Wait new q b o = L new q b o
 Out P L X B (nexts.Done (answers.Done value)) new q b o = P q b o × X × B new.file
@@ -59,14 +59,14 @@ pub record Adds (A : List ℕ → ℕ → List ℕ → Type 0) (W : Type 0) (P P
       → OnFile b after file (with_bytes offset bytes (q + 1) (of_file file b)) → P q b o → PA (q + 1) after o × Y
 
 -- what is pending of a file is given up at a refusal, or cut
-pub record Gives (next : Next) (final : Opens) (B : List ℕ → Type 0) (P R : Fact) : Type 0 where
+pub record Gives (next : Step) (final : Opens) (B : List ℕ → Type 0) (P R : Fact) : Type 0 where
   pub gives : (file : List ℕ) (fault : Fault) (q : ℕ) (b after : Pending) (o : List LaneFile) → next ≡ nexts.Done (answers.Refused fault) → B file → (IsOpen final file → ⊥)
       → is_quiet file b ≡ true
       → OnFile b after file nothing → P q b o → R q after o
   pub same : (q : ℕ) (b : Pending) (o : List LaneFile) → P q b o → R q b o
 
 -- a put gives up what is pending of its file where it is the first in the order there, S says where it stands, and no other put is at the file
-pub record GivesAlone (lane : ℕ) (next : Next) (final : Shelf) (S : List ℕ → List LaneFile → Type 0) (R : Fact) : Type 0 where
+pub record GivesAlone (lane : ℕ) (next : Step) (final : Shelf) (S : List ℕ → List LaneFile → Type 0) (R : Fact) : Type 0 where
   pub gives : (file : List ℕ) (fault : Fault) (q : ℕ) (b after : Pending) (o : List LaneFile) → next ≡ nexts.Done (answers.Refused fault) → S file o → is_first lane o ≡ true
       → (IsOpen final.opens file → ⊥) → list_any (is_other lane file) final.puts ≡ false → is_quiet file b ≡ true → OnFile b after file nothing → R q b o → R q after o
 
@@ -122,31 +122,31 @@ CloseHas P K X B (closing.ToRemove r) q b o = P q b o × (r.refusal ≡ None →
 CloseHas P K X B (closing.Removing r) q b o = P q b o × (r.refusal ≡ None → X) × B r.file
 
 -- what a step leads to: H of the state that goes on; P and X at a good end, and R at a refusal
-abbrev pub Fin : {S : Type 0} → Fact → Fact → (S → Fact) → Type 0 → Next → S → Fact
+abbrev pub Fin : {S : Type 0} → Fact → Fact → (S → Fact) → Type 0 → Step → S → Fact
 Fin P R H X (nexts.Send call) state q b o = H state q b o
 Fin P R H X nexts.Wait state q b o = H state q b o
 Fin P R H X (nexts.Done (answers.Done value)) state q b o = P q b o × X
 Fin P R H X (nexts.Done (answers.Refused fault)) state q b o = R q b o
 
-abbrev pub FinAt : {S : Type 0} → Fact → Fact → (S → Fact) → Type 0 → Next → S → Shelf → Type 0
+abbrev pub FinAt : {S : Type 0} → Fact → Fact → (S → Fact) → Type 0 → Step → S → Shelf → Type 0
 FinAt P R H X next state s = Fin P R H X next state s.seq s.back s.order
 
-to-wait : {S : Type 0} → (P R : Fact) (H : S → Fact) (X : Type 0) (next : Next) (state to : S) (old new : Shelf) → next ≡ nexts.Wait → state ≡ to → new ≡ old → At (H to) old → FinAt P R H X next state new
+to-wait : {S : Type 0} → (P R : Fact) (H : S → Fact) (X : Type 0) (next : Step) (state to : S) (old new : Shelf) → next ≡ nexts.Wait → state ≡ to → new ≡ old → At (H to) old → FinAt P R H X next state new
 to-wait P R H X next state to old new n s o h = rw (n, s, o) h
 
-to-send : {S : Type 0} → (P R : Fact) (H : S → Fact) (X : Type 0) (call : Call) (next : Next) (state to : S) (old new : Shelf) → next ≡ nexts.Send call → state ≡ to → new ≡ old → At (H to) old
+to-send : {S : Type 0} → (P R : Fact) (H : S → Fact) (X : Type 0) (call : Call) (next : Step) (state to : S) (old new : Shelf) → next ≡ nexts.Send call → state ≡ to → new ≡ old → At (H to) old
     → FinAt P R H X next state new
 to-send P R H X call next state to old new n s o h = rw (n, s, o) h
 
-to-refused : {S : Type 0} → (P R : Fact) (H : S → Fact) (X : Type 0) (fault : Fault) (next : Next) (state : S) (new : Shelf) → next ≡ nexts.Done (answers.Refused fault) → At R new → FinAt P R H X next state new
+to-refused : {S : Type 0} → (P R : Fact) (H : S → Fact) (X : Type 0) (fault : Fault) (next : Step) (state : S) (new : Shelf) → next ≡ nexts.Done (answers.Refused fault) → At R new → FinAt P R H X next state new
 to-refused P R H X fault next state new n p = rw n p
 
-to-good : {S : Type 0} → (P R : Fact) (H : S → Fact) (X : Type 0) (next : Next) (state : S) (new : Shelf) → next ≡ nexts.Done (answers.Done Nothing) → At P new → X → FinAt P R H X next state new
+to-good : {S : Type 0} → (P R : Fact) (H : S → Fact) (X : Type 0) (next : Step) (state : S) (new : Shelf) → next ≡ nexts.Done (answers.Done Nothing) → At P new → X → FinAt P R H X next state new
 to-good P R H X next state new n p x = rw n (p, x)
 
 module _ (wsize : ℕ) (turn : Turn) (P R : Fact) (down : (q : ℕ) (b : Pending) (o : List LaneFile) → P q b o → R q b o) (K L : Saving → Fact) (X : Type 0) (B : List ℕ → Type 0) where
   module _ (lane : ℕ) (w : Level wsize lane turn P K L X B) where
-    sync-as : (gives : _) (saved : Saving) (old : Shelf) (next : Next) (state : Syncing) (new : Shelf) → syncs.Follows lane gives saved old.order next state new.order → new.seq ≡ old.seq
+    sync-as : (gives : _) (saved : Saving) (old : Shelf) (next : Step) (state : Syncing) (new : Shelf) → syncs.Follows lane gives saved old.order next state new.order → new.seq ≡ old.seq
         → Out P L X B (syncs.sync_next gives) saved old.seq new.back old.order → FinAt P R (SyncHas P L) X next state new
     sync-as gives saved old next state new f q l = by-step
         (λ g. syncs.Follows lane g saved old.order next state new.order → Out P L X B (syncs.sync_next g) saved old.seq new.back old.order → FinAt P R (SyncHas P L) X next state new)
@@ -159,13 +159,13 @@ module _ (wsize : ℕ) (turn : Turn) (P R : Fact) (down : (q : ℕ) (b : Pending
         ended (Err fault) f l =
             to-refused P R (SyncHas P L) X fault next state new f.next_is (at-as R old.seq new.back (left lane old.order) new q refl f.order_is (down old.seq new.back (left lane old.order) (w.leaves old.seq new.back old.order l.0)))
 
-    sync-queues : (b : Bool) → (s : Saving) (old : Shelf) (next : Next) (state : Syncing) (new : Shelf) → is_first lane old.order ≡ b → syncs.QueuesIf b wsize lane turn s old next state new → At (K s) old
+    sync-queues : (b : Bool) → (s : Saving) (old : Shelf) (next : Step) (state : Syncing) (new : Shelf) → is_first lane old.order ≡ b → syncs.QueuesIf b wsize lane turn s old next state new → At (K s) old
         → FinAt P R (SyncHas P L) X next state new
     sync-queues true s old next state new first g h =
         sync-as g.gives g.saved old next state new g.follows (ap (λ (z : Shelf). z.seq) g.others) (w.goes s old.seq old.back old.order g.gives g.saved new.back first g.goes h)
     sync-queues false s old next state new first g h = to-wait P R (SyncHas P L) X next state (syncing.Saves s) old new g.next_is g.state_is g.shelf_is (w.rests s old.seq old.back old.order h)
 
-  sync-starts : (m : SyncFile) (old : Shelf) (next : Next) (state : Syncing) (new : Shelf) → Level wsize m.lane turn P K L X B
+  sync-starts : (m : SyncFile) (old : Shelf) (next : Step) (state : Syncing) (new : Shelf) → Level wsize m.lane turn P K L X B
       → ((file : List ℕ) → file_at m.lane m.slot old.opens ≡ Some file → B file) → syncs.Starts wsize m turn old next state new → At P old → FinAt P R (SyncHas P L) X next state new
   sync-starts m old next state new w begins s p = by (file_at m.lane m.slot old.opens) refl s
     where
@@ -175,12 +175,12 @@ module _ (wsize : ℕ) (turn : Turn) (P R : Fact) (down : (q : ℕ) (b : Pending
           sync-queues m.lane w (is_first m.lane (joined m.lane file old).order) (saves.begun file old.seq) (joined m.lane file old) next state new refl s
           (w.joins file old.seq old.back old.order (begins file is) p)
 
-  sync-resumes : (at : Syncing) (m : SyncFile) (old : Shelf) (next : Next) (state : Syncing) (new : Shelf) → Level wsize m.lane turn P K L X B → syncs.Resumes at wsize m turn old next state new
+  sync-resumes : (at : Syncing) (m : SyncFile) (old : Shelf) (next : Step) (state : Syncing) (new : Shelf) → Level wsize m.lane turn P K L X B → syncs.Resumes at wsize m turn old next state new
       → At (SyncHas P K at) old → FinAt P R (SyncHas P L) X next state new
   sync-resumes syncing.Idle m old next state new w r h = to-wait P R (SyncHas P L) X next state syncing.Idle old new r.next_is r.state_is r.shelf_is h
   sync-resumes (syncing.Saves s) m old next state new w r h = sync-queues m.lane w (is_first m.lane old.order) s old next state new refl r h
 
-  sync-takes : (sent : Turn) (came : Result Reply Fault) (N : Saving → Pending → Type 0) → Replies wsize sent turn came N P K L X B → (at : Syncing) (m : SyncFile) (old : Shelf) (next : Next)
+  sync-takes : (sent : Turn) (came : Result Reply Fault) (N : Saving → Pending → Type 0) → Replies wsize sent turn came N P K L X B → (at : Syncing) (m : SyncFile) (old : Shelf) (next : Step)
       (state : Syncing) (new : Shelf) → Level wsize m.lane turn P K L X B → syncs.Takes at wsize m sent turn came old next state new
       → ((s : Saving) → at ≡ syncing.Saves s → N s old.back) → At (SyncHas P K at) old → FinAt P R (SyncHas P L) X next state new
   sync-takes sent came N v syncing.Idle m old next state new w t n h = to-wait P R (SyncHas P L) X next state syncing.Idle old new t.next_is t.state_is t.shelf_is h
@@ -190,7 +190,7 @@ module _ (wsize : ℕ) (turn : Turn) (P R : Fact) (down : (q : ℕ) (b : Pending
 
   -- ---- closes
 
-  module _ (next : Next) (final : Opens) (g : Gives next final B P R) where
+  module _ (next : Step) (final : Opens) (g : Gives next final B P R) where
     given-if : (quiet b : Bool) (file : List ℕ) (fault : Fault) (q : ℕ) (old new : Pending) (o : List LaneFile) → next ≡ nexts.Done (answers.Refused fault) → B file
         → (b ≡ true → IsOpen final file → ⊥) → is_quiet file old ≡ quiet
         → GivesIf (b && quiet) file old new → P q old o → R q new o
@@ -331,13 +331,13 @@ abbrev pub NoFile : List ℕ → Type 0
 NoFile file = Unit {0}
 
 -- N: where a refused one stands in the order
-abbrev pub WriteFin : Fact → (List LaneFile → Type 0) → Fact → (Writing → Fact) → Type 0 → Next → Writing → Fact
+abbrev pub WriteFin : Fact → (List LaneFile → Type 0) → Fact → (Writing → Fact) → Type 0 → Step → Writing → Fact
 WriteFin P N PA H Y (nexts.Send call) state q b o = H state q b o
 WriteFin P N PA H Y nexts.Wait state q b o = H state q b o
 WriteFin P N PA H Y (nexts.Done (answers.Done value)) state q b o = PA q b o × Y
 WriteFin P N PA H Y (nexts.Done (answers.Refused fault)) state q b o = P q b o × N o
 
-abbrev pub WriteFinAt : Fact → (List LaneFile → Type 0) → Fact → (Writing → Fact) → Type 0 → Next → Writing → Shelf → Type 0
+abbrev pub WriteFinAt : Fact → (List LaneFile → Type 0) → Fact → (Writing → Fact) → Type 0 → Step → Writing → Shelf → Type 0
 WriteFinAt P N PA H Y next state s = WriteFin P N PA H Y next state s.seq s.back s.order
 
 abbrev pub AnyPlace : List LaneFile → Type 0
@@ -351,13 +351,13 @@ module _ (wsize : ℕ) (turn : Turn) (P : Fact) (K L : Saving → Fact) (PA : Fa
   abbrev Had : Writing → Fact
   Had state = RoomHas P K A offset bytes state
 
-  write-wait : (next : Next) (state to : Writing) (old new : Shelf) → next ≡ nexts.Wait → state ≡ to → new ≡ old → At (Has to) old → WriteFinAt P Off PA Has Y next state new
+  write-wait : (next : Step) (state to : Writing) (old new : Shelf) → next ≡ nexts.Wait → state ≡ to → new ≡ old → At (Has to) old → WriteFinAt P Off PA Has Y next state new
   write-wait next state to old new n s o h = rw (n, s, o) h
 
-  write-refused : (fault : Fault) (next : Next) (state : Writing) (new : Shelf) → next ≡ nexts.Done (answers.Refused fault) → At P new → Off new.order → WriteFinAt P Off PA Has Y next state new
+  write-refused : (fault : Fault) (next : Step) (state : Writing) (new : Shelf) → next ≡ nexts.Done (answers.Refused fault) → At P new → Off new.order → WriteFinAt P Off PA Has Y next state new
   write-refused fault next state new n p away = rw n (p, away)
 
-  room-as : (told : _) (file : List ℕ) (saved : Saving) (shelf : Shelf) (next : Next) (state : Writing) (after : Shelf)
+  room-as : (told : _) (file : List ℕ) (saved : Saving) (shelf : Shelf) (next : Step) (state : Writing) (after : Shelf)
       → writes.Leads (writes.room_next told) (writes.room_state told file saved) (writes.room_shelf told lane shelf) next state after → A file offset bytes
       → EndsSo ⊥ (syncs.sync_next told) → At (Out P L (Unit {0}) NoFile (syncs.sync_next told) saved) shelf → WriteFinAt P Off PA Has Y next state after
   room-as told file saved shelf next state after r given on l = by-step
@@ -376,7 +376,7 @@ module _ (wsize : ℕ) (turn : Turn) (P : Fact) (K L : Saving → Fact) (PA : Fa
           (w.leaves shelf.seq shelf.back shelf.order l.0))
           (subst Off (sym (ap (λ (z : Shelf). z.order) r.shelf_is)) (out shelf.seq shelf.back shelf.order l.0))
 
-  write-saves : (b : Bool) (file : List ℕ) (s : Saving) (shelf : Shelf) (next : Next) (state : Writing) (after : Shelf) → is_first lane shelf.order ≡ b
+  write-saves : (b : Bool) (file : List ℕ) (s : Saving) (shelf : Shelf) (next : Step) (state : Writing) (after : Shelf) → is_first lane shelf.order ≡ b
       → writes.SavesIf b wsize lane file s turn shelf next state after → A file offset bytes → At (K s) shelf → WriteFinAt P Off PA Has Y next state after
   write-saves false file s shelf next state after first r given h =
       write-wait next state (writing.Room file s) shelf after r.gives_next r.keeps r.shelf_is (w.rests s shelf.seq shelf.back shelf.order h, given)
@@ -385,11 +385,11 @@ module _ (wsize : ℕ) (turn : Turn) (P : Fact) (K L : Saving → Fact) (PA : Fa
       (goes-not wsize turn.xid turn.room s shelf.back r.told r.saved r.back r.goes)
       (w.goes s shelf.seq shelf.back shelf.order r.told r.saved r.back first r.goes h)
 
-  write-writes : (file : List ℕ) (shelf : Shelf) (next : Next) (state : Writing) (after : Shelf) → A file offset bytes → (next ≡ nexts.Done (answers.Done Nothing) → W)
+  write-writes : (file : List ℕ) (shelf : Shelf) (next : Step) (state : Writing) (after : Shelf) → A file offset bytes → (next ≡ nexts.Done (answers.Done Nothing) → W)
       → Off shelf.order → writes.Writes wsize lane file offset bytes turn shelf next state after → At P shelf → WriteFinAt P Off PA Has Y next state after
   write-writes file shelf next state after given end away wrote p = by (is_full bytes shelf.back) refl wrote
     where
-      good : (answer : Next) → next ≡ nexts.Done (answers.Done Nothing) → At PA after × Y → WriteFinAt P Off PA Has Y next state after
+      good : (answer : Step) → next ≡ nexts.Done (answers.Done Nothing) → At PA after × Y → WriteFinAt P Off PA Has Y next state after
       good answer n l = rw n l
 
       by : (b : Bool) → is_full bytes shelf.back ≡ b → writes.WritesIf b wsize lane file offset bytes turn shelf next state after → WriteFinAt P Off PA Has Y next state after
@@ -403,13 +403,13 @@ module _ (wsize : ℕ) (turn : Turn) (P : Fact) (K L : Saving → Fact) (PA : Fa
           (at-as PA (shelf.seq + 1) after.back shelf.order after (ap (λ (z : Shelf). z.seq) s.leads.shelf_is) refl (ap (λ (z : Shelf). z.order) s.leads.shelf_is) l.0, l.1)
       by false full (inr s) = write-refused _ next state after s.gives_next (shelf-at P shelf after s.shelf_is p) (subst Off (sym (ap (λ (z : Shelf). z.order) s.shelf_is)) away)
 
-  pub write-resumes : (at : Writing) (old : Shelf) (next : Next) (state : Writing) (after : Shelf) → writes.ResumesIn at wsize lane turn old next state after → At (Had at) old
+  pub write-resumes : (at : Writing) (old : Shelf) (next : Step) (state : Writing) (after : Shelf) → writes.ResumesIn at wsize lane turn old next state after → At (Had at) old
       → WriteFinAt P Off PA Has Y next state after
   write-resumes writing.Idle old next state after r h = write-wait next state writing.Idle old after r.gives_next r.keeps r.shelf_is h
   write-resumes (writing.Room file s) old next state after r h = write-saves (is_first lane old.order) file s old next state after refl r h.1 h.0
 
   pub write-takes : (sent : Turn) (came : Result Reply Fault) (N : Saving → Pending → Type 0) → Replies wsize sent turn came N P K L (Unit {0}) NoFile → (at : Writing) (m : WriteFile) (old : Shelf)
-      (next : Next) (state : Writing) (after : Shelf) → m.lane ≡ lane → m.offset ≡ offset → writes.made_bytes m.text ≡ bytes → (next ≡ nexts.Done (answers.Done Nothing) → W)
+      (next : Step) (state : Writing) (after : Shelf) → m.lane ≡ lane → m.offset ≡ offset → writes.made_bytes m.text ≡ bytes → (next ≡ nexts.Done (answers.Done Nothing) → W)
       → writes.TakesIn at wsize m sent turn came old next state after → ((file : List ℕ) (s : Saving) → at ≡ writing.Room file s → N s old.back) → At (Had at) old
       → WriteFinAt P Off PA Has Y next state after
   write-takes sent came N v writing.Idle m old next state after own from text end t n h = write-wait next state writing.Idle old after t.gives_next t.keeps t.shelf_is h
@@ -445,7 +445,7 @@ PutHas P K KA A m (putting.Adds file) q b o = RoomHas P K (λ g k bs. A g k bs �
 PutHas P K KA A m (putting.Saves s) q b o = KA s q b o
 
 -- A of the bytes of a put and of the file that it has opened, where its opening ends at this step; and it isn't the first of a file
-abbrev pub PutOpens : (List ℕ → ℕ → List ℕ → Type 0) → (at : Putting) (wsize : ℕ) (m : PutFile) (sent turn : Turn) (came : Result Reply Fault) (old : Shelf) (next : Next) (new : PutFile) (after : Shelf)
+abbrev pub PutOpens : (List ℕ → ℕ → List ℕ → Type 0) → (at : Putting) (wsize : ℕ) (m : PutFile) (sent turn : Turn) (came : Result Reply Fault) (old : Shelf) (next : Step) (new : PutFile) (after : Shelf)
     → puts.Takes at wsize m sent turn came old next new after → Type 0
 PutOpens A putting.Idle wsize m sent turn came old next new after t = Unit {0}
 PutOpens A putting.Opens wsize m sent turn came old next new after t =
@@ -453,7 +453,7 @@ PutOpens A putting.Opens wsize m sent turn came old next new after t =
 PutOpens A (putting.Adds file) wsize m sent turn came old next new after t = Unit {0}
 PutOpens A (putting.Saves s) wsize m sent turn came old next new after t = Unit {0}
 
-abbrev pub PutFin : Fact → Fact → (PutFile → Fact) → Type 0 → Next → PutFile → Fact
+abbrev pub PutFin : Fact → Fact → (PutFile → Fact) → Type 0 → Step → PutFile → Fact
 PutFin PA R H X (nexts.Send call) new q b o = H new q b o
 PutFin PA R H X nexts.Wait new q b o = H new q b o
 PutFin PA R H X (nexts.Done (answers.Done value)) new q b o = PA q b o × X
@@ -475,7 +475,7 @@ one-file A W P PA B file a = record {
 }
 
 module _ (wsize : ℕ) (turn : Turn) (P R : Fact) (K L : Saving → Fact) (PA : Fact) (KA LA : Saving → Fact) (X : Type 0) (B : List ℕ → Type 0) (A : List ℕ → ℕ → List ℕ → Type 0) (W : Type 0) (yes_ : W)
-    (a : Brings A W P PA B) (next : Next) (final : Shelf) (lane : ℕ) (S : List ℕ → List LaneFile → Type 0) (stands : (s : Saving) (q : ℕ) (b : Pending) (o : List LaneFile) → KA s q b o → S s.file o)
+    (a : Brings A W P PA B) (next : Step) (final : Shelf) (lane : ℕ) (S : List ℕ → List LaneFile → Type 0) (stands : (s : Saving) (q : ℕ) (b : Pending) (o : List LaneFile) → KA s q b o → S s.file o)
     (out : (q : ℕ) (b : Pending) (o : List LaneFile) → P q b o → is_first lane (left lane o) ≡ false) (g : GivesAlone lane next final S R) (enough : (q : ℕ) (b : Pending) (o : List LaneFile) → P q b o → R q b o)
     (less : (q : ℕ) (b : Pending) (o : List LaneFile) → PA q b o → R q b o) (leave : (q : ℕ) (b : Pending) (o : List LaneFile) → R q b o → R q b (left lane o)) (room : Level wsize lane turn P K L (Unit {0}) NoFile) (own : Level wsize lane turn PA KA LA X B) where
   -- it isn't the first of a file
@@ -567,7 +567,7 @@ module _ (wsize : ℕ) (turn : Turn) (P R : Fact) (K L : Saving → Fact) (PA : 
       (at-as (Out PA LA X B (syncs.sync_next k.gives) k.saved) old.seq k.gone.back old.order k.gone (ap (λ (z : Shelf). z.seq) k.others) refl (ap (λ (z : Shelf). z.order) k.others)
       (own.goes s old.seq old.back old.order k.gives k.saved k.gone.back first k.goes h))
 
-  put-wrote : (told : Next) (file : List ℕ) (offset : ℕ) (bytes : List ℕ) (written : Writing) (old : Shelf) (new : PutFile) (after : Shelf)
+  put-wrote : (told : Step) (file : List ℕ) (offset : ℕ) (bytes : List ℕ) (written : Writing) (old : Shelf) (new : PutFile) (after : Shelf)
       → puts.AfterWrite told wsize lane file turn old next new.state after → new.write.state ≡ written → new.write.offset ≡ offset → writes.made_bytes new.write.text ≡ bytes
       → WriteFinAt P Away PA (RoomHas P L (λ g k bs. A g k bs × (g ≡ file)) offset bytes) (B file) told written old → PutFinAt new after
   put-wrote (nexts.Send call) file offset bytes written old new after f state from text l = put-send call new (putting.Adds file) old after f.0 f.1 f.2 (rw (state, from, text) l)
@@ -577,7 +577,7 @@ module _ (wsize : ℕ) (turn : Turn) (P R : Fact) (K L : Saving → Fact) (PA : 
       (own.joins file old.seq old.back old.order l.1 l.0)
   put-wrote (nexts.Done (answers.Refused fault)) file offset bytes written old new after f state from text l = ends-refused file fault old new.state new after f (λ first. absurd (let no_way : false ≡ true = sym l.1 ∙ first in cc)) (enough old.seq old.back old.order l.0)
 
-  put-writes-on : (m : PutFile) (file : List ℕ) (told : Next) (written : Writing) (mid : Shelf) (new : PutFile) (after : Shelf) → m.write.lane ≡ lane
+  put-writes-on : (m : PutFile) (file : List ℕ) (told : Step) (written : Writing) (mid : Shelf) (new : PutFile) (after : Shelf) → m.write.lane ≡ lane
       → puts.WritesOn wsize m file turn told written mid next new after
       → WriteFinAt P Away PA (RoomHas P L (λ g k bs. A g k bs × (g ≡ file)) m.write.offset (writes.made_bytes m.write.text)) (B file) told written mid → PutFinAt new after
   put-writes-on m file told written mid new after same k l =
@@ -585,7 +585,7 @@ module _ (wsize : ℕ) (turn : Turn) (P R : Fact) (K L : Saving → Fact) (PA : 
       (subst (λ (n : ℕ). puts.AfterWrite told wsize n file turn mid next new.state after) same k.follows)
       (ap (λ (z : PutFile). z.write.state) k.machine_is) (ap (λ (z : PutFile). z.write.offset) k.machine_is) (ap (λ (z : PutFile). writes.made_bytes z.write.text) k.machine_is) l
 
-  put-opened : (step : OpeningNext) (m : PutFile) (old : Shelf) (new : PutFile) (after : Shelf) → m.write.lane ≡ lane → m.state ≡ putting.Opens
+  put-opened : (step : OpeningStep) (m : PutFile) (old : Shelf) (new : PutFile) (after : Shelf) → m.write.lane ≡ lane → m.state ≡ putting.Opens
       → puts.AfterOpening step wsize m turn old next new after → At P old
       → ((file : List ℕ) → step ≡ openings.Ended (Ok file) → A file m.write.offset (writes.made_bytes m.write.text) × (is_first m.write.lane old.order ≡ false)) → PutFinAt new after
   put-opened (openings.Send call) m old new after same at f p given =
@@ -647,7 +647,7 @@ TruncateHas P C size truncating.Idle q b o = P q b o
 TruncateHas P C size (truncating.Queued file upto) q b o = P q b o × C file size upto
 TruncateHas P C size (truncating.Asked file upto) q b o = P q b o × C file size upto
 
-abbrev pub AnyFin : Fact → Fact → Next → Fact
+abbrev pub AnyFin : Fact → Fact → Step → Fact
 AnyFin R H (nexts.Send call) q b o = H q b o
 AnyFin R H nexts.Wait q b o = H q b o
 AnyFin R H (nexts.Done answer) q b o = R q b o
@@ -656,10 +656,10 @@ module _ (turn : Turn) (P R : Fact) (C : List ℕ → ℕ → ℕ → Type 0) (m
   abbrev CutHas : Truncating → Fact
   CutHas state = TruncateHas P C m.size state
 
-  abbrev CutFin : Next → Truncating → Shelf → Type 0
+  abbrev CutFin : Step → Truncating → Shelf → Type 0
   CutFin next state s = AnyFin R (CutHas state) next s.seq s.back s.order
 
-  cut-queued : (file : List ℕ) (upto : ℕ) (old : Shelf) (next : Next) (state : Truncating) (new : Shelf) → next ≡ truncates.queued_next m file turn old → state ≡ truncates.queued_state m file upto turn old
+  cut-queued : (file : List ℕ) (upto : ℕ) (old : Shelf) (next : Step) (state : Truncating) (new : Shelf) → next ≡ truncates.queued_next m file turn old → state ≡ truncates.queued_state m file upto turn old
       → new ≡ old → At P old → C file m.size upto → CutFin next state new
   cut-queued file upto old next state new n s o p c = by (truncates.may_ask m.lane file turn old) refl
     where
@@ -667,12 +667,12 @@ module _ (turn : Turn) (P R : Fact) (C : List ℕ → ℕ → ℕ → Type 0) (m
       by true e = let asks : next ≡ nexts.Send (truncates.size_call file m.size) = (rw e at n) in let then_ : state ≡ truncating.Asked file upto = (rw e at s) in rw (asks, then_, o) (p, c)
       by false e = let waits : next ≡ nexts.Wait = (rw e at n) in let then_ : state ≡ truncating.Queued file upto = (rw e at s) in rw (waits, then_, o) (p, c)
 
-  cut-starts : (found : Result (List ℕ) Fault) (old : Shelf) (next : Next) (state : Truncating) (new : Shelf) → next ≡ truncates.begun_next found m turn old → state ≡ truncates.begun_state found m turn old
+  cut-starts : (found : Result (List ℕ) Fault) (old : Shelf) (next : Step) (state : Truncating) (new : Shelf) → next ≡ truncates.begun_next found m turn old → state ≡ truncates.begun_state found m turn old
       → new ≡ truncates.begun_shelf found m old → ((file : List ℕ) → found ≡ Ok file → C file m.size old.seq) → At P old → CutFin next state new
   cut-starts (Ok file) old next state new n s o c p = cut-queued file old.seq (joined m.lane file old) next state new n s o (w.joins_in file old.seq old.back old.order p) (c file refl)
   cut-starts (Err fault) old next state new n s o c p = rw (n, o) (w.uncut old.seq old.back old.order p)
 
-  cut-resumes : (at : Truncating) (old : Shelf) (next : Next) (state : Truncating) (new : Shelf) → next ≡ truncates.resumed_next at m turn old → state ≡ truncates.resumed_state at m turn old → new ≡ old
+  cut-resumes : (at : Truncating) (old : Shelf) (next : Step) (state : Truncating) (new : Shelf) → next ≡ truncates.resumed_next at m turn old → state ≡ truncates.resumed_state at m turn old → new ≡ old
       → At (CutHas at) old → CutFin next state new
   cut-resumes truncating.Idle old next state new n s o h = rw (n, s, o) h
   cut-resumes (truncating.Queued file upto) old next state new n s o h = cut-queued file upto old next state new n s o h.0 h.1
@@ -686,11 +686,11 @@ module _ (turn : Turn) (P R : Fact) (C : List ℕ → ℕ → ℕ → Type 0) (m
   cut-back (Ok wcc) file upto q old new o k c p = cut-quiet (is_quiet file old) file upto q old new o refl k c p
   cut-back (Err fault) file upto q old new o k c p = subst (λ (z : Pending). R q z o) (sym k) (w.uncut q old o p)
 
-  told-fin : (told : Result Wcc Fault) (next : Next) (state : Truncating) (new : Shelf) → next ≡ truncates.told_next told → At R new → CutFin next state new
+  told-fin : (told : Result Wcc Fault) (next : Step) (state : Truncating) (new : Shelf) → next ≡ truncates.told_next told → At R new → CutFin next state new
   told-fin (Ok wcc) next state new n p = rw n p
   told-fin (Err fault) next state new n p = rw n p
 
-  cut-takes : (at : Truncating) (sent : Turn) (came : Result Reply Fault) (old : Shelf) (next : Next) (state : Truncating) (new : Shelf) → next ≡ truncates.took_next at m came sent turn old.repeats
+  cut-takes : (at : Truncating) (sent : Turn) (came : Result Reply Fault) (old : Shelf) (next : Step) (state : Truncating) (new : Shelf) → next ≡ truncates.took_next at m came sent turn old.repeats
       → state ≡ truncates.took_state at came sent turn old.repeats → truncates.TookBack at m came old.back new.back → new ≡ truncates.took_shelf at m came sent turn new.attrs new.back old
       → At (CutHas at) old → CutFin next state new
   cut-takes truncating.Idle sent came old next state new n s k o h = rw (n, s, o) h
@@ -768,7 +768,7 @@ FileBad j (files.Close m) q b o = j.R q b o
 FileBad j (files.Truncate m) q b o = j.R q b o
 FileBad j (files.Put m) q b o = j.R q b o
 
-abbrev pub FileFin : Job → Next → FileMachine → Fact
+abbrev pub FileFin : Job → Step → FileMachine → Fact
 FileFin j (nexts.Send call) m q b o = FileHas (ended j) m q b o
 FileFin j nexts.Wait m q b o = FileHas (ended j) m q b o
 FileFin j (nexts.Done (answers.Done value)) m q b o = FileGood j m q b o
@@ -795,14 +795,14 @@ file_lane lane (files.Truncate m) = m.lane
 file_lane lane (files.Put m) = m.write.lane
 
 -- how the end of a write is known, and that it's a close or a put, which may give up what is pending
-abbrev pub WriteKnown : Type 0 → (Bool → Shelf → Type 0) → FileMachine → Next → Shelf → Type 0
+abbrev pub WriteKnown : Type 0 → (Bool → Shelf → Type 0) → FileMachine → Step → Shelf → Type 0
 WriteKnown W Z (files.Write m) next final = next ≡ nexts.Done (answers.Done Nothing) → W
 WriteKnown W Z (files.Close m) next final = Z true final
 WriteKnown W Z (files.Put m) next final = W × Z false final
 WriteKnown W Z machine next final = W
 
 -- A of the bytes of a put and of the file that it has opened, where its opening ends at this step
-abbrev pub FileOpens : (List ℕ → ℕ → List ℕ → Type 0) → (wsize : ℕ) (m : FileMachine) (sent turn : Turn) (came : Result Reply Fault) (old : Shelf) (next : Next) (new : FileMachine) (after : Shelf)
+abbrev pub FileOpens : (List ℕ → ℕ → List ℕ → Type 0) → (wsize : ℕ) (m : FileMachine) (sent turn : Turn) (came : Result Reply Fault) (old : Shelf) (next : Step) (new : FileMachine) (after : Shelf)
     → steps.Takes wsize m sent turn came old next new after → Type 0
 FileOpens A wsize (files.Open m) sent turn came old next new after t = Unit {0}
 FileOpens A wsize (files.Read m) sent turn came old next new after t = Unit {0}
@@ -844,7 +844,7 @@ file_save (files.Truncate m) = None
 file_save (files.Put m) = putting_save m.state m.write.state
 
 -- what each step of an operation with such laws keeps
-pub record JobLaws (j : Job) (wsize lane : ℕ) (turn : Turn) (next : Next) (W : Type 0) (Z : Bool → Shelf → Type 0) : Type 0 where
+pub record JobLaws (j : Job) (wsize lane : ℕ) (turn : Turn) (next : Step) (W : Type 0) (Z : Bool → Shelf → Type 0) : Type 0 where
   pub room : Level wsize lane turn j.P j.K j.L (Unit {0}) NoFile
   pub own : Level wsize lane turn j.PA j.KA j.LA j.X j.B
   pub adds : Brings j.A W j.P j.PA j.B
@@ -871,7 +871,7 @@ FileEnters j (files.Close m) = j.PA
 FileEnters j (files.Truncate m) = j.P
 FileEnters j (files.Put m) = j.P
 
-module _ (j : Job) (lane wsize : ℕ) (turn : Turn) (next : Next) (W : Type 0) (Z : Bool → Shelf → Type 0) where
+module _ (j : Job) (lane wsize : ℕ) (turn : Turn) (next : Step) (W : Type 0) (Z : Bool → Shelf → Type 0) where
   abbrev pub FileFinAt : FileMachine → Shelf → Type 0
   FileFinAt m s = FileFin j next m s.seq s.back s.order
 
@@ -883,7 +883,7 @@ module _ (j : Job) (lane wsize : ℕ) (turn : Turn) (next : Next) (W : Type 0) (
       here : At j.P new
       here = at-as j.P old.seq old.back old.order new seq back order p
 
-      by : (n : Next) → FileFin j n m new.seq new.back new.order
+      by : (n : Step) → FileFin j n m new.seq new.back new.order
       by (nexts.Send call) = has new here
       by nexts.Wait = has new here
       by (nexts.Done (answers.Done value)) = good new here
@@ -897,7 +897,7 @@ module _ (j : Job) (lane wsize : ℕ) (turn : Turn) (next : Next) (W : Type 0) (
       (subst (λ (bs : List ℕ). WriteFinAt j.P AnyPlace j.PA (RoomHas j.P j.L j.A new.offset bs) (Unit {0}) next new.state after) (sym text)
       (subst (λ (k : ℕ). WriteFinAt j.P AnyPlace j.PA (RoomHas j.P j.L j.A k bytes) (Unit {0}) next new.state after) (sym from) l))
     where
-      by : (n : Next) → WriteFinAt j.P AnyPlace j.PA (RoomHas j.P j.L j.A new.offset (writes.made_bytes new.text)) (Unit {0}) n new.state after → FileFin j n (files.Write new) after.seq after.back after.order
+      by : (n : Step) → WriteFinAt j.P AnyPlace j.PA (RoomHas j.P j.L j.A new.offset (writes.made_bytes new.text)) (Unit {0}) n new.state after → FileFin j n (files.Write new) after.seq after.back after.order
       by (nexts.Send call) l = l
       by nexts.Wait l = l
       by (nexts.Done (answers.Done value)) l = l.0
@@ -907,7 +907,7 @@ module _ (j : Job) (lane wsize : ℕ) (turn : Turn) (next : Next) (W : Type 0) (
       → FileFinAt (files.Sync m) after
   sync-fin m after l = by next l
     where
-      by : (n : Next) → FinAt j.PA j.R (SyncHas j.PA j.LA) j.X n m.state after → FileFin j n (files.Sync m) after.seq after.back after.order
+      by : (n : Step) → FinAt j.PA j.R (SyncHas j.PA j.LA) j.X n m.state after → FileFin j n (files.Sync m) after.seq after.back after.order
       by (nexts.Send call) l = l
       by nexts.Wait l = l
       by (nexts.Done (answers.Done value)) l = l
@@ -917,7 +917,7 @@ module _ (j : Job) (lane wsize : ℕ) (turn : Turn) (next : Next) (W : Type 0) (
       → FileFinAt (files.Close m) after
   close-fin m after l = by next l
     where
-      by : (n : Next) → FinAt j.PA j.R (CloseHas j.PA j.LA j.X j.B) j.X n m.state after → FileFin j n (files.Close m) after.seq after.back after.order
+      by : (n : Step) → FinAt j.PA j.R (CloseHas j.PA j.LA j.X j.B) j.X n m.state after → FileFin j n (files.Close m) after.seq after.back after.order
       by (nexts.Send call) l = l
       by nexts.Wait l = l
       by (nexts.Done (answers.Done value)) l = l
@@ -926,7 +926,7 @@ module _ (j : Job) (lane wsize : ℕ) (turn : Turn) (next : Next) (W : Type 0) (
   cut-fin : (m new : TruncateFile) (after : Shelf) → new.size ≡ m.size → AnyFin j.R (TruncateHas j.P j.C m.size new.state) next after.seq after.back after.order → FileFinAt (files.Truncate new) after
   cut-fin m new after size l = by next (subst (λ (k : ℕ). AnyFin j.R (TruncateHas j.P j.C k new.state) next after.seq after.back after.order) (sym size) l)
     where
-      by : (n : Next) → AnyFin j.R (TruncateHas j.P j.C new.size new.state) n after.seq after.back after.order → FileFin j n (files.Truncate new) after.seq after.back after.order
+      by : (n : Step) → AnyFin j.R (TruncateHas j.P j.C new.size new.state) n after.seq after.back after.order → FileFin j n (files.Truncate new) after.seq after.back after.order
       by (nexts.Send call) l = l
       by nexts.Wait l = l
       by (nexts.Done (answers.Done value)) l = l
@@ -935,7 +935,7 @@ module _ (j : Job) (lane wsize : ℕ) (turn : Turn) (next : Next) (W : Type 0) (
   put-fin : (new : PutFile) (after : Shelf) → PutFin j.PA j.R (λ m. PutHas j.P j.L j.LA j.A m m.state) j.X next new after.seq after.back after.order → FileFinAt (files.Put new) after
   put-fin new after l = by next l
     where
-      by : (n : Next) → PutFin j.PA j.R (λ m. PutHas j.P j.L j.LA j.A m m.state) j.X n new after.seq after.back after.order → FileFin j n (files.Put new) after.seq after.back after.order
+      by : (n : Step) → PutFin j.PA j.R (λ m. PutHas j.P j.L j.LA j.A m m.state) j.X n new after.seq after.back after.order → FileFin j n (files.Put new) after.seq after.back after.order
       by (nexts.Send call) l = l
       by nexts.Wait l = l
       by (nexts.Done (answers.Done value)) l = l

@@ -1,6 +1,6 @@
 -- Each step of a lane leaves the other lanes as they are.
-use Rattle.core_session.proofs.Prelude.{◌≡◌, ◌≢◌, ℕ, inl, inr, List, [], ◌∷◌, ◌++◌, length, Some, Result, slice_get, refl, sym, ap, subst, ◌∙◌, Fault, Reply, Turn, Next, Machine, Lane, State, Busy, Over, with_state, Stirs, counted, StartsLane, TakesAt, Leads, View, taken_one, at-set, at-push, set-other}
-use Rattle.client_shelf.specs.declared.next.Next.TheVariants as nexts
+use Rattle.core_session.proofs.Prelude.{◌≡◌, ◌≢◌, ℕ, inl, inr, List, [], ◌∷◌, ◌++◌, length, Some, Result, slice_get, refl, sym, ap, subst, ◌∙◌, Fault, Reply, Turn, Step, Machine, Lane, State, Busy, Over, with_state, Stirs, counted, StartsLane, TakesAt, Leads, View, taken_one, at-set, at-push, set-other}
+use Rattle.client_shelf.specs.declared.step.Step.TheVariants as nexts
 use Rattle.core_session.proofs.syncs.Plans.{stays-but, push-but}
 use Rattle.core_session.proofs.syncs.Seen.{ButFor}
 
@@ -10,7 +10,7 @@ record LeadsTo (lanes : List Lane) (at number : ℕ) (new : View) : Type 0 where
   here : slice_get new.lanes at ≡ Some (record { number = number; state = state })
   others : (k : ℕ) → k ≢ at → slice_get new.lanes k ≡ slice_get lanes k
 
-leads-to : (v new : View) (at number : ℕ) (machine : Machine) (next : Next) → slice_get v.lanes at ≡ Some (record { number = number; state = Busy machine }) → Leads v at number machine next new
+leads-to : (v new : View) (at number : ℕ) (machine : Machine) (next : Step) → slice_get v.lanes at ≡ Some (record { number = number; state = Busy machine }) → Leads v at number machine next new
     → LeadsTo v.lanes at number new
 leads-to v new at number machine (nexts.Send call) there (inl made) = subst (LeadsTo v.lanes at number) (sym made.is) (record { state = Busy machine; here = there; others = λ k other. refl })
 leads-to v new at number machine (nexts.Send call) there (inr r) = subst (LeadsTo v.lanes at number) (sym r.is) (record {
@@ -31,7 +31,7 @@ pub record SteppedTo (f : List ℕ) (lanes new : List Lane) (at number : ℕ) : 
   pub but : ButFor f lanes new at (record { number = number; state = state })
 
 module _ (f : List ℕ) where
-  set-to : (old v new : View) (at number : ℕ) (machine after : Machine) (next : Next) → v.lanes ≡ (with_state old at number (Busy after) v.shelf).lanes → slice_get old.lanes at ≡ Some (record { number = number; state = Busy machine })
+  set-to : (old v new : View) (at number : ℕ) (machine after : Machine) (next : Step) → v.lanes ≡ (with_state old at number (Busy after) v.shelf).lanes → slice_get old.lanes at ≡ Some (record { number = number; state = Busy machine })
       → Leads v at number after next new → SteppedTo f old.lanes new.lanes at number
   set-to old v new at number machine after next is there l =
       let here = ap (λ (ls : List Lane). slice_get ls at) is ∙ at-set old.lanes at (record { number = number; state = Busy machine }) (record { number = number; state = Busy after }) there in

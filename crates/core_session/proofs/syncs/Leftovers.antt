@@ -1,11 +1,11 @@
 -- What a refused close gave up: its answer is owed, or the history shows that the last close left the file.
-use Rattle.core_session.proofs.Prelude.{◌≡◌, ◌⊎◌, inl, inr, ℕ, List, [], ◌∷◌, ◌++◌, length, false, Option, Some, None, option_map, slice_get, refl, sym, ap, subst, ◌∙◌, Opened, IsOpen, Opens, Fault, Entry, Began, Op, At, IsOf, InSlot, Terms, At-grow, At-one, Next, Shelf, file_at, joined, Mounted, Machine, machine_of, Starts, Lane, State, Busy, Over, Setup, IsIdle, counted, StartsLane, View, turn_at, AreApart, Reaches, GoesWith, always-later, at-push, Kind, plainly, kind_of, BeginsAs, Turned, IsFirst, IsOwed, CloseFile, Saving, IsPlain, save_in}
+use Rattle.core_session.proofs.Prelude.{◌≡◌, ◌⊎◌, inl, inr, ℕ, List, [], ◌∷◌, ◌++◌, length, false, Option, Some, None, option_map, slice_get, refl, sym, ap, subst, ◌∙◌, Opened, IsOpen, Opens, Fault, Entry, Began, Op, At, IsOf, InSlot, Terms, At-grow, At-one, Step, Shelf, file_at, joined, Mounted, Machine, machine_of, Starts, Lane, State, Busy, Over, Setup, IsIdle, counted, StartsLane, View, turn_at, AreApart, Reaches, GoesWith, always-later, at-push, Kind, plainly, kind_of, BeginsAs, Turned, IsFirst, IsOwed, CloseFile, Saving, IsPlain, save_in}
 use Rattle.core_facts.proofs.Slots.{opening, closing}
 use Rattle.std.specs.FinMap as finite
 use Rattle.world_model.specs.declared.answer.Answer.TheVariants as answers
 use Rattle.world_model.specs.declared.answer.Fault.TheVariants as faults
 use Rattle.world_model.specs.declared.op.Op.TheVariants as ops
-use Rattle.client_shelf.specs.declared.next.Next.TheVariants as nexts
+use Rattle.client_shelf.specs.declared.step.Step.TheVariants as nexts
 use Rattle.file_ops.specs.Closes as closes
 use Rattle.op_machines.specs.declared.file_machine.FileMachine.TheVariants as files
 use Rattle.op_machines.specs.declared.machine.Machine.TheVariants as machines
@@ -117,7 +117,7 @@ module _ (mt : Mounted) (terms : Terms) (setup : Setup) (H : List Entry) (V : Vi
         k : BeginsAs terms.modes.nocto lane (closing slot) (machine_of mt lane (ops.Close slot))
         k = begins-as terms.modes mt g.nocto lane (ops.Close slot)
 
-        no-step : finite.get old.shelf.opens (lane, slot) ≡ None → (next : Next) (new_ : Machine) (after : Shelf)
+        no-step : finite.get old.shelf.opens (lane, slot) ≡ None → (next : Step) (new_ : Machine) (after : Shelf)
             → Starts old.wsize (machine_of mt lane (ops.Close slot)) (turn_at (counted old now)) old.shelf next new_ after → (next ≡ nexts.Done (answers.Refused faults.Slot)) × (after ≡ old.shelf)
         no-step none next new_ after s = by (subst (λ (q : Machine). Starts old.wsize q (turn_at (counted old now)) old.shelf next new_ after) k.is s)
           where

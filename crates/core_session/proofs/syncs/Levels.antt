@@ -1,5 +1,5 @@
 -- Of one file: while the save of one operation is under way, no other of it has begun; so what is known of a save as such holds beside other operations.
-use Rattle.core_session.proofs.Prelude.{◌≡◌, ◌≢◌, ◌≤◌, ◌+◌, ◌-◌, ◌⊎◌, inl, inr, ℕ, Bool, true, false, List, [], ◌∷◌, length, Option, Some, None, Result, refl, sym, ap, subst, ◌∙◌, arith, slice_get, position, Fault, Reply, Segments, Cell, last_end, covers, cell_at, FilePending, Flown, nothing, rest_at, fly_at, fly_in, flown_in, piece_under, with_cut, Pending, of_file, OnFile, HasNoPiece, IsSound, IsOver, covered, flown-some, same-or, LaneFile, Repeat, Turn, added, left, is_first, is_lane, Next, Sending, Committing, Resending, CommittingAgain, Saving, is_quiet, SitsWith, seat_with, seat-own, seat-other, joins, Sits, first-left, first-added, same-first, Free, After, EachSound, some-of, IsClearUpTo, IsUnderWay, IsAwaited, option_map_or, eqb-true, slice_get-get_or}
+use Rattle.core_session.proofs.Prelude.{◌≡◌, ◌≢◌, ◌≤◌, ◌+◌, ◌-◌, ◌⊎◌, inl, inr, ℕ, Bool, true, false, List, [], ◌∷◌, length, Option, Some, None, Result, refl, sym, ap, subst, ◌∙◌, arith, slice_get, position, Fault, Reply, Segments, Cell, last_end, covers, cell_at, FilePending, Flown, nothing, rest_at, fly_at, fly_in, flown_in, piece_under, with_cut, Pending, of_file, OnFile, HasNoPiece, IsSound, IsOver, covered, flown-some, same-or, LaneFile, Repeat, Turn, added, left, is_first, is_lane, Step, Sending, Committing, Resending, CommittingAgain, Saving, is_quiet, SitsWith, seat_with, seat-own, seat-other, joins, Sits, first-left, first-added, same-first, Free, After, EachSound, some-of, IsClearUpTo, IsUnderWay, IsAwaited, option_map_or, eqb-true, slice_get-get_or}
 use Rattle.std.proofs.Common.{option_and_then, get_or}
 use Rattle.write_back.specs.Pieces.{Sent, rest_of}
 use Rattle.write_back.specs.Sound.{AreSent}
@@ -9,7 +9,7 @@ use Rattle.step_saves.specs.Saves.{AreAgain, PhaseHas, PhaseCounts, Leaves, Goes
 use Rattle.std.specs.Prelude.{IsSome, nat_le, ◌&&◌}
 use Rattle.write_back.specs.Places.{cell_cut}
 use Rattle.write_back.proofs.Adding.{cuts-so}
-use Rattle.client_shelf.specs.declared.next.Next.TheVariants as nexts
+use Rattle.client_shelf.specs.declared.step.Step.TheVariants as nexts
 use Rattle.world_model.specs.declared.answer.Answer.TheVariants as answers
 use Rattle.file_ops.specs.declared.saving.Phase.{Phase}
 use Rattle.file_ops.specs.Saves as saves
@@ -275,7 +275,7 @@ module _ (f : List ℕ) (wsize : ℕ) (some : 1 ≤ wsize) (turn : Turn) (number
       done-elsewhere : Free turn.xid after → Before q after o
       done-elsewhere free = record { content = content; free = free; other = other-same q b after o same owner other; seat = record { seat = Some s.file; sits = sits } }
 
-      out-elsewhere : (next : Next) → After (Free turn.xid) (Has turn.xid) next after → Out Before Ends X B next new q after o
+      out-elsewhere : (next : Step) → After (Free turn.xid) (Has turn.xid) next after → Out Before Ends X B next new q after o
       out-elsewhere (nexts.Send call) free = on-elsewhere
       out-elsewhere nexts.Wait free = on-elsewhere
       out-elsewhere (nexts.Done (answers.Done value)) free = (done-elsewhere free, apart-ends s.file apart of, subst B (sym file) of)
@@ -301,7 +301,7 @@ module _ (f : List ℕ) (wsize : ℕ) (some : 1 ≤ wsize) (turn : Turn) (number
         seat = record { seat = Some s.file; sits = sits };
       }
 
-      out-under : (next : Next) → After (Free turn.xid) (Has turn.xid) next after → Leaves next s new after → Out Before Ends X B next new q after o
+      out-under : (next : Step) → After (Free turn.xid) (Has turn.xid) next after → Leaves next s new after → Out Before Ends X B next new q after o
       out-under (nexts.Send call) free l = on-under l
       out-under nexts.Wait free l = on-under l
       out-under (nexts.Done (answers.Done value)) free l =

@@ -1,7 +1,7 @@
 -- A lane's whole step: its machine's, and that at a call which can't be made.
-use Rattle.core_session.proofs.Prelude.{◌≡◌, ◌≢◌, ◌≤◌, ◌⊎◌, inl, inr, ℕ, List, Option, Some, None, refl, sym, subst, Answer, Fault, Value, Pending, of_file, LaneFile, Turn, Next, Saving, Machine, State, Busy, Over, IsRefused, SitsWith, Free, IsClearUpTo}
+use Rattle.core_session.proofs.Prelude.{◌≡◌, ◌≢◌, ◌≤◌, ◌⊎◌, inl, inr, ℕ, List, Option, Some, None, refl, sym, subst, Answer, Fault, Value, Pending, of_file, LaneFile, Turn, Step, Saving, Machine, State, Busy, Over, IsRefused, SitsWith, Free, IsClearUpTo}
 use Rattle.world_model.specs.declared.answer.Answer.TheVariants as answers
-use Rattle.client_shelf.specs.declared.next.Next.TheVariants as nexts
+use Rattle.client_shelf.specs.declared.step.Step.TheVariants as nexts
 use Rattle.core_session.proofs.syncs.AllJobs.{JobHas, JobGood, JobBad, JobFin, job_save}
 use Rattle.core_session.proofs.syncs.Fates.{job-says, Part, none, room, own, job-part, job_kind, good-write, good-save, good-path, good-any, bad-write, bad-any, WritePart, before, in_room, write-part}
 use Rattle.core_session.proofs.syncs.Jobs.{Job, ended}
@@ -167,7 +167,7 @@ module _ (f : List ℕ) (wsize : ℕ) (some : 1 ≤ wsize) (number : ℕ) (least
         }
 
     -- where it waits or has its answer
-    pub shown : (next : Next) (m : Machine) (q : ℕ) (b : Pending) (o : List LaneFile) (state : State) → JobFin own-job next m q b o → IsRefused m next state → Shown (job_kind m) state q b o
+    pub shown : (next : Step) (m : Machine) (q : ℕ) (b : Pending) (o : List LaneFile) (state : State) → JobFin own-job next m q b o → IsRefused m next state → Shown (job_kind m) state q b o
     shown (nexts.Send call) m q b o state h is = absurd is
     shown nexts.Wait m q b o state h is = subst (λ (s : State). Shown (job_kind m) s q b o) (sym is) (refl, goes-on m q b o h)
     shown (nexts.Done (answers.Done value)) m q b o state h is = subst (λ (s : State). Shown (job_kind m) s q b o) (sym is) (good-shown value m q b o h)

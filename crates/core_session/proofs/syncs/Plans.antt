@@ -1,5 +1,5 @@
 -- A step of a lane's operation with what is told of it, in any of the three ways a step comes about.
-use Rattle.core_session.proofs.Prelude.{false, zero, suc, ◌≡◌, ◌≢◌, ◌≤◌, ◌⊎◌, inl, inr, ℕ, List, [], ◌∷◌, ◌++◌, length, Option, Some, None, position, Result, Err, slice_get, refl, sym, ap, subst, ◌∙◌, arith, Waiting, next_xid, waiting_at, Fault, Entry, Reply, Op, said_of, Pending, LaneFile, Turn, Next, Saving, Mounted, machine_of, Lane, Purpose, State, Busy, Over, Setup, is_busy, IsIdle, numbers_of, with_state, Stirs, counted, StartsLane, TakesAt, View, turn_at, unmade_turn, Reaches, taken_one, Known, idle-numbers, number_of, get-push, before-push, to-map, Placed, AreApart, Shelf, is_other, list_any}
+use Rattle.core_session.proofs.Prelude.{false, zero, suc, ◌≡◌, ◌≢◌, ◌≤◌, ◌⊎◌, inl, inr, ℕ, List, [], ◌∷◌, ◌++◌, length, Option, Some, None, position, Result, Err, slice_get, refl, sym, ap, subst, ◌∙◌, arith, Waiting, next_xid, waiting_at, Fault, Entry, Reply, Op, said_of, Pending, LaneFile, Turn, Step, Saving, Mounted, machine_of, Lane, Purpose, State, Busy, Over, Setup, is_busy, IsIdle, numbers_of, with_state, Stirs, counted, StartsLane, TakesAt, View, turn_at, unmade_turn, Reaches, taken_one, Known, idle-numbers, number_of, get-push, before-push, to-map, Placed, AreApart, Shelf, is_other, list_any}
 use Rattle.core_facts.proofs.Placing.{LaneLive}
 use Rattle.core_session.proofs.saves.WholeSteps.{Wholly}
 use Rattle.core_session.proofs.syncs.AllJobs.{JobHas, JobBegins, JobOpens, job_save}
@@ -20,9 +20,9 @@ pub record Plan (f : List ℕ) (wsize kind q0 : ℕ) (Turned : ℕ → Type 0) :
   pub t : Tale
   pub ways : (turn : Turn) → Turned turn.xid → Ways f wsize turn C D E t
   pub tables : Shelf
-  pub moves : (next : Next) → Moves C D E t.A (EndKnown kind next) (GivesBy tables kind next) t.Cut t.B next
+  pub moves : (next : Step) → Moves C D E t.A (EndKnown kind next) (GivesBy tables kind next) t.Cut t.B next
   pub Lone : Type 0
-  pub puts : (next : Next) → GivesPut f E (GivesBy tables kind next) next (λ final. Lone)
+  pub puts : (next : Step) → GivesPut f E (GivesBy tables kind next) next (λ final. Lone)
   pub M : Turn → Result Reply Fault → Saving → Pending → Type 0
   pub replies : (sent turn : Turn) (came : Result Reply Fault) → Turned turn.xid → ContentReplies wsize sent turn came (M sent came) C
   pub more : (sent turn : Turn) (came : Result Reply Fault) → Turned turn.xid → ContentReplies wsize sent turn came (M sent came) D

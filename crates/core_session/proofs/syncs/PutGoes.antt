@@ -1,18 +1,18 @@
 -- A put ends well only by the reply to a call of its own save.
-use Rattle.core_session.proofs.Prelude.{◌≡◌, ◌-◌, ℕ, Bool, true, false, List, length, Option, Some, None, Result, Ok, Err, slice_get, refl, sym, ap, subst, ◌∙◌, ◌≤◌, arith, if◌then◌else◌, Answer, Fault, Value, Call, Reply, is_first, LaneFile, Pending, Next, Shelf, Turn, OpeningNext, PutFile, Putting, Saving, joined, closed_answer, refusal_of, by-step, WalkNext, FileMachine, Machine, Opener, PathMachine, file_of, slot_taken, begun_at, Starts, Resumes, Takes, Lane, State, Busy, Over, IsRefused, Stirs, StartsLane, TakesAt, View, turn_at, at-set, at-push, EndsSo, takes-not}
+use Rattle.core_session.proofs.Prelude.{◌≡◌, ◌-◌, ℕ, Bool, true, false, List, length, Option, Some, None, Result, Ok, Err, slice_get, refl, sym, ap, subst, ◌∙◌, ◌≤◌, arith, if◌then◌else◌, Answer, Fault, Value, Call, Reply, is_first, LaneFile, Pending, Step, Shelf, Turn, OpeningStep, PutFile, Putting, Saving, joined, closed_answer, refusal_of, by-step, WalkStep, FileMachine, Machine, Opener, PathMachine, file_of, slot_taken, begun_at, Starts, Resumes, Takes, Lane, State, Busy, Over, IsRefused, Stirs, StartsLane, TakesAt, View, turn_at, at-set, at-push, EndsSo, takes-not}
 use Rattle.op_machines.specs.Openers.{placed}
 use Rattle.core_facts.proofs.SaveCommits.{WellDone}
 use Rattle.core_answers.proofs.paths.Endings.{ends-map, ends-any, goes-not}
 use Rattle.world_model.specs.declared.answer.Answer.TheVariants as answers
-use Rattle.client_shelf.specs.declared.next.Next.TheVariants as nexts
-use Rattle.file_ops.specs.declared.opening.OpeningNext.TheVariants as openings
+use Rattle.client_shelf.specs.declared.step.Step.TheVariants as nexts
+use Rattle.file_ops.specs.declared.opening.OpeningStep.TheVariants as openings
 use Rattle.file_ops.specs.declared.put_file.Putting.TheVariants as putting
 use Rattle.file_ops.specs.OpenFile as opens
 use Rattle.file_ops.specs.Opening as opening
 use Rattle.file_ops.specs.PutFile as puts
 use Rattle.file_ops.specs.Saves as saves
 use Rattle.file_ops.specs.Syncs as syncs
-use Rattle.name_ops.specs.declared.walk.WalkNext.TheVariants as walks
+use Rattle.name_ops.specs.declared.walk.WalkStep.TheVariants as walks
 use Rattle.name_ops.specs.Walking as walking
 use Rattle.op_machines.specs.declared.file_machine.FileMachine.TheVariants as files
 use Rattle.op_machines.specs.declared.machine.Machine.TheVariants as machines
@@ -87,15 +87,15 @@ own-has j (machines.Name m) z is q b o h = absurd (let no_way : None ≡ Some z 
 
 -- ---- the steps of a put
 
-ends-as : (C : Type 0) (to next : Next) → next ≡ to → EndsSo C to → EndsSo C next
-ends-as C to next is e = subst (λ (n : Next). EndsSo C n) (sym is) e
+ends-as : (C : Type 0) (to next : Step) → next ≡ to → EndsSo C to → EndsSo C next
+ends-as C to next is e = subst (λ (n : Step). EndsSo C n) (sym is) e
 
-put-ends : (C : Type 0) (result : Result (Unit {0}) Fault) (lane : ℕ) (file : List ℕ) (was : Shelf) (next : Next) (state : Putting) (new : Shelf)
+put-ends : (C : Type 0) (result : Result (Unit {0}) Fault) (lane : ℕ) (file : List ℕ) (was : Shelf) (next : Step) (state : Putting) (new : Shelf)
     → EndsSo C (nexts.Done (syncs.answer_of result)) → puts.Ends lane file (refusal_of result) was next state new → EndsSo C next
-put-ends C (Ok done) lane file was next state new e f = subst (λ (n : Next). EndsSo C n) (sym f.next_is) e
-put-ends C (Err fault) lane file was next state new e f = subst (λ (n : Next). EndsSo C n) (sym f.next_is) tt
+put-ends C (Ok done) lane file was next state new e f = subst (λ (n : Step). EndsSo C n) (sym f.next_is) e
+put-ends C (Err fault) lane file was next state new e f = subst (λ (n : Step). EndsSo C n) (sym f.next_is) tt
 
-put-follows : (C : Type 0) (gives : _) (lane : ℕ) (saved : Saving) (was : Shelf) (next : Next) (state : Putting) (new : Shelf) → EndsSo C (syncs.sync_next gives)
+put-follows : (C : Type 0) (gives : _) (lane : ℕ) (saved : Saving) (was : Shelf) (next : Step) (state : Putting) (new : Shelf) → EndsSo C (syncs.sync_next gives)
     → puts.Follows gives lane saved was next state new → EndsSo C next
 put-follows C gives lane saved was next state new ends f = by-step
     (λ g. EndsSo C (syncs.sync_next g) → puts.Follows g lane saved was next state new → EndsSo C next)
@@ -103,42 +103,42 @@ put-follows C gives lane saved was next state new ends f = by-step
     (λ e l. ends-as C nexts.Wait next l.0 tt)
     (λ result e l. put-ends C result lane saved.file was next state new e l) gives ends f
 
-put-queues : (b : Bool) (wsize lane : ℕ) (turn : Turn) (s : Saving) (was : Shelf) (next : Next) (state : Putting) (new : Shelf) → puts.QueuesIf b wsize lane turn s was next state new → EndsSo ⊥ next
+put-queues : (b : Bool) (wsize lane : ℕ) (turn : Turn) (s : Saving) (was : Shelf) (next : Step) (state : Putting) (new : Shelf) → puts.QueuesIf b wsize lane turn s was next state new → EndsSo ⊥ next
 put-queues true wsize lane turn s was next state new q =
     put-follows ⊥ q.gives lane q.saved q.gone next state new (goes-not wsize turn.xid turn.room s was.back q.gives q.saved q.gone.back q.goes) q.follows
 put-queues false wsize lane turn s was next state new q = ends-as ⊥ nexts.Wait next q.next_is tt
 
-after-write : (told : Next) (wsize lane : ℕ) (file : List ℕ) (turn : Turn) (was : Shelf) (next : Next) (state : Putting) (new : Shelf)
+after-write : (told : Step) (wsize lane : ℕ) (file : List ℕ) (turn : Turn) (was : Shelf) (next : Step) (state : Putting) (new : Shelf)
     → puts.AfterWrite told wsize lane file turn was next state new → EndsSo ⊥ next
 after-write (nexts.Send call) wsize lane file turn was next state new a = ends-as ⊥ (nexts.Send call) next a.0 tt
 after-write nexts.Wait wsize lane file turn was next state new a = ends-as ⊥ nexts.Wait next a.0 tt
 after-write (nexts.Done (answers.Done value)) wsize lane file turn was next state new a =
     put-queues (is_first lane (joined lane file was).order) wsize lane turn (saves.begun file was.seq) (joined lane file was) next state new a
-after-write (nexts.Done (answers.Refused fault)) wsize lane file turn was next state new a = subst (λ (n : Next). EndsSo ⊥ n) (sym a.next_is) tt
+after-write (nexts.Done (answers.Refused fault)) wsize lane file turn was next state new a = subst (λ (n : Step). EndsSo ⊥ n) (sym a.next_is) tt
 
 goes-opening : (b : Bool) (call : Call) → EndsSo ⊥ (opens.goes_as (if b then openings.Wait else openings.Send call))
 goes-opening true call = tt
 goes-opening false call = tt
 
-put-resumes : (at : Putting) (wsize : ℕ) (m : PutFile) (turn : Turn) (was : Shelf) (next : Next) (new : PutFile) (after : Shelf) → puts.Resumes at wsize m turn was next new after → EndsSo ⊥ next
+put-resumes : (at : Putting) (wsize : ℕ) (m : PutFile) (turn : Turn) (was : Shelf) (next : Step) (new : PutFile) (after : Shelf) → puts.Resumes at wsize m turn was next new after → EndsSo ⊥ next
 put-resumes putting.Idle wsize m turn was next new after r = ends-as ⊥ nexts.Wait next r.next_is tt
 put-resumes putting.Opens wsize m turn was next new after r =
     ends-as ⊥ (opens.goes_as (opening.go_next m.opening turn)) next r.0 (goes-opening (opening.waits m.opening turn) (opening.call_of m.opening m.opening.step))
 put-resumes (putting.Adds file) wsize m turn was next new after r = after-write r.told wsize m.write.lane file turn r.mid next new.state after r.goes.follows
 put-resumes (putting.Saves saving) wsize m turn was next new after r = put-queues (is_first m.write.lane was.order) wsize m.write.lane turn saving was next new.state after r.0
 
-after-opening : (step : OpeningNext) (wsize : ℕ) (m : PutFile) (turn : Turn) (was : Shelf) (next : Next) (new : PutFile) (after : Shelf) → puts.AfterOpening step wsize m turn was next new after
+after-opening : (step : OpeningStep) (wsize : ℕ) (m : PutFile) (turn : Turn) (was : Shelf) (next : Step) (new : PutFile) (after : Shelf) → puts.AfterOpening step wsize m turn was next new after
     → EndsSo ⊥ next
 after-opening (openings.Send call) wsize m turn was next new after a = ends-as ⊥ (nexts.Send call) next a.0 tt
 after-opening openings.Wait wsize m turn was next new after a = ends-as ⊥ nexts.Wait next a.next_is tt
 after-opening (openings.Ended (Ok file)) wsize m turn was next new after a = after-write a.told wsize m.write.lane file turn a.mid next new.state after a.goes.follows
 after-opening (openings.Ended (Err fault)) wsize m turn was next new after a = ends-as ⊥ (nexts.Done (answers.Refused fault)) next a.0 tt
 
-none-ends : (C : Type 0) (next : Next) → EndsSo ⊥ next → EndsSo C next
+none-ends : (C : Type 0) (next : Step) → EndsSo ⊥ next → EndsSo C next
 none-ends C next e = ends-map ⊥ C (λ no_way. absurd no_way) next e
 
 -- by a reply, or where its call came to nothing
-put-takes : (at : Putting) (wsize : ℕ) (m : PutFile) (sent turn : Turn) (came : Result Reply Fault) (was : Shelf) (next : Next) (new : PutFile) (after : Shelf)
+put-takes : (at : Putting) (wsize : ℕ) (m : PutFile) (sent turn : Turn) (came : Result Reply Fault) (was : Shelf) (next : Step) (new : PutFile) (after : Shelf)
     → puts.Takes at wsize m sent turn came was next new after → EndsSo (AtSave (put_own at)) next
 put-takes putting.Idle wsize m sent turn came was next new after t = ends-as (AtSave None) nexts.Wait next t.next_is tt
 put-takes putting.Opens wsize m sent turn came was next new after t =
@@ -148,7 +148,7 @@ put-takes (putting.Adds file) wsize m sent turn came was next new after t = none
 put-takes (putting.Saves saving) wsize m sent turn came was next new after t =
     put-follows (AtSave (Some saving)) t.0.gives m.write.lane t.0.saved t.0.took next new.state after (ends-any (AtSave (Some saving)) (saving, refl) (syncs.sync_next t.0.gives)) t.0.follows
 
-put-unmade : (at : Putting) (wsize : ℕ) (m : PutFile) (sent turn : Turn) (fault : Fault) (was : Shelf) (next : Next) (new : PutFile) (after : Shelf)
+put-unmade : (at : Putting) (wsize : ℕ) (m : PutFile) (sent turn : Turn) (fault : Fault) (was : Shelf) (next : Step) (new : PutFile) (after : Shelf)
     → puts.Takes at wsize m sent turn (Err fault) was next new after → EndsSo ⊥ next
 put-unmade putting.Idle wsize m sent turn fault was next new after t = ends-as ⊥ nexts.Wait next t.next_is tt
 put-unmade putting.Opens wsize m sent turn fault was next new after t =
@@ -161,7 +161,7 @@ put-unmade (putting.Saves saving) wsize m sent turn fault was next new after t =
 -- ---- of any operation that is a put
 
 module _ (wsize : ℕ) (turn : Turn) where
-  file-resumes : (m : FileMachine) → file_kind m ≡ 3 → (was : Shelf) (next : Next) (new : FileMachine) (after : Shelf) → steps.Resumes wsize m turn was next new after → EndsSo ⊥ next
+  file-resumes : (m : FileMachine) → file_kind m ≡ 3 → (was : Shelf) (next : Step) (new : FileMachine) (after : Shelf) → steps.Resumes wsize m turn was next new after → EndsSo ⊥ next
   file-resumes (files.Open m) is was next new after s = absurd (omega (arith, is))
   file-resumes (files.Read m) is was next new after s = absurd (omega (arith, is))
   file-resumes (files.Write m) is was next new after s = absurd (omega (arith, is))
@@ -170,7 +170,7 @@ module _ (wsize : ℕ) (turn : Turn) where
   file-resumes (files.Truncate m) is was next new after s = absurd (omega (arith, is))
   file-resumes (files.Put m) is was next new after s = put-resumes m.state wsize m turn was next s.machine after s.step
 
-  file-starts : (m : FileMachine) → file_kind m ≡ 3 → (was : Shelf) (next : Next) (new : FileMachine) (after : Shelf) → steps.Starts wsize m turn was next new after → EndsSo ⊥ next
+  file-starts : (m : FileMachine) → file_kind m ≡ 3 → (was : Shelf) (next : Step) (new : FileMachine) (after : Shelf) → steps.Starts wsize m turn was next new after → EndsSo ⊥ next
   file-starts (files.Open m) is was next new after s = absurd (omega (arith, is))
   file-starts (files.Read m) is was next new after s = absurd (omega (arith, is))
   file-starts (files.Write m) is was next new after s = absurd (omega (arith, is))
@@ -181,7 +181,7 @@ module _ (wsize : ℕ) (turn : Turn) where
       ends-as ⊥ (opens.goes_as (opening.go_next (puts.opening_at turn m) turn)) next s.next_is
       (goes-opening (opening.waits (puts.opening_at turn m) turn) (opening.call_of (puts.opening_at turn m) (puts.opening_at turn m).step))
 
-  then-resumes : (m : PathMachine) → file_kind (file_of m.opener) ≡ 3 → (was : Shelf) (next : Next) (new : PathMachine) (after : Shelf) → paths.ThenResumes wsize m turn was next new after → EndsSo ⊥ next
+  then-resumes : (m : PathMachine) → file_kind (file_of m.opener) ≡ 3 → (was : Shelf) (next : Step) (new : PathMachine) (after : Shelf) → paths.ThenResumes wsize m turn was next new after → EndsSo ⊥ next
   then-resumes m is was next new after t = file-resumes (file_of m.opener) is was next (file_of t.opener) after t.step
 
   placed-put : (dir : List ℕ) (o : Opener) → file_kind (file_of o) ≡ 3 → file_kind (file_of (placed dir o)) ≡ 3
@@ -192,37 +192,37 @@ module _ (wsize : ℕ) (turn : Turn) where
   begun-put moment (openers.Open m) is = absurd (omega (arith, is))
   begun-put moment (openers.Put m) is = refl
 
-  follows-path : (step : WalkNext) (m : PathMachine) → file_kind (file_of m.opener) ≡ 3 → (was : Shelf) (next : Next) (new : PathMachine) (after : Shelf) → paths.Follows step wsize m turn was next new after
+  follows-path : (step : WalkStep) (m : PathMachine) → file_kind (file_of m.opener) ≡ 3 → (was : Shelf) (next : Step) (new : PathMachine) (after : Shelf) → paths.Follows step wsize m turn was next new after
       → EndsSo ⊥ next
   follows-path (walks.Send call) m is was next new after f = ends-as ⊥ (nexts.Send call) next f.0 tt
   follows-path walks.Wait m is was next new after f = ends-as ⊥ nexts.Wait next f.0 tt
   follows-path (walks.At dir) m is was next new after f = then-resumes (record m { opener = placed dir m.opener; arrived = true }) (placed-put dir m.opener is) was next new after f
   follows-path (walks.Refused fault) m is was next new after f = ends-as ⊥ (nexts.Done (answers.Refused fault)) next f.0 tt
 
-  path-resumes : (b : Bool) (m : PathMachine) → file_kind (file_of m.opener) ≡ 3 → (was : Shelf) (next : Next) (new : PathMachine) (after : Shelf) → paths.PathResumes b wsize m turn was next new after
+  path-resumes : (b : Bool) (m : PathMachine) → file_kind (file_of m.opener) ≡ 3 → (was : Shelf) (next : Step) (new : PathMachine) (after : Shelf) → paths.PathResumes b wsize m turn was next new after
       → EndsSo ⊥ next
   path-resumes true m is was next new after r = then-resumes m is was next new after r
   path-resumes false m is was next new after r =
       follows-path (walking.go_next m.walk turn was) (record m { walk = walking.go_after m.walk turn was }) is (walking.go_shelf m.walk turn was) next new after r
 
-  path-starts : (taken : Bool) (m : PathMachine) → file_kind (file_of m.opener) ≡ 3 → (was : Shelf) (next : Next) (new : PathMachine) (after : Shelf) → paths.StartsIf taken wsize m turn was next new after
+  path-starts : (taken : Bool) (m : PathMachine) → file_kind (file_of m.opener) ≡ 3 → (was : Shelf) (next : Step) (new : PathMachine) (after : Shelf) → paths.StartsIf taken wsize m turn was next new after
       → EndsSo ⊥ next
-  path-starts true m is was next new after s = subst (λ (n : Next). EndsSo ⊥ n) (sym s.0) tt
+  path-starts true m is was next new after s = subst (λ (n : Step). EndsSo ⊥ n) (sym s.0) tt
   path-starts false m is was next new after s =
       path-resumes m.arrived (record m { opener = begun_at (turn.moment - 1) m.opener }) (begun-put (turn.moment - 1) m.opener is) was next new after s
 
-  pub starts-end : (m : Machine) → job_kind m ≡ 3 → (was : Shelf) (next : Next) (new : Machine) (after : Shelf) → Starts wsize m turn was next new after → EndsSo ⊥ next
+  pub starts-end : (m : Machine) → job_kind m ≡ 3 → (was : Shelf) (next : Step) (new : Machine) (after : Shelf) → Starts wsize m turn was next new after → EndsSo ⊥ next
   starts-end (machines.File m) is was next new after s = file-starts m is was next s.machine after s.step
   starts-end (machines.Path m) is was next new after s = path-starts (slot_taken m.opener was.opens) m is was next s.machine after s.step
   starts-end (machines.Name m) is was next new after s = absurd (omega (arith, is))
 
-  pub resumes-end : (m : Machine) → job_kind m ≡ 3 → (was : Shelf) (next : Next) (new : Machine) (after : Shelf) → Resumes wsize m turn was next new after → EndsSo ⊥ next
+  pub resumes-end : (m : Machine) → job_kind m ≡ 3 → (was : Shelf) (next : Step) (new : Machine) (after : Shelf) → Resumes wsize m turn was next new after → EndsSo ⊥ next
   resumes-end (machines.File m) is was next new after s = file-resumes m is was next s.machine after s.step
   resumes-end (machines.Path m) is was next new after s = path-resumes m.arrived m is was next s.machine after s.step
   resumes-end (machines.Name m) is was next new after s = absurd (omega (arith, is))
 
   module _ (sent : Turn) (came : Result Reply Fault) where
-    file-takes : (m : FileMachine) → file_kind m ≡ 3 → (was : Shelf) (next : Next) (new : FileMachine) (after : Shelf) → steps.Takes wsize m sent turn came was next new after
+    file-takes : (m : FileMachine) → file_kind m ≡ 3 → (was : Shelf) (next : Step) (new : FileMachine) (after : Shelf) → steps.Takes wsize m sent turn came was next new after
         → EndsSo (AtSave (file_own m)) next
     file-takes (files.Open m) is was next new after s = absurd (omega (arith, is))
     file-takes (files.Read m) is was next new after s = absurd (omega (arith, is))
@@ -232,20 +232,20 @@ module _ (wsize : ℕ) (turn : Turn) where
     file-takes (files.Truncate m) is was next new after s = absurd (omega (arith, is))
     file-takes (files.Put m) is was next new after s = put-takes m.state wsize m sent turn came was next s.machine after s.step
 
-    path-takes : (b : Bool) (m : PathMachine) → file_kind (file_of m.opener) ≡ 3 → (was : Shelf) (next : Next) (new : PathMachine) (after : Shelf) → paths.PathTakes b wsize m sent turn came was next new after
+    path-takes : (b : Bool) (m : PathMachine) → file_kind (file_of m.opener) ≡ 3 → (was : Shelf) (next : Step) (new : PathMachine) (after : Shelf) → paths.PathTakes b wsize m sent turn came was next new after
         → EndsSo (AtSave (path_own b m.opener)) next
     path-takes true m is was next new after t = file-takes (file_of m.opener) is was next (file_of t.opener) after t.step
     path-takes false m is was next new after t =
         none-ends (AtSave None) next
         (follows-path t.step t.walked (subst (λ (z : PathMachine). file_kind (file_of z.opener) ≡ 3) (sym t.walked_is) is) t.heard next new after t.follows)
 
-    pub takes-end : (m : Machine) → job_kind m ≡ 3 → (was : Shelf) (next : Next) (new : Machine) (after : Shelf) → Takes wsize m sent turn came was next new after → EndsSo (AtSave (own_save m)) next
+    pub takes-end : (m : Machine) → job_kind m ≡ 3 → (was : Shelf) (next : Step) (new : Machine) (after : Shelf) → Takes wsize m sent turn came was next new after → EndsSo (AtSave (own_save m)) next
     takes-end (machines.File m) is was next new after s = file-takes m is was next s.machine after s.step
     takes-end (machines.Path m) is was next new after s = path-takes m.arrived m is was next s.machine after s.step
     takes-end (machines.Name m) is was next new after s = absurd (omega (arith, is))
 
   module _ (sent : Turn) (fault : Fault) where
-    file-unmade : (m : FileMachine) → file_kind m ≡ 3 → (was : Shelf) (next : Next) (new : FileMachine) (after : Shelf) → steps.Takes wsize m sent turn (Err fault) was next new after → EndsSo ⊥ next
+    file-unmade : (m : FileMachine) → file_kind m ≡ 3 → (was : Shelf) (next : Step) (new : FileMachine) (after : Shelf) → steps.Takes wsize m sent turn (Err fault) was next new after → EndsSo ⊥ next
     file-unmade (files.Open m) is was next new after s = absurd (omega (arith, is))
     file-unmade (files.Read m) is was next new after s = absurd (omega (arith, is))
     file-unmade (files.Write m) is was next new after s = absurd (omega (arith, is))
@@ -254,13 +254,13 @@ module _ (wsize : ℕ) (turn : Turn) where
     file-unmade (files.Truncate m) is was next new after s = absurd (omega (arith, is))
     file-unmade (files.Put m) is was next new after s = put-unmade m.state wsize m sent turn fault was next s.machine after s.step
 
-    path-unmade : (b : Bool) (m : PathMachine) → file_kind (file_of m.opener) ≡ 3 → (was : Shelf) (next : Next) (new : PathMachine) (after : Shelf)
+    path-unmade : (b : Bool) (m : PathMachine) → file_kind (file_of m.opener) ≡ 3 → (was : Shelf) (next : Step) (new : PathMachine) (after : Shelf)
         → paths.PathTakes b wsize m sent turn (Err fault) was next new after → EndsSo ⊥ next
     path-unmade true m is was next new after t = file-unmade (file_of m.opener) is was next (file_of t.opener) after t.step
     path-unmade false m is was next new after t =
         follows-path t.step t.walked (subst (λ (z : PathMachine). file_kind (file_of z.opener) ≡ 3) (sym t.walked_is) is) t.heard next new after t.follows
 
-    pub unmade-end : (m : Machine) → job_kind m ≡ 3 → (was : Shelf) (next : Next) (new : Machine) (after : Shelf) → Takes wsize m sent turn (Err fault) was next new after → EndsSo ⊥ next
+    pub unmade-end : (m : Machine) → job_kind m ≡ 3 → (was : Shelf) (next : Step) (new : Machine) (after : Shelf) → Takes wsize m sent turn (Err fault) was next new after → EndsSo ⊥ next
     unmade-end (machines.File m) is was next new after s = file-unmade m is was next s.machine after s.step
     unmade-end (machines.Path m) is was next new after s = path-unmade m.arrived m is was next s.machine after s.step
     unmade-end (machines.Name m) is was next new after s = absurd (omega (arith, is))
@@ -270,22 +270,22 @@ module _ (wsize : ℕ) (turn : Turn) where
 refused-done : (fault : Fault) (value : Value) → answers.Refused fault ≡ answers.Done value → ⊥
 refused-done fault value e = absurd cc
 
-module _ (C : Type 0) (wsize : ℕ) (S : Next → Machine → Shelf → Type 0) (state : State) (after : Shelf) (value : Value) (is : state ≡ Over (answers.Done value)) where
+module _ (C : Type 0) (wsize : ℕ) (S : Step → Machine → Shelf → Type 0) (state : State) (after : Shelf) (value : Value) (is : state ≡ Over (answers.Done value)) where
   well-so : (D : Type 0) (answer : Answer) → answer ≡ answers.Done value → WellDone D answer → D
   well-so D (answers.Done other) same e = e
   well-so D (answers.Refused fault) same e = absurd (refused-done fault value same)
 
-  settled-so : (next : Next) (new : Machine) → EndsSo C next → Settles next new state → C
+  settled-so : (next : Step) (new : Machine) → EndsSo C next → Settles next new state → C
   settled-so (nexts.Send call) new e s = absurd (busy-over new (answers.Done value) (sym s ∙ is))
   settled-so nexts.Wait new e s = absurd (busy-over new (answers.Done value) (sym s ∙ is))
   settled-so (nexts.Done answer) new e s = well-so C answer (answer-is answer (answers.Done value) (sym s ∙ is)) e
 
-  refused-so : (next : Next) (new : Machine) → EndsSo ⊥ next → IsRefused new next state → ⊥
+  refused-so : (next : Step) (new : Machine) → EndsSo ⊥ next → IsRefused new next state → ⊥
   refused-so (nexts.Send call) new e s = s
   refused-so nexts.Wait new e s = busy-over new (answers.Done value) (sym s ∙ is)
   refused-so (nexts.Done answer) new e s = well-so ⊥ answer (answer-is answer (answers.Done value) (sym s ∙ is)) e
 
-  led-so : ((next : Next) (new : Machine) (shelf : Shelf) → S next new shelf → EndsSo C next) → ((next : Next) (new : Machine) (shelf : Shelf) → S next new shelf → job_kind new ≡ 3) → Leading wsize S state after → C
+  led-so : ((next : Step) (new : Machine) (shelf : Shelf) → S next new shelf → EndsSo C next) → ((next : Step) (new : Machine) (shelf : Shelf) → S next new shelf → job_kind new ≡ 3) → Leading wsize S state after → C
   led-so ends kinds (settles next new s st) = settled-so next new (ends next new after s) st
   led-so ends kinds (unmade call mid between sent turn fault next new s takes refused) =
       absurd (refused-so next new (unmade-end wsize turn sent fault mid (kinds (nexts.Send call) mid between s) between next new after takes) refused)
@@ -350,18 +350,18 @@ busy-one : (a b : Machine) → Busy a ≡ Busy b → a ≡ b
 busy-one a b e = cc
 
 module _ (Q : Saving → Type 0) (keeps : (a b : Saving) → IsSave a.file a.upto b → Q a → Q b) where
-  abbrev pub StaysAt : Next → Option Saving → Type 0
+  abbrev pub StaysAt : Step → Option Saving → Type 0
   StaysAt (nexts.Send call) own = OwnAt Q own
   StaysAt nexts.Wait own = OwnAt Q own
   StaysAt (nexts.Done answer) own = Unit {0}
 
-  stays-as : (to next : Next) (at state : Putting) → next ≡ to → state ≡ at → StaysAt to (put_own at) → StaysAt next (put_own state)
-  stays-as to next at state is same s = subst (λ (n : Next). StaysAt n (put_own state)) (sym is) (subst (λ (p : Putting). StaysAt to (put_own p)) (sym same) s)
+  stays-as : (to next : Step) (at state : Putting) → next ≡ to → state ≡ at → StaysAt to (put_own at) → StaysAt next (put_own state)
+  stays-as to next at state is same s = subst (λ (n : Step). StaysAt n (put_own state)) (sym is) (subst (λ (p : Putting). StaysAt to (put_own p)) (sym same) s)
 
-  ended-stays : (next : Next) (answer : Answer) (own : Option Saving) → next ≡ nexts.Done answer → StaysAt next own
-  ended-stays next answer own is = subst (λ (n : Next). StaysAt n own) (sym is) tt
+  ended-stays : (next : Step) (answer : Answer) (own : Option Saving) → next ≡ nexts.Done answer → StaysAt next own
+  ended-stays next answer own is = subst (λ (n : Step). StaysAt n own) (sym is) tt
 
-  follows-stays : (gives : _) (lane : ℕ) (saved : Saving) (was : Shelf) (next : Next) (state : Putting) (new : Shelf) → Q saved → puts.Follows gives lane saved was next state new
+  follows-stays : (gives : _) (lane : ℕ) (saved : Saving) (was : Shelf) (next : Step) (state : Putting) (new : Shelf) → Q saved → puts.Follows gives lane saved was next state new
       → StaysAt next (put_own state)
   follows-stays gives lane saved was next state new own f = by-step
       (λ g. puts.Follows g lane saved was next state new → StaysAt next (put_own state))
@@ -369,7 +369,7 @@ module _ (Q : Saving → Type 0) (keeps : (a b : Saving) → IsSave a.file a.upt
       (λ l. stays-as nexts.Wait next (putting.Saves saved) state l.0 l.1 (saved, refl, own))
       (λ result l. ended-stays next (closed_answer (refusal_of result)) (put_own state) l.next_is) gives f
 
-  queues-stays : (b : Bool) (wsize lane : ℕ) (turn : Turn) (s : Saving) (was : Shelf) (next : Next) (state : Putting) (new : Shelf) → Q s → puts.QueuesIf b wsize lane turn s was next state new
+  queues-stays : (b : Bool) (wsize lane : ℕ) (turn : Turn) (s : Saving) (was : Shelf) (next : Step) (state : Putting) (new : Shelf) → Q s → puts.QueuesIf b wsize lane turn s was next state new
       → StaysAt next (put_own state)
   queues-stays true wsize lane turn s was next state new own q =
       follows-stays q.gives lane q.saved q.gone next state new
@@ -379,14 +379,14 @@ module _ (Q : Saving → Type 0) (keeps : (a b : Saving) → IsSave a.file a.upt
   its-own : (s : Saving) → OwnAt Q (Some s) → Q s
   its-own s a = subst Q (sym (one-own s a.0 a.1)) a.2
 
-  put-resumes-stays : (at : Putting) → OwnAt Q (put_own at) → (wsize : ℕ) (m : PutFile) (turn : Turn) (was : Shelf) (next : Next) (new : PutFile) (after : Shelf) → puts.Resumes at wsize m turn was next new after
+  put-resumes-stays : (at : Putting) → OwnAt Q (put_own at) → (wsize : ℕ) (m : PutFile) (turn : Turn) (was : Shelf) (next : Step) (new : PutFile) (after : Shelf) → puts.Resumes at wsize m turn was next new after
       → StaysAt next (put_own new.state)
   put-resumes-stays putting.Idle a wsize m turn was next new after r = none-own Q a
   put-resumes-stays putting.Opens a wsize m turn was next new after r = none-own Q a
   put-resumes-stays (putting.Adds file) a wsize m turn was next new after r = none-own Q a
   put-resumes-stays (putting.Saves s) a wsize m turn was next new after r = queues-stays (is_first m.write.lane was.order) wsize m.write.lane turn s was next new.state after (its-own s a) r.0
 
-  put-takes-stays : (at : Putting) → OwnAt Q (put_own at) → (wsize : ℕ) (m : PutFile) (sent turn : Turn) (came : Result Reply Fault) (was : Shelf) (next : Next) (new : PutFile) (after : Shelf)
+  put-takes-stays : (at : Putting) → OwnAt Q (put_own at) → (wsize : ℕ) (m : PutFile) (sent turn : Turn) (came : Result Reply Fault) (was : Shelf) (next : Step) (new : PutFile) (after : Shelf)
       → puts.Takes at wsize m sent turn came was next new after → StaysAt next (put_own new.state)
   put-takes-stays putting.Idle a wsize m sent turn came was next new after t = none-own Q a
   put-takes-stays putting.Opens a wsize m sent turn came was next new after t = none-own Q a
@@ -397,10 +397,10 @@ module _ (Q : Saving → Type 0) (keeps : (a b : Saving) → IsSave a.file a.upt
       (its-own s a)) t.0.follows
 
   module _ (wsize : ℕ) (turn : Turn) where
-    file-stays-as : (next : Next) (to new : FileMachine) → new ≡ to → StaysAt next (file_own to) → StaysAt next (file_own new)
+    file-stays-as : (next : Step) (to new : FileMachine) → new ≡ to → StaysAt next (file_own to) → StaysAt next (file_own new)
     file-stays-as next to new is s = subst (λ (z : FileMachine). StaysAt next (file_own z)) (sym is) s
 
-    file-resumes-stays : (m : FileMachine) → OwnAt Q (file_own m) → (was : Shelf) (next : Next) (new : FileMachine) (after : Shelf) → steps.Resumes wsize m turn was next new after → StaysAt next (file_own new)
+    file-resumes-stays : (m : FileMachine) → OwnAt Q (file_own m) → (was : Shelf) (next : Step) (new : FileMachine) (after : Shelf) → steps.Resumes wsize m turn was next new after → StaysAt next (file_own new)
     file-resumes-stays (files.Open m) a was next new after s = none-own Q a
     file-resumes-stays (files.Read m) a was next new after s = none-own Q a
     file-resumes-stays (files.Write m) a was next new after s = none-own Q a
@@ -409,23 +409,23 @@ module _ (Q : Saving → Type 0) (keeps : (a b : Saving) → IsSave a.file a.upt
     file-resumes-stays (files.Truncate m) a was next new after s = none-own Q a
     file-resumes-stays (files.Put m) a was next new after s = file-stays-as next (files.Put s.machine) new s.machine_is (put-resumes-stays m.state a wsize m turn was next s.machine after s.step)
 
-    path-stays-as : (next : Next) (to new : PathMachine) → new ≡ to → StaysAt next (path_own to.arrived to.opener) → StaysAt next (path_own new.arrived new.opener)
+    path-stays-as : (next : Step) (to new : PathMachine) → new ≡ to → StaysAt next (path_own to.arrived to.opener) → StaysAt next (path_own new.arrived new.opener)
     path-stays-as next to new is s = subst (λ (z : PathMachine). StaysAt next (path_own z.arrived z.opener)) (sym is) s
 
-    path-resumes-stays : (b : Bool) (m : PathMachine) → m.arrived ≡ b → OwnAt Q (path_own b m.opener) → (was : Shelf) (next : Next) (new : PathMachine) (after : Shelf) → paths.PathResumes b wsize m turn was next new after
+    path-resumes-stays : (b : Bool) (m : PathMachine) → m.arrived ≡ b → OwnAt Q (path_own b m.opener) → (was : Shelf) (next : Step) (new : PathMachine) (after : Shelf) → paths.PathResumes b wsize m turn was next new after
         → StaysAt next (path_own new.arrived new.opener)
     path-resumes-stays true m there a was next new after t =
         path-stays-as next (record m { opener = t.opener }) new t.machine_is
         (subst (λ (c : Bool). StaysAt next (path_own c t.opener)) (sym there) (file-resumes-stays (file_of m.opener) a was next (file_of t.opener) after t.step))
     path-resumes-stays false m there a was next new after t = none-own Q a
 
-    pub resumes-stays : (m : Machine) → OwnAt Q (own_save m) → (was : Shelf) (next : Next) (new : Machine) (after : Shelf) → Resumes wsize m turn was next new after → StaysAt next (own_save new)
+    pub resumes-stays : (m : Machine) → OwnAt Q (own_save m) → (was : Shelf) (next : Step) (new : Machine) (after : Shelf) → Resumes wsize m turn was next new after → StaysAt next (own_save new)
     resumes-stays (machines.File m) a was next new after s = subst (λ (z : Machine). StaysAt next (own_save z)) (sym s.machine_is) (file-resumes-stays m a was next s.machine after s.step)
     resumes-stays (machines.Path m) a was next new after s = subst (λ (z : Machine). StaysAt next (own_save z)) (sym s.machine_is) (path-resumes-stays m.arrived m refl a was next s.machine after s.step)
     resumes-stays (machines.Name m) a was next new after s = none-own Q a
 
     module _ (sent : Turn) (came : Result Reply Fault) where
-      file-takes-stays : (m : FileMachine) → OwnAt Q (file_own m) → (was : Shelf) (next : Next) (new : FileMachine) (after : Shelf) → steps.Takes wsize m sent turn came was next new after
+      file-takes-stays : (m : FileMachine) → OwnAt Q (file_own m) → (was : Shelf) (next : Step) (new : FileMachine) (after : Shelf) → steps.Takes wsize m sent turn came was next new after
           → StaysAt next (file_own new)
       file-takes-stays (files.Open m) a was next new after s = none-own Q a
       file-takes-stays (files.Read m) a was next new after s = none-own Q a
@@ -435,33 +435,33 @@ module _ (Q : Saving → Type 0) (keeps : (a b : Saving) → IsSave a.file a.upt
       file-takes-stays (files.Truncate m) a was next new after s = none-own Q a
       file-takes-stays (files.Put m) a was next new after s = file-stays-as next (files.Put s.machine) new s.machine_is (put-takes-stays m.state a wsize m sent turn came was next s.machine after s.step)
 
-      path-takes-stays : (b : Bool) (m : PathMachine) → m.arrived ≡ b → OwnAt Q (path_own b m.opener) → (was : Shelf) (next : Next) (new : PathMachine) (after : Shelf)
+      path-takes-stays : (b : Bool) (m : PathMachine) → m.arrived ≡ b → OwnAt Q (path_own b m.opener) → (was : Shelf) (next : Step) (new : PathMachine) (after : Shelf)
           → paths.PathTakes b wsize m sent turn came was next new after → StaysAt next (path_own new.arrived new.opener)
       path-takes-stays true m there a was next new after t =
           path-stays-as next (record m { opener = t.opener }) new t.machine_is
           (subst (λ (c : Bool). StaysAt next (path_own c t.opener)) (sym there) (file-takes-stays (file_of m.opener) a was next (file_of t.opener) after t.step))
       path-takes-stays false m there a was next new after t = none-own Q a
 
-      pub takes-stays : (m : Machine) → OwnAt Q (own_save m) → (was : Shelf) (next : Next) (new : Machine) (after : Shelf) → Takes wsize m sent turn came was next new after → StaysAt next (own_save new)
+      pub takes-stays : (m : Machine) → OwnAt Q (own_save m) → (was : Shelf) (next : Step) (new : Machine) (after : Shelf) → Takes wsize m sent turn came was next new after → StaysAt next (own_save new)
       takes-stays (machines.File m) a was next new after s = subst (λ (z : Machine). StaysAt next (own_save z)) (sym s.machine_is) (file-takes-stays m a was next s.machine after s.step)
       takes-stays (machines.Path m) a was next new after s = subst (λ (z : Machine). StaysAt next (own_save z)) (sym s.machine_is) (path-takes-stays m.arrived m refl a was next s.machine after s.step)
       takes-stays (machines.Name m) a was next new after s = none-own Q a
 
-  module _ (wsize : ℕ) (S : Next → Machine → Shelf → Type 0) (state : State) (after : Shelf) (machine : Machine) (is : state ≡ Busy machine) where
+  module _ (wsize : ℕ) (S : Step → Machine → Shelf → Type 0) (state : State) (after : Shelf) (machine : Machine) (is : state ≡ Busy machine) where
     is-at : (new : Machine) → state ≡ Busy new → OwnAt Q (own_save new) → OwnAt Q (own_save machine)
     is-at new s a = subst (λ (z : Machine). OwnAt Q (own_save z)) (busy-one new machine (sym s ∙ is)) a
 
-    settled-at : (next : Next) (new : Machine) → StaysAt next (own_save new) → Settles next new state → OwnAt Q (own_save machine)
+    settled-at : (next : Step) (new : Machine) → StaysAt next (own_save new) → Settles next new state → OwnAt Q (own_save machine)
     settled-at (nexts.Send call) new a s = is-at new s a
     settled-at nexts.Wait new a s = is-at new s a
     settled-at (nexts.Done answer) new a s = absurd (busy-over machine answer (sym is ∙ s))
 
-    refused-at : (next : Next) (new : Machine) → StaysAt next (own_save new) → IsRefused new next state → OwnAt Q (own_save machine)
+    refused-at : (next : Step) (new : Machine) → StaysAt next (own_save new) → IsRefused new next state → OwnAt Q (own_save machine)
     refused-at (nexts.Send call) new a s = absurd s
     refused-at nexts.Wait new a s = is-at new s a
     refused-at (nexts.Done answer) new a s = absurd (busy-over machine answer (sym is ∙ s))
 
-    led-stays : ((next : Next) (new : Machine) (shelf : Shelf) → S next new shelf → StaysAt next (own_save new)) → Leading wsize S state after → OwnAt Q (own_save machine)
+    led-stays : ((next : Step) (new : Machine) (shelf : Shelf) → S next new shelf → StaysAt next (own_save new)) → Leading wsize S state after → OwnAt Q (own_save machine)
     led-stays stays (settles next new s st) = settled-at next new (stays next new after s) st
     led-stays stays (unmade call mid between sent turn fault next new s takes refused) =
         refused-at next new (takes-stays wsize turn sent (Err fault) mid (stays (nexts.Send call) mid between s) between next new after takes) refused

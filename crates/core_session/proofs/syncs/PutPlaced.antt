@@ -1,5 +1,5 @@
 -- Along a history each put that is at its file is there among those to which lanes put: so another put of the file isn't alone.
-use Rattle.core_session.proofs.Prelude.{◌≡◌, ◌≢◌, ◌≤◌, ◌-◌, inl, inr, ℕ, zero, suc, List, [], ◌∷◌, ◌++◌, length, remove, Bool, true, false, not, nat_eq, ◌&&◌, ◌||◌, Option, Some, None, position, slice_get, slice_set, Err, refl, sym, ap, subst, ◌∙◌, option_map, list_any, eqb-true, eqb-false, Waiting, waiting_at, Answer, Entry, Began, Call, Op, said_of, is_other, LaneFile, Next, Send, Wait, Done, Shelf, Mounted, Machine, machine_of, Lane, Purpose, State, Busy, Over, Setup, is_busy, IsIdle, with_state, IsRefused, Leads, Stirs, counted, StartsLane, TakesAt, AnswersAt, View, turn_at, unmade_turn, in_flight, AreApart, IsLive, taken_one, Known, taker-one, lanes-stay, lanes-begin, lanes-under-way, at-set, at-push, look-idle, look-at, Sits, same-sits, seat_with, seat-own, seat-other, SitsWith, joins, Placed, Putting, Saving, file_of, FileMachine, Opener}
+use Rattle.core_session.proofs.Prelude.{◌≡◌, ◌≢◌, ◌≤◌, ◌-◌, inl, inr, ℕ, zero, suc, List, [], ◌∷◌, ◌++◌, length, remove, Bool, true, false, not, nat_eq, ◌&&◌, ◌||◌, Option, Some, None, position, slice_get, slice_set, Err, refl, sym, ap, subst, ◌∙◌, option_map, list_any, eqb-true, eqb-false, Waiting, waiting_at, Answer, Entry, Began, Call, Op, said_of, is_other, LaneFile, Step, Send, Wait, Done, Shelf, Mounted, Machine, machine_of, Lane, Purpose, State, Busy, Over, Setup, is_busy, IsIdle, with_state, IsRefused, Leads, Stirs, counted, StartsLane, TakesAt, AnswersAt, View, turn_at, unmade_turn, in_flight, AreApart, IsLive, taken_one, Known, taker-one, lanes-stay, lanes-begin, lanes-under-way, at-set, at-push, look-idle, look-at, Sits, same-sits, seat_with, seat-own, seat-other, SitsWith, joins, Placed, Putting, Saving, file_of, FileMachine, Opener}
 use Rattle.std.proofs.lemmas.Bool.{ne_eqb}
 use Rattle.core_facts.proofs.AllSeats.{begins-fresh, OfMachine, all-starts, all-resumes, all-takes}
 use Rattle.core_facts.proofs.Looks.{look_in, look-set, look-push, look-remove}
@@ -26,7 +26,7 @@ PutPlaced v = Sits (λ n. put_in n v.lanes) v.shelf.puts
 -- ---- one step
 
 -- The operation of the lane at a place made a step, and what that leads to is still to come.
-pub record Owes (v : View) (at number : ℕ) (machine : Machine) (base : ℕ → Option (List ℕ)) (next : Next) : Type 0 where
+pub record Owes (v : View) (at number : ℕ) (machine : Machine) (base : ℕ → Option (List ℕ)) (next : Step) : Type 0 where
   pub there : slice_get v.lanes at ≡ Some (record { number = number; state = Busy machine })
   pub apart : AreApart v.lanes
   pub least : 1 ≤ number
@@ -35,7 +35,7 @@ pub record Owes (v : View) (at number : ℕ) (machine : Machine) (base : ℕ →
   pub live : (call : Call) → next ≡ Send call → IsLive number machine
   pub step : Fin (SitsWith number base) puts_of next machine v.shelf.puts
 
-module _ (v : View) (at number : ℕ) (machine : Machine) (base : ℕ → Option (List ℕ)) (next : Next) (o : Owes v at number machine base next) where
+module _ (v : View) (at number : ℕ) (machine : Machine) (base : ℕ → Option (List ℕ)) (next : Step) (o : Owes v at number machine base next) where
   owes-set : (state : State) (shelf : Shelf) → SitsWith number base (put_state state) shelf.puts → PutPlaced (with_state v at number state shelf)
   owes-set state shelf sits =
       same-sits (seat_with number (put_state state) base) (λ n. put_in n (slice_set v.lanes at (record { number = number; state = state }))) shelf.puts
@@ -63,14 +63,14 @@ module _ (v : View) (at number : ℕ) (machine : Machine) (base : ℕ → Option
           let apart = eqb-false n number d in
           sym (o.others n apart) ∙ sym (seat-other number n (puts_of machine) base apart)
 
-leads-put : (v new : View) (at number : ℕ) (machine : Machine) (base : ℕ → Option (List ℕ)) (next : Next) → Owes v at number machine base next → Leads v at number machine next new → PutPlaced new
+leads-put : (v new : View) (at number : ℕ) (machine : Machine) (base : ℕ → Option (List ℕ)) (next : Step) → Owes v at number machine base next → Leads v at number machine next new → PutPlaced new
 leads-put v new at number machine base (Send call) o (inl m) = subst PutPlaced (sym m.is) (owes-here v at number machine base (Send call) o o.step)
 leads-put v new at number machine base (Send call) o (inr r) =
     subst PutPlaced (sym r.is) (by r.next r.state
     (puts-takes (SitsWith number base) number (leaves number base) (joins number base o.least o.most) machine v.wsize (turn_at v) (unmade_turn v) (Err r.fault) v.shelf r.next
     r.after r.left (o.live call refl) o.step r.takes) r.leads)
   where
-    by : (next : Next) (state : State) → Fin (SitsWith number base) puts_of next r.after r.left.puts → IsRefused r.after next state → PutPlaced (with_state v at number state r.left)
+    by : (next : Step) (state : State) → Fin (SitsWith number base) puts_of next r.after r.left.puts → IsRefused r.after next state → PutPlaced (with_state v at number state r.left)
     by (Send again) state s is = absurd is
     by Wait state s is =
         subst (λ (t : State). PutPlaced (with_state v at number t r.left)) (sym is) (owes-set v at number machine base (Send call) o (Busy r.after) r.left s)
@@ -101,7 +101,7 @@ set-base lanes at number machine after apart there n other =
 abbrev Any : Option (List ℕ) → List LaneFile → Type 0
 Any seat order = Unit {0}
 
-sent-live : (lane : ℕ) (next : Next) (m : Machine) (order : List LaneFile) → OfMachine lane Any (λ seat o p. tt) (λ seat file o p. tt) next m order → (call : Call) → next ≡ Send call → IsLive lane m
+sent-live : (lane : ℕ) (next : Step) (m : Machine) (order : List LaneFile) → OfMachine lane Any (λ seat o p. tt) (λ seat file o p. tt) next m order → (call : Call) → next ≡ Send call → IsLive lane m
 sent-live lane (Send call) m order s asked is = s.0
 sent-live lane Wait m order s asked is = s.0
 sent-live lane (Done answer) m order s asked is = absurd (cc)

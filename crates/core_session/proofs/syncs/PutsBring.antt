@@ -1,12 +1,12 @@
 -- Which bytes a put brings in, and that its path leads to their file as they come in.
-use Rattle.core_session.proofs.Prelude.{◌≡◌, ℕ, Bool, true, false, List, [], ◌∷◌, ◌++◌, length, Some, None, slice_get, Result, inl, inr, refl, sym, ap, subst, ◌∙◌, arith, cases_lt, xid_at, Waiting, waiting_at, Fault, Entry, Began, Answered, Delivered, Reply, Op, At, Modes, Origin, AnsweredBefore, UnderWay, WritesByte, At-one, At-last, At-grow, length_last, said_of, Next, Shelf, Turn, PutFile, Putting, Writing, Opens, Mounted, FileMachine, Machine, Opener, PathMachine, IsNamed, machine_of, file_of, Takes, Purpose, State, Busy, Over, Setup, View, KnowsRoot, HearsRecord, Reaches, begins-unbegun, LeadsTo, Did, TaleLaws, reached-good, Expects, expects-laws, NoCall, NoShelf, AreApart, seat_of, seat_put, reached-kept, lanes-under-way, reached-lanes, look-at, Placed, seat_state, seat_in, keeps-placed, is_first}
+use Rattle.core_session.proofs.Prelude.{◌≡◌, ℕ, Bool, true, false, List, [], ◌∷◌, ◌++◌, length, Some, None, slice_get, Result, inl, inr, refl, sym, ap, subst, ◌∙◌, arith, cases_lt, xid_at, Waiting, waiting_at, Fault, Entry, Began, Answered, Delivered, Reply, Op, At, Modes, Origin, AnsweredBefore, UnderWay, WritesByte, At-one, At-last, At-grow, length_last, said_of, Step, Shelf, Turn, PutFile, Putting, Writing, Opens, Mounted, FileMachine, Machine, Opener, PathMachine, IsNamed, machine_of, file_of, Takes, Purpose, State, Busy, Over, Setup, View, KnowsRoot, HearsRecord, Reaches, begins-unbegun, LeadsTo, Did, TaleLaws, reached-good, Expects, expects-laws, NoCall, NoShelf, AreApart, seat_of, seat_put, reached-kept, lanes-under-way, reached-lanes, look-at, Placed, seat_state, seat_in, keeps-placed, is_first}
 use Rattle.claims.specs.Touched.{Covers}
 use Rattle.core_answers.proofs.asks.Sendings.{under-until}
 use Rattle.core_facts.proofs.AllSeats.{path_seat}
 use Rattle.core_facts.proofs.FileSeats.{seat_file}
 use Rattle.core_facts.proofs.Placing.{LaneLive}
 use Rattle.world_model.specs.declared.op.Op.TheVariants as ops
-use Rattle.client_shelf.specs.declared.next.Next.TheVariants as nexts
+use Rattle.client_shelf.specs.declared.step.Step.TheVariants as nexts
 use Rattle.file_ops.specs.declared.put_file.Putting.TheVariants as putting
 use Rattle.file_ops.specs.PutFile as puts
 use Rattle.file_ops.specs.WriteFile as writes
@@ -86,7 +86,7 @@ module _ (m : Mounted) where
   abbrev TextStory : List Entry → ℕ → Op → State → Type 0
   TextStory h x op state = StateText op state
 
-  did : (h : List Entry) (x : ℕ) (op : Op) (next : Next) (new : Machine) (after : Shelf) → StateText op (Busy new) → Did NoCall NoShelf TextStory h x op next new after
+  did : (h : List Entry) (x : ℕ) (op : Op) (next : Step) (new : Machine) (after : Shelf) → StateText op (Busy new) → Did NoCall NoShelf TextStory h x op next new after
   did h x op (nexts.Send call) new after s = record { shelf = tt; asks = tt; then_ = s }
   did h x op nexts.Wait new after s = record { shelf = tt; asks = tt; then_ = s }
   did h x op (nexts.Done answer) new after s = record { shelf = tt; asks = tt; then_ = tt }
@@ -113,7 +113,7 @@ module _ (m : Mounted) where
 
 -- ---- where its opening ends
 
-module _ (A : List ℕ → ℕ → List ℕ → Type 0) (wsize : ℕ) (sent turn : Turn) (came : Result Reply Fault) (old : Shelf) (next : Next) where
+module _ (A : List ℕ → ℕ → List ℕ → Type 0) (wsize : ℕ) (sent turn : Turn) (came : Result Reply Fault) (old : Shelf) (next : Step) where
   -- one that brings nothing opens nothing
   none-put : (at : Putting) (w : Writing) (m : PutFile) (new : PutFile) (after : Shelf) (t : puts.Takes at wsize m sent turn came old next new after) → PutIs (λ f. ⊥) at w
       → PutOpens A at wsize m sent turn came old next new after t
@@ -246,7 +246,7 @@ module _ (m : Mounted) (setup : Setup) (h : List Entry) (old : View) (rec : List
 
   -- A holds of the bytes of a put and of the file that it has opened, if its opening ends at this step.
   pub puts-bring : (A : List ℕ → ℕ → List ℕ → Type 0) (x : ℕ) (op : Op) → UnderWay h call.purpose.lane x (length h) op → PutGiven A op
-      → (wsize : ℕ) (sent turn : Turn) (next : Next) (new : Machine) (after : Shelf) (t : Takes wsize machine sent turn (said_of call.purpose.proc rec) old.shelf next new after)
+      → (wsize : ℕ) (sent turn : Turn) (next : Step) (new : Machine) (after : Shelf) (t : Takes wsize machine sent turn (said_of call.purpose.proc rec) old.shelf next new after)
       → JobOpens A wsize machine sent turn (said_of call.purpose.proc rec) old.shelf next new after t
   puts-bring A x op u given wsize sent turn next new after t =
       let good = (reached-good (machine_of m) (begins-unbegun m) setup Expects expects-laws NoCall NoShelf (TextStory m) (text-laws m setup) h old r).each at

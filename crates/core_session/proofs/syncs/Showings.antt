@@ -1,5 +1,5 @@
 -- What a record that is heard shows of a byte that came with a write's number, from its first flight on.
-use Rattle.core_session.proofs.Prelude.{◌≡◌, inl, inr, ◌≤◌, ◌<◌, ◌+◌, ℕ, List, [], ◌∷◌, ◌++◌, length, Bool, true, false, Some, None, Ok, slice_get, refl, sym, ap, subst, ◌∙◌, arith, Verf, Wcc, xid_at, Waiting, next_xid, waiting_at, Entry, Sent, Delivered, Call, Reply, Op, At, Asked, HasXid, SpellsCall, SpellsCallBy, SpellsReply, commit_call, length_last, said_of, Says, Next, Shelf, Closing, Putting, Saving, Syncing, Writing, Mounted, FileMachine, Machine, PathMachine, machine_of, file_of, of_file, Flown, fly_at, piece_under, fly-under, EachSound, flown-from, Purpose, Busy, Setup, View, Reaches, HearsRecord, IsOfOperation, Tried, unsent, begins-unbegun, flies_of, was-sent, says-of, reached-owned, reached-rows, TaleLaws, reached-good, Did, PathNames, Names, Expects, expects-laws, SyncNames, CloseNames, WriteNames, StateNames, FileNames, Saves, IsNfs, one-call, IsWaiting, write_of, WroteByte, MadeStable}
+use Rattle.core_session.proofs.Prelude.{◌≡◌, inl, inr, ◌≤◌, ◌<◌, ◌+◌, ℕ, List, [], ◌∷◌, ◌++◌, length, Bool, true, false, Some, None, Ok, slice_get, refl, sym, ap, subst, ◌∙◌, arith, Verf, Wcc, xid_at, Waiting, next_xid, waiting_at, Entry, Sent, Delivered, Call, Reply, Op, At, Asked, HasXid, SpellsCall, SpellsCallBy, SpellsReply, commit_call, length_last, said_of, Says, Step, Shelf, Closing, Putting, Saving, Syncing, Writing, Mounted, FileMachine, Machine, PathMachine, machine_of, file_of, of_file, Flown, fly_at, piece_under, fly-under, EachSound, flown-from, Purpose, Busy, Setup, View, Reaches, HearsRecord, IsOfOperation, Tried, unsent, begins-unbegun, flies_of, was-sent, says-of, reached-owned, reached-rows, TaleLaws, reached-good, Did, PathNames, Names, Expects, expects-laws, SyncNames, CloseNames, WriteNames, StateNames, FileNames, Saves, IsNfs, one-call, IsWaiting, write_of, WroteByte, MadeStable}
 use Rattle.world_model.specs.Heard.{Heard}
 use Rattle.call_replies.specs.Says.{IsCallOf}
 use Rattle.core_facts.specs.Tries.{runs, ended}
@@ -9,7 +9,7 @@ use Rattle.core_answers.specs.writes.Carried.{IsCarried}
 use Rattle.core_session.specs.saves.Evidence.{at_once, by_commit, IsHeldBy}
 use Rattle.nfs_file_calls.specs.declared.owned.FileKept.TheVariants as kept
 use Rattle.world_model.specs.declared.message.Reply.TheVariants as replies
-use Rattle.client_shelf.specs.declared.next.Next.TheVariants as nexts
+use Rattle.client_shelf.specs.declared.step.Step.TheVariants as nexts
 use Rattle.file_ops.specs.declared.close_file.Closing.TheVariants as closing
 use Rattle.file_ops.specs.declared.put_file.Putting.TheVariants as putting
 use Rattle.file_ops.specs.declared.sync_file.Syncing.TheVariants as syncing
@@ -95,7 +95,7 @@ module _ (f : List ℕ) (call : Call) where
 
 -- ---- what the operation of a call expects
 
-any-did : (h : List Entry) (x : ℕ) (op : Op) (next : Next) (new : Machine) (after : Shelf)
+any-did : (h : List Entry) (x : ℕ) (op : Op) (next : Step) (new : Machine) (after : Shelf)
     → Did (λ g y o c. Unit {0}) (λ g s. Unit {0}) (λ g y o s. Unit {0}) h x op next new after
 any-did h x op (nexts.Send call) new after = record { shelf = tt; asks = tt; then_ = tt }
 any-did h x op nexts.Wait new after = record { shelf = tt; asks = tt; then_ = tt }

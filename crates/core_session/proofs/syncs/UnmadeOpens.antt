@@ -1,5 +1,5 @@
 -- A call that came to nothing lets no put open its file.
-use Rattle.core_session.proofs.Prelude.{ℕ, Bool, true, false, List, Result, Err, Fault, Reply, Next, Shelf, Turn, PutFile, Putting, FileMachine, Machine, PathMachine, file_of, Takes}
+use Rattle.core_session.proofs.Prelude.{ℕ, Bool, true, false, List, Result, Err, Fault, Reply, Step, Shelf, Turn, PutFile, Putting, FileMachine, Machine, PathMachine, file_of, Takes}
 use Rattle.file_ops.specs.declared.put_file.Putting.TheVariants as putting
 use Rattle.file_ops.specs.PutFile as puts
 use Rattle.op_machines.specs.declared.file_machine.FileMachine.TheVariants as files
@@ -11,7 +11,7 @@ use Rattle.core_session.proofs.order.Unmade.{unmade-has}
 use Rattle.core_session.proofs.syncs.AllJobs.{PathOpens, JobOpens}
 use Rattle.core_session.proofs.syncs.Jobs.{PutOpens, FileOpens}
 
-module _ (A : List ℕ → ℕ → List ℕ → Type 0) (wsize : ℕ) (sent turn : Turn) (came : Result Reply Fault) (old : Shelf) (next : Next) where
+module _ (A : List ℕ → ℕ → List ℕ → Type 0) (wsize : ℕ) (sent turn : Turn) (came : Result Reply Fault) (old : Shelf) (next : Step) where
   put-opens : (at : Putting) (m : PutFile) (new : PutFile) (after : Shelf) (t : puts.Takes at wsize m sent turn came old next new after)
       → PutHas (λ f. ⊥) at wsize m sent turn came old next new after t → PutOpens A at wsize m sent turn came old next new after t
   put-opens putting.Idle m new after t has = tt
@@ -41,7 +41,7 @@ module _ (A : List ℕ → ℕ → List ℕ → Type 0) (wsize : ℕ) (sent turn
   has-opens (machines.Path m) new after t has = path-opens m.arrived m t.machine after t.step has
   has-opens (machines.Name m) new after t has = tt
 
-pub unmade-opens : (A : List ℕ → ℕ → List ℕ → Type 0) (wsize : ℕ) (sent turn : Turn) (fault : Fault) (machine : Machine) (old : Shelf) (next : Next) (new : Machine) (after : Shelf)
+pub unmade-opens : (A : List ℕ → ℕ → List ℕ → Type 0) (wsize : ℕ) (sent turn : Turn) (fault : Fault) (machine : Machine) (old : Shelf) (next : Step) (new : Machine) (after : Shelf)
     (t : Takes wsize machine sent turn (Err fault) old next new after) → JobOpens A wsize machine sent turn (Err fault) old next new after t
 unmade-opens A wsize sent turn fault machine old next new after t =
     has-opens A wsize sent turn (Err fault) old next machine new after t (unmade-has (λ f o b. ⊥) wsize sent turn fault machine old next new after t)

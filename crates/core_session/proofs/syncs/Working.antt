@@ -1,7 +1,7 @@
 -- What each step of an operation keeps, beside the other operations of one file, of what is known of all that is pending.
-use Rattle.core_session.proofs.Prelude.{◌≡◌, ◌≢◌, ◌≤◌, ◌+◌, ◌⊎◌, inl, inr, ℕ, Bool, true, false, List, Option, Some, None, Result, refl, sym, subst, arith, IsOpen, Fault, Reply, Pending, of_file, with_bytes, OnFile, with_cut, nothing, same-or, LaneFile, Turn, added, left, is_other, Next, Saving, is_full, is_quiet, joins, SitsWith, first-left, first-added, IsClearUpTo, IsUnderWay, Shelf, list_any}
+use Rattle.core_session.proofs.Prelude.{◌≡◌, ◌≢◌, ◌≤◌, ◌+◌, ◌⊎◌, inl, inr, ℕ, Bool, true, false, List, Option, Some, None, Result, refl, sym, subst, arith, IsOpen, Fault, Reply, Pending, of_file, with_bytes, OnFile, with_cut, nothing, same-or, LaneFile, Turn, added, left, is_other, Step, Saving, is_full, is_quiet, joins, SitsWith, first-left, first-added, IsClearUpTo, IsUnderWay, Shelf, list_any}
 use Rattle.world_model.specs.declared.answer.Answer.TheVariants as answers
-use Rattle.client_shelf.specs.declared.next.Next.TheVariants as nexts
+use Rattle.client_shelf.specs.declared.step.Step.TheVariants as nexts
 use Rattle.file_ops.proofs.Walks.{SamePieces, added-pieces, cut-pieces, given-pieces}
 use Rattle.step_saves.proofs.Staying.{later-on, others-on}
 use Rattle.core_session.proofs.syncs.Contents.{same-free, same-quiet}
@@ -9,7 +9,7 @@ use Rattle.core_session.proofs.syncs.Jobs.{Fact, NoFile, Job, JobLaws, JobReplie
 use Rattle.core_session.proofs.syncs.Levels.{Owner, Content, ContentReplies, SaveNow, Before, Ends, Holds, BesideSo, level, level-replies, stands-it, out-it, alone-first, way-given, way-cut}
 
 -- What else a step makes of what is known: C before bytes come in, D afterwards, and E at a refusal, or where the file was cut.
-pub record Moves (C D E : ℕ → Pending → Type 0) (A : List ℕ → ℕ → List ℕ → Type 0) (W : Type 0) (Z : Bool → Shelf → Type 0) (Cut : List ℕ → ℕ → ℕ → Type 0) (B : List ℕ → Type 0) (next : Next) : Type 0 where
+pub record Moves (C D E : ℕ → Pending → Type 0) (A : List ℕ → ℕ → List ℕ → Type 0) (W : Type 0) (Z : Bool → Shelf → Type 0) (Cut : List ℕ → ℕ → ℕ → Type 0) (B : List ℕ → Type 0) (next : Step) : Type 0 where
   pub adds : (file : List ℕ) (offset : ℕ) (bytes : List ℕ) (q : ℕ) (b after : Pending) → W → A file offset bytes → is_full bytes b ≡ false
       → OnFile b after file (with_bytes offset bytes (q + 1) (of_file file b)) → C q b → D (q + 1) after × B file
   pub enough : (q : ℕ) (b : Pending) → C q b → E q b
@@ -19,7 +19,7 @@ pub record Moves (C D E : ℕ → Pending → Type 0) (A : List ℕ → ℕ → 
       → (IsOpen final.opens file → ⊥) → OnFile b after file nothing → D q b → E q after
 
 -- a put that gives up what is pending of a file; where Lone holds of the shelf that it leaves, if it is this one
-abbrev pub GivesPut : List ℕ → (ℕ → Pending → Type 0) → (Bool → Shelf → Type 0) → Next → (Shelf → Type 0) → Type 0
+abbrev pub GivesPut : List ℕ → (ℕ → Pending → Type 0) → (Bool → Shelf → Type 0) → Step → (Shelf → Type 0) → Type 0
 GivesPut f E Z next Lone = (final : Shelf) → Z false final → (file : List ℕ) (fault : Fault) (q : ℕ) (b after : Pending) → next ≡ nexts.Done (answers.Refused fault)
     → (IsOpen final.opens file → ⊥) → (f ≡ file → Lone final) → OnFile b after file nothing → E q b → E q after
 
@@ -130,7 +130,7 @@ module _ (f : List ℕ) (wsize : ℕ) (some : 1 ≤ wsize) (turn : Turn) (number
       S = λ file o. SitsWith number base (Some file) o;
     }
 
-    pub job-laws : (W : Type 0) (Z : Bool → Shelf → Type 0) (next : Next) → Moves C D E A W Z Cut B next → GivesPut f E Z next (Alone f number base owner) → JobLaws job wsize number turn next W Z
+    pub job-laws : (W : Type 0) (Z : Bool → Shelf → Type 0) (next : Step) → Moves C D E A W Z Cut B next → GivesPut f E Z next (Alone f number base owner) → JobLaws job wsize number turn next W Z
     job-laws W Z next mv puts = record {
       room = level f wsize some turn number least most base owner C c any-mark (Unit {0}) NoFile (λ q b h. tt) (λ file apart of. tt) (λ upto q b t clear h. tt);
       own = level f wsize some turn number least most base owner D d T X B mark apart-ends settles;

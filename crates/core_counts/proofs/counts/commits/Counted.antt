@@ -1,5 +1,5 @@
 -- The COMMITs of a file, along a history in which puts find room.
-use Rattle.core_counts.proofs.Prelude.{◌≡◌, ◌≢◌, ◌⊎◌, inl, inr, ◌+◌, ◌*◌, ◌++◌, ℕ, Bool, true, false, List, [], ◌∷◌, length, All, Result, refl, sym, ap, subst, ◌∙◌, arith, All-weaker, All-nil, All-head, FileCall, same-or, Placed, AreDifferent, HasBegan, count_of, most_pending, IsCommitOf, commit, StableOf, WriterAt, Few, RepliedAt, info_call, Terms, most_tries, Entry, Began, Call, Reply, Fault, Op, Next, Repeat, Turn, Mounted, Machine, machine_of, Setup, View, Notes, IsNfs, GoesFrom}
+use Rattle.core_counts.proofs.Prelude.{◌≡◌, ◌≢◌, ◌⊎◌, inl, inr, ◌+◌, ◌*◌, ◌++◌, ℕ, Bool, true, false, List, [], ◌∷◌, length, All, Result, refl, sym, ap, subst, ◌∙◌, arith, All-weaker, All-nil, All-head, FileCall, same-or, Placed, AreDifferent, HasBegan, count_of, most_pending, IsCommitOf, commit, StableOf, WriterAt, Few, RepliedAt, info_call, Terms, most_tries, Entry, Began, Call, Reply, Fault, Op, Step, Repeat, Turn, Mounted, Machine, machine_of, Setup, View, Notes, IsNfs, GoesFrom}
 use Rattle.claims.specs.Asks.{Asks, Acts, Stabilizes, NeedsRoom, TakesRoom}
 use Rattle.claims.specs.CallCounts.{FewCommits}
 use Rattle.std.specs.Prelude.{sum_by}
@@ -9,7 +9,7 @@ use Rattle.claims.specs.Asks as asks
 use Rattle.world_model.specs.declared.message.Call.TheVariants as calls
 use Rattle.core_counts.proofs.counts.commits.WithRoom.{HasRoom, FewCommitsWithRoom}
 use Rattle.core_counts.proofs.counts.commits.Laws.{MachineLeft, IsSaver, sync, close, put, machine-starts, machine-resumes, machine-takes}
-use Rattle.core_counts.proofs.counts.commits.Machines.{Step, Taken, repeats, goes}
+use Rattle.core_counts.proofs.counts.commits.Machines.{StepIs, Taken, repeats, goes}
 use Rattle.core_counts.proofs.counts.commits.Rooms.{machine-room}
 use Rattle.core_counts.proofs.counts.engine.Laws.{Spends, nothing, Took, again, on, SeenLaws}
 use Rattle.core_counts.proofs.counts.engine.Sum.{Summed, AsksOne, summed-seen}
@@ -126,10 +126,10 @@ module _ (m : Mounted) (setup : Setup) (H : List Entry) (room : HasRoom H) (f : 
   abbrev Left : List Entry → ℕ → Op → Machine → ℕ → Type 0
   Left h x op machine left = MachineLeft f machine left
 
-  spends : (h : List Entry) (x : ℕ) (op : Op) (had : ℕ) (next : Next) (new : Machine) → Step f had next (MachineLeft f new) → Spends (IsCommitOf f) Left h x op had next new
+  spends : (h : List Entry) (x : ℕ) (op : Op) (had : ℕ) (next : Step) (new : Machine) → StepIs f had next (MachineLeft f new) → Spends (IsCommitOf f) Left h x op had next new
   spends h x op had next new s = record { left = s.left; keeps = s.keeps; less = s.less; asks = s.asks }
 
-  took : (h : List Entry) (x : ℕ) (op : Op) (had : ℕ) (sent turn : Turn) (came : Result Reply Fault) (old later : List Repeat) (next : Next) (new : Machine)
+  took : (h : List Entry) (x : ℕ) (op : Op) (had : ℕ) (sent turn : Turn) (came : Result Reply Fault) (old later : List Repeat) (next : Step) (new : Machine)
       → Taken f had sent turn old later next (MachineLeft f new) → Took (IsCommitOf f) NoReply Left h x op had sent turn came old next new later
   took h x op had sent turn came old later next new (repeats table left) = again table had (omega arith) left
   took h x op had sent turn came old later next new (goes table s) =

@@ -1,15 +1,15 @@
 -- The laws of a count of COMMITs, of a session in which puts find room for their bytes.
-use Rattle.core_counts.proofs.Prelude.{◌≡◌, ◌≤◌, ◌-◌, ℕ, Bool, true, false, List, Option, Some, None, Result, Ok, Err, refl, sym, ap, subst, ◌∙◌, arith, if◌then◌else◌, Fault, Call, Reply, Op, Next, Repeat, Shelf, Turn, file_at, Closing, PutFile, Putting, Syncing, look_again, found_by, Walk, WalkNext, Mounted, machine_of, put_of, front_of, last_of, file_of, begun_at, Starts, Resumes, Takes, FileMachine, Machine, Opener, PathMachine, of_name, of_walk, in_flight, Going}
+use Rattle.core_counts.proofs.Prelude.{◌≡◌, ◌≤◌, ◌-◌, ℕ, Bool, true, false, List, Option, Some, None, Result, Ok, Err, refl, sym, ap, subst, ◌∙◌, arith, if◌then◌else◌, Fault, Call, Reply, Op, Step, Repeat, Shelf, Turn, file_at, Closing, PutFile, Putting, Syncing, look_again, found_by, Walk, WalkStep, Mounted, machine_of, put_of, front_of, last_of, file_of, begun_at, Starts, Resumes, Takes, FileMachine, Machine, Opener, PathMachine, of_name, of_walk, in_flight, Going}
 use Rattle.op_machines.specs.Openers.{placed}
 use Rattle.core_facts.specs.InFlight.{of_file, path_by}
 use Rattle.world_model.specs.declared.op.Op.TheVariants as ops
 use Rattle.client_shelf.specs.Repeats.{answered}
-use Rattle.client_shelf.specs.declared.next.Next.TheVariants as nexts
+use Rattle.client_shelf.specs.declared.step.Step.TheVariants as nexts
 use Rattle.file_ops.specs.declared.close_file.Closing.TheVariants as closing
 use Rattle.file_ops.specs.declared.put_file.Putting.TheVariants as putting
 use Rattle.file_ops.specs.declared.sync_file.Syncing.TheVariants as syncing
 use Rattle.name_ops.specs.Walking as walking
-use Rattle.name_ops.specs.declared.walk.WalkNext.TheVariants as walks
+use Rattle.name_ops.specs.declared.walk.WalkStep.TheVariants as walks
 use Rattle.op_machines.specs.FileSteps as steps
 use Rattle.name_ops.specs.Pairs.{walk_of}
 use Rattle.op_machines.specs.PathSteps as paths
@@ -18,12 +18,12 @@ use Rattle.op_machines.specs.declared.machine.Machine.TheVariants as machines
 use Rattle.op_machines.specs.declared.opener.Opener.TheVariants as openers
 use Rattle.core_answers.proofs.writes.Plain.{IsOther, PlainAsks}
 use Rattle.core_session.proofs.delays.Rests.{resumes-same}
-use Rattle.core_counts.proofs.counts.commits.Machines.{Step, Taken, repeats, goes, done-step, wait-step, plain-step, SyncLeft, CloseLeft, CloseWaits, sync-starts, sync-resumes, sync-takes, close-starts, close-resumes, close-takes}
+use Rattle.core_counts.proofs.counts.commits.Machines.{StepIs, Taken, repeats, goes, done-step, wait-step, plain-step, SyncLeft, CloseLeft, CloseWaits, sync-starts, sync-resumes, sync-takes, close-starts, close-resumes, close-takes}
 use Rattle.core_counts.proofs.counts.commits.Puts.{PutLeft, PutWaits, PutRoom, put-resumes, put-takes}
 
 -- ---- walks ask for LOOKUPs
 
-abbrev WalkOther : WalkNext → Type 0
+abbrev WalkOther : WalkStep → Type 0
 WalkOther (walks.Send call) = IsOther call
 WalkOther walks.Wait = Unit {0}
 WalkOther (walks.At dir) = Unit {0}
@@ -45,7 +45,7 @@ told-other : (told : Result (List ℕ) Fault) (w : Walk) (turn : Turn) (heard : 
 told-other (Ok found) w turn heard = asks-other _ turn.room _
 told-other (Err fault) w turn heard = tt
 
-sends-plain : (sent : Call) (next : Next) → next ≡ nexts.Send sent → IsOther sent → PlainAsks next
+sends-plain : (sent : Call) (next : Step) → next ≡ nexts.Send sent → IsOther sent → PlainAsks next
 sends-plain sent next is other call asks =
     let same : sent ≡ call = (let k : nexts.Send sent ≡ nexts.Send call = sym is ∙ asks in cc) in subst IsOther same other
 
@@ -72,15 +72,15 @@ module _ (f : List ℕ) where
   MachineLeft (machines.Path m) left = PathLeft m.arrived m.opener left
   MachineLeft (machines.Name m) left = ⊥
 
-  step-over : (had : ℕ) (next : Next) (P R : ℕ → Type 0) → ((n : ℕ) → P n → R n) → Step f had next P → Step f had next R
+  step-over : (had : ℕ) (next : Step) (P R : ℕ → Type 0) → ((n : ℕ) → P n → R n) → StepIs f had next P → StepIs f had next R
   step-over had next P R to s = record { left = s.left; keeps = by next s.keeps; less = s.less; asks = s.asks }
     where
-      by : (n : Next) → Going n (P s.left) → Going n (R s.left)
+      by : (n : Step) → Going n (P s.left) → Going n (R s.left)
       by (nexts.Send call) p = to s.left p
       by nexts.Wait p = to s.left p
       by (nexts.Done answer) p = tt
 
-  taken-over : (had : ℕ) (sent turn : Turn) (old later : List Repeat) (next : Next) (P R : ℕ → Type 0) → ((n : ℕ) → P n → R n) → Taken f had sent turn old later next P → Taken f had sent turn old later next R
+  taken-over : (had : ℕ) (sent turn : Turn) (old later : List Repeat) (next : Step) (P R : ℕ → Type 0) → ((n : ℕ) → P n → R n) → Taken f had sent turn old later next P → Taken f had sent turn old later next R
   taken-over had sent turn old later next P R to (repeats table p) = repeats table (to had p)
   taken-over had sent turn old later next P R to (goes table s) = goes table (step-over had next P R to s)
 
@@ -89,8 +89,8 @@ module _ (f : List ℕ) where
 
   -- ---- files
 
-  file-resumes : (m : FileMachine) (wsize : ℕ) (turn : Turn) (old : Shelf) (next : Next) (new : FileMachine) (after : Shelf) (had : ℕ) → FileLeft m had → steps.Resumes wsize m turn old next new after
-      → Step f had next (FileLeft new)
+  file-resumes : (m : FileMachine) (wsize : ℕ) (turn : Turn) (old : Shelf) (next : Step) (new : FileMachine) (after : Shelf) (had : ℕ) → FileLeft m had → steps.Resumes wsize m turn old next new after
+      → StepIs f had next (FileLeft new)
   file-resumes (files.Sync m) wsize turn old next new after had left s =
       step-over had next (SyncLeft f s.state) (FileLeft new) (file-to (files.Sync (record m { state = s.state })) new s.machine_is) (sync-resumes f m.state wsize m turn old next s.state after had left s.step)
   file-resumes (files.Close m) wsize turn old next new after had left s =
@@ -125,7 +125,7 @@ module _ (f : List ℕ) where
   put-waits (putting.Adds file) m is some = tt
   put-waits (putting.Saves s) m is some = tt
 
-  file-takes : (m : FileMachine) (wsize : ℕ) (sent turn : Turn) (came : Result Reply Fault) (old : Shelf) (next : Next) (new : FileMachine) (after : Shelf) (had : ℕ) → 1 ≤ of_file m → FileLeft m had
+  file-takes : (m : FileMachine) (wsize : ℕ) (sent turn : Turn) (came : Result Reply Fault) (old : Shelf) (next : Step) (new : FileMachine) (after : Shelf) (had : ℕ) → 1 ≤ of_file m → FileLeft m had
       → FileRoom m came old → steps.Takes wsize m sent turn came old next new after → Taken f had sent turn old.repeats after.repeats next (FileLeft new)
   file-takes (files.Sync m) wsize sent turn came old next new after had some left room s =
       taken-over had sent turn old.repeats after.repeats next (SyncLeft f s.state) (FileLeft new) (file-to (files.Sync (record m { state = s.state })) new s.machine_is)
@@ -153,8 +153,8 @@ module _ (f : List ℕ) where
   placed-left dir (openers.Put m) n k = k
   placed-left dir (openers.Open m) n k = absurd k
 
-  follows-path : (step : WalkNext) (wsize : ℕ) (m : PathMachine) (turn : Turn) (old : Shelf) (next : Next) (new : PathMachine) (after : Shelf) (had : ℕ) → m.arrived ≡ false → WalkOther step
-      → BeforeLeft m.opener had → paths.Follows step wsize m turn old next new after → Step f had next (MachineLeft (machines.Path new))
+  follows-path : (step : WalkStep) (wsize : ℕ) (m : PathMachine) (turn : Turn) (old : Shelf) (next : Step) (new : PathMachine) (after : Shelf) (had : ℕ) → m.arrived ≡ false → WalkOther step
+      → BeforeLeft m.opener had → paths.Follows step wsize m turn old next new after → StepIs f had next (MachineLeft (machines.Path new))
   follows-path (walks.Send call) wsize m turn old next new after had on_way other left k =
       plain-step f had next (MachineLeft (machines.Path new)) (sends-plain call next k.0 other) (before-to m new on_way k.1 had left)
   follows-path walks.Wait wsize m turn old next new after had on_way other left k = wait-step f had next (MachineLeft (machines.Path new)) k.0 (before-to m new on_way k.1 had left)
@@ -163,8 +163,8 @@ module _ (f : List ℕ) where
       (file-resumes (file_of (placed dir m.opener)) wsize turn old next (file_of k.opener) after had (placed-left dir m.opener had left) k.step)
   follows-path (walks.Refused fault) wsize m turn old next new after had on_way other left k = done-step f had next _ (MachineLeft (machines.Path new)) k.0
 
-  path-resumes : (b : Bool) (wsize : ℕ) (m : PathMachine) (turn : Turn) (old : Shelf) (next : Next) (new : PathMachine) (after : Shelf) (had : ℕ) → m.arrived ≡ b → PathLeft b m.opener had
-      → paths.PathResumes b wsize m turn old next new after → Step f had next (MachineLeft (machines.Path new))
+  path-resumes : (b : Bool) (wsize : ℕ) (m : PathMachine) (turn : Turn) (old : Shelf) (next : Step) (new : PathMachine) (after : Shelf) (had : ℕ) → m.arrived ≡ b → PathLeft b m.opener had
+      → paths.PathResumes b wsize m turn old next new after → StepIs f had next (MachineLeft (machines.Path new))
   path-resumes true wsize m turn old next new after had is left r =
       step-over had next (FileLeft (file_of r.opener)) (MachineLeft (machines.Path new)) (path-to m r.opener new is r.machine_is)
       (file-resumes (file_of m.opener) wsize turn old next (file_of r.opener) after had left r.step)
@@ -177,7 +177,7 @@ module _ (f : List ℕ) where
 
   -- ---- what came to a put
 
-  follows-table : (step : WalkNext) (wsize : ℕ) (m : PathMachine) (turn : Turn) (old : Shelf) (next : Next) (new : PathMachine) (after : Shelf) → paths.Follows step wsize m turn old next new after
+  follows-table : (step : WalkStep) (wsize : ℕ) (m : PathMachine) (turn : Turn) (old : Shelf) (next : Step) (new : PathMachine) (after : Shelf) → paths.Follows step wsize m turn old next new after
       → after.repeats ≡ old.repeats
   follows-table (walks.Send call) wsize m turn old next new after k = ap (λ (z : Shelf). z.repeats) k.2
   follows-table walks.Wait wsize m turn old next new after k = ap (λ (z : Shelf). z.repeats) k.2
@@ -185,7 +185,7 @@ module _ (f : List ℕ) where
       resumes-same (machines.Path (record m { opener = placed dir m.opener; arrived = true })) wsize turn old next (machines.Path new) after (record { machine = new; machine_is = refl; step = k })
   follows-table (walks.Refused fault) wsize m turn old next new after k = ap (λ (z : Shelf). z.repeats) k.2
 
-  module _ (wsize : ℕ) (m : PathMachine) (sent turn : Turn) (came : Result Reply Fault) (old : Shelf) (next : Next) (new : PathMachine) (after : Shelf) (had : ℕ) (on_way : m.arrived ≡ false)
+  module _ (wsize : ℕ) (m : PathMachine) (sent turn : Turn) (came : Result Reply Fault) (old : Shelf) (next : Step) (new : PathMachine) (after : Shelf) (had : ℕ) (on_way : m.arrived ≡ false)
       (left : BeforeLeft m.opener had) (t : paths.WalkTakes wsize m sent turn came old next new after) where
     walked-way : t.walked.arrived ≡ false
     walked-way = ap (λ (p : PathMachine). p.arrived) t.walked_is ∙ on_way
@@ -215,7 +215,7 @@ module _ (f : List ℕ) where
         by : (b : Bool) → look_again sent turn came old ≡ b → Taken f had sent turn old.repeats after.repeats next (MachineLeft (machines.Path new))
         by true is =
             let step_is : t.step ≡ walks.Send _ = l.next_is ∙ ap (λ (b : Bool). walking.followed_next b m.walk name (found_by came) turn l.heard) is in
-            let k = subst (λ (s : WalkNext). paths.Follows s wsize t.walked turn t.heard next new after) step_is t.follows in
+            let k = subst (λ (s : WalkStep). paths.Follows s wsize t.walked turn t.heard next new after) step_is t.follows in
             repeats (table true is) (before-to t.walked new walked-way k.1 had walked-left)
         by false is =
             let step_is : t.step ≡ walking.told_next m.walk (found_by came) turn l.heard =
@@ -231,7 +231,7 @@ module _ (f : List ℕ) where
         by None none k = absurd (omega (arith, none))
         by (Some name) any k = looks name k
 
-  path-takes : (b : Bool) (wsize : ℕ) (m : PathMachine) (sent turn : Turn) (came : Result Reply Fault) (old : Shelf) (next : Next) (new : PathMachine) (after : Shelf) (had : ℕ) → m.arrived ≡ b
+  path-takes : (b : Bool) (wsize : ℕ) (m : PathMachine) (sent turn : Turn) (came : Result Reply Fault) (old : Shelf) (next : Step) (new : PathMachine) (after : Shelf) (had : ℕ) → m.arrived ≡ b
       → 1 ≤ path_by b (of_walk m.walk) (of_file (file_of m.opener)) → PathLeft b m.opener had → PathRoom b m.opener came old → paths.PathTakes b wsize m sent turn came old next new after
       → Taken f had sent turn old.repeats after.repeats next (MachineLeft (machines.Path new))
   path-takes true wsize m sent turn came old next new after had is some left room t =
@@ -246,8 +246,8 @@ module _ (f : List ℕ) where
   MachineRoom (machines.Path m) came old = PathRoom m.arrived m.opener came old
   MachineRoom (machines.Name m) came old = Unit {0}
 
-  pub machine-resumes : (machine : Machine) (wsize : ℕ) (turn : Turn) (old : Shelf) (next : Next) (new : Machine) (after : Shelf) (had : ℕ) → MachineLeft machine had → Resumes wsize machine turn old next new after
-      → Step f had next (MachineLeft new)
+  pub machine-resumes : (machine : Machine) (wsize : ℕ) (turn : Turn) (old : Shelf) (next : Step) (new : Machine) (after : Shelf) (had : ℕ) → MachineLeft machine had → Resumes wsize machine turn old next new after
+      → StepIs f had next (MachineLeft new)
   machine-resumes (machines.File m) wsize turn old next new after had left s =
       step-over had next (FileLeft s.machine) (MachineLeft new) (λ n k. subst (λ (z : Machine). MachineLeft z n) (sym s.machine_is) k) (file-resumes m wsize turn old next s.machine after had left s.step)
   machine-resumes (machines.Path m) wsize turn old next new after had left s =
@@ -255,7 +255,7 @@ module _ (f : List ℕ) where
       (path-resumes m.arrived wsize m turn old next s.machine after had refl left s.step)
   machine-resumes (machines.Name m) wsize turn old next new after had left s = absurd left
 
-  pub machine-takes : (machine : Machine) (wsize : ℕ) (sent turn : Turn) (came : Result Reply Fault) (old : Shelf) (next : Next) (new : Machine) (after : Shelf) (had : ℕ) → 1 ≤ in_flight machine
+  pub machine-takes : (machine : Machine) (wsize : ℕ) (sent turn : Turn) (came : Result Reply Fault) (old : Shelf) (next : Step) (new : Machine) (after : Shelf) (had : ℕ) → 1 ≤ in_flight machine
       → MachineLeft machine had → MachineRoom machine came old → Takes wsize machine sent turn came old next new after → Taken f had sent turn old.repeats after.repeats next (MachineLeft new)
   machine-takes (machines.File m) wsize sent turn came old next new after had some left room s =
       taken-over had sent turn old.repeats after.repeats next (FileLeft s.machine) (MachineLeft new) (λ n k. subst (λ (z : Machine). MachineLeft z n) (sym s.machine_is) k)
@@ -274,8 +274,8 @@ module _ (f : List ℕ) where
     close : (slot : ℕ) → op ≡ ops.Close slot → IsSaver op
     put : (path : List (List ℕ)) (offset : ℕ) (bytes : List ℕ) → op ≡ ops.Put path offset bytes → IsSaver op
 
-  pub machine-starts : (m : Mounted) (lane : ℕ) (op : Op) (wsize : ℕ) (turn : Turn) (old : Shelf) (next : Next) (new : Machine) (after : Shelf) → IsSaver op
-      → Starts wsize (machine_of m lane op) turn old next new after → Step f 2 next (MachineLeft new)
+  pub machine-starts : (m : Mounted) (lane : ℕ) (op : Op) (wsize : ℕ) (turn : Turn) (old : Shelf) (next : Step) (new : Machine) (after : Shelf) → IsSaver op
+      → Starts wsize (machine_of m lane op) turn old next new after → StepIs f 2 next (MachineLeft new)
   machine-starts m lane op wsize turn old next new after (sync slot is) s =
       let k = subst (λ (o : Op). Starts wsize (machine_of m lane o) turn old next new after) is s in
       step-over 2 next (SyncLeft f k.step.state) (MachineLeft new) (λ n l. subst (λ (z : Machine). MachineLeft z n) (sym (k.machine_is ∙ ap machines.File k.step.machine_is)) l)

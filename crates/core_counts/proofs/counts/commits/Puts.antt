@@ -1,9 +1,9 @@
 -- A put asks for two COMMITs at most, where it finds room for its bytes.
-use Rattle.core_counts.proofs.Prelude.{◌≡◌, ◌≤◌, ◌⊎◌, inl, inr, ℕ, Bool, true, false, List, Result, Ok, Err, refl, sym, ap, subst, ◌∙◌, arith, Mode, Attrs, Pages, Pending, Answer, Fault, Reply, is_first, Next, Shelf, Turn, is_full, joined, Led, Opening, OpeningNext, OpeningStep, PutFile, Putting, Saving, by-step}
+use Rattle.core_counts.proofs.Prelude.{◌≡◌, ◌≤◌, ◌⊎◌, inl, inr, ℕ, Bool, true, false, List, Result, Ok, Err, refl, sym, ap, subst, ◌∙◌, arith, Mode, Attrs, Pages, Pending, Answer, Fault, Reply, is_first, Step, Shelf, Turn, is_full, joined, Led, Opening, OpeningStep, OpeningPhase, PutFile, Putting, Saving, by-step}
 use Rattle.nfs_types.specs.declared.mode.Mode.TheVariants as modes
 use Rattle.world_model.specs.declared.answer.Answer.TheVariants as answers
 use Rattle.client_shelf.specs.Repeats.{answered}
-use Rattle.client_shelf.specs.declared.next.Next.TheVariants as nexts
+use Rattle.client_shelf.specs.declared.step.Step.TheVariants as nexts
 use Rattle.file_ops.specs.OpenFile as opens
 use Rattle.file_ops.specs.Opening as opening
 use Rattle.file_ops.specs.PutFile as puts
@@ -12,17 +12,17 @@ use Rattle.file_ops.specs.Syncs as syncs
 use Rattle.file_ops.specs.WriteFile as writes
 use Rattle.file_ops.specs.WriteFile.{made_bytes}
 use Rattle.file_ops.specs.declared.opening.Led.TheVariants as leads
-use Rattle.file_ops.specs.declared.opening.OpeningNext.TheVariants as steps
-use Rattle.file_ops.specs.declared.opening.OpeningStep.TheVariants.{Look, Make, Find, Ask}
+use Rattle.file_ops.specs.declared.opening.OpeningStep.TheVariants as steps
+use Rattle.file_ops.specs.declared.opening.OpeningPhase.TheVariants.{Look, Make, Find, Ask}
 use Rattle.file_ops.specs.declared.put_file.Putting.TheVariants as putting
 use Rattle.core_answers.proofs.writes.Plain.{go-asks, took-asks, opening-plain}
-use Rattle.core_counts.proofs.counts.commits.Machines.{Step, Taken, repeats, goes, done-step, wait-step, plain-step, spent-step, step-as}
+use Rattle.core_counts.proofs.counts.commits.Machines.{StepIs, Taken, repeats, goes, done-step, wait-step, plain-step, spent-step, step-as}
 use Rattle.core_counts.proofs.counts.commits.Saves.{left_to, Spent, Took, again, on, goes-spent, takes-took}
 
 -- ---- an opening whose call wasn't made
 
 -- it ends with a fault
-failed-led : (mode : Mode) (step : OpeningStep) (fault : Fault) → opening.led_to mode step (Err fault) ≡ leads.Ends fault
+failed-led : (mode : Mode) (step : OpeningPhase) (fault : Fault) → opening.led_to mode step (Err fault) ≡ leads.Ends fault
 failed-led modes.R Look fault = refl
 failed-led modes.W Look fault = refl
 failed-led modes.RW Look fault = refl
@@ -57,16 +57,16 @@ module _ (f : List ℕ) where
 
   -- ---- its save
 
-  put-follows : (gives : _) (lane : ℕ) (saved : Saving) (was : Shelf) (next : Next) (state : Putting) (new : Shelf) (had many : ℕ) → many ≤ had → Spent f many (syncs.sync_next gives) saved
-      → puts.Follows gives lane saved was next state new → Step f had next (PutLeft state)
+  put-follows : (gives : _) (lane : ℕ) (saved : Saving) (was : Shelf) (next : Step) (state : Putting) (new : Shelf) (had many : ℕ) → many ≤ had → Spent f many (syncs.sync_next gives) saved
+      → puts.Follows gives lane saved was next state new → StepIs f had next (PutLeft state)
   put-follows gives lane saved was next state new had many le s k = by-step
-      (λ g. Spent f many (syncs.sync_next g) saved → puts.Follows g lane saved was next state new → Step f had next (PutLeft state))
+      (λ g. Spent f many (syncs.sync_next g) saved → puts.Follows g lane saved was next state new → StepIs f had next (PutLeft state))
       (λ call z l. step-as f had next (nexts.Send call) (PutLeft state) l.0 (spent-step f had many (nexts.Send call) saved (PutLeft state) le z (put-as (putting.Saves saved) state (left_to saved) l.1 (omega arith))))
       (λ z l. step-as f had next nexts.Wait (PutLeft state) l.0 (spent-step f had many nexts.Wait saved (PutLeft state) le z (put-as (putting.Saves saved) state (left_to saved) l.1 (omega arith))))
       (λ result z l. done-step f had next _ (PutLeft state) l.next_is)
       gives s k
 
-  left-of : (gives : _) (lane : ℕ) (saved : Saving) (was : Shelf) (next : Next) (state : Putting) (new : Shelf) (many : ℕ) → left_to saved ≤ many → puts.Follows gives lane saved was next state new
+  left-of : (gives : _) (lane : ℕ) (saved : Saving) (was : Shelf) (next : Step) (state : Putting) (new : Shelf) (many : ℕ) → left_to saved ≤ many → puts.Follows gives lane saved was next state new
       → PutLeft state many
   left-of gives lane saved was next state new many few l = by-step (λ g. puts.Follows g lane saved was next state new → PutLeft state many)
       (λ call k. put-as (putting.Saves saved) state many k.1 few)
@@ -74,34 +74,34 @@ module _ (f : List ℕ) where
       (λ result k. put-as putting.Idle state many k.state_is tt)
       gives l
 
-  same-table : (gives : _) (lane : ℕ) (saved : Saving) (was : Shelf) (next : Next) (state : Putting) (new : Shelf) → puts.Follows gives lane saved was next state new → new.repeats ≡ was.repeats
+  same-table : (gives : _) (lane : ℕ) (saved : Saving) (was : Shelf) (next : Step) (state : Putting) (new : Shelf) → puts.Follows gives lane saved was next state new → new.repeats ≡ was.repeats
   same-table gives lane saved was next state new l = by-step (λ g. puts.Follows g lane saved was next state new → new.repeats ≡ was.repeats)
       (λ call k. ap (λ (z : Shelf). z.repeats) k.2)
       (λ k. ap (λ (z : Shelf). z.repeats) k.2)
       (λ result k. ap (λ (z : Shelf). z.repeats) k.others)
       gives l
 
-  put-queues : (b : Bool) (wsize lane : ℕ) (turn : Turn) (s : Saving) (was : Shelf) (next : Next) (state : Putting) (new : Shelf) (had : ℕ) → left_to s ≤ had
-      → puts.QueuesIf b wsize lane turn s was next state new → Step f had next (PutLeft state)
+  put-queues : (b : Bool) (wsize lane : ℕ) (turn : Turn) (s : Saving) (was : Shelf) (next : Step) (state : Putting) (new : Shelf) (had : ℕ) → left_to s ≤ had
+      → puts.QueuesIf b wsize lane turn s was next state new → StepIs f had next (PutLeft state)
   put-queues true wsize lane turn s was next state new had le q =
       put-follows q.gives lane q.saved q.gone next state new had (left_to s) le (goes-spent f wsize turn.xid turn.room false s was.back q.gives q.saved q.gone.back q.goes) q.follows
   put-queues false wsize lane turn s was next state new had le q = wait-step f had next (PutLeft state) q.next_is (put-as (putting.Saves s) state had q.state_is le)
 
-  queues-table : (b : Bool) (wsize lane : ℕ) (turn : Turn) (s : Saving) (was : Shelf) (next : Next) (state : Putting) (new : Shelf) → puts.QueuesIf b wsize lane turn s was next state new
+  queues-table : (b : Bool) (wsize lane : ℕ) (turn : Turn) (s : Saving) (was : Shelf) (next : Step) (state : Putting) (new : Shelf) → puts.QueuesIf b wsize lane turn s was next state new
       → new.repeats ≡ was.repeats
   queues-table true wsize lane turn s was next state new q = same-table q.gives lane q.saved q.gone next state new q.follows ∙ ap (λ (z : Shelf). z.repeats) q.others
   queues-table false wsize lane turn s was next state new q = ap (λ (z : Shelf). z.repeats) q.shelf_is
 
   -- ---- its bytes
 
-  pub record Adds (had : ℕ) (was : Shelf) (next : Next) (state : Putting) (new : Shelf) : Type 0 where
-    pub step : Step f had next (PutLeft state)
+  pub record Adds (had : ℕ) (was : Shelf) (next : Step) (state : Putting) (new : Shelf) : Type 0 where
+    pub step : StepIs f had next (PutLeft state)
     pub table : new.repeats ≡ was.repeats
 
-  after-write : (told : Next) (answer : Answer) (wsize lane : ℕ) (file : List ℕ) (turn : Turn) (was : Shelf) (next : Next) (state : Putting) (new : Shelf) (had : ℕ) → 2 ≤ had → told ≡ nexts.Done answer
+  after-write : (told : Step) (answer : Answer) (wsize lane : ℕ) (file : List ℕ) (turn : Turn) (was : Shelf) (next : Step) (state : Putting) (new : Shelf) (had : ℕ) → 2 ≤ had → told ≡ nexts.Done answer
       → puts.AfterWrite told wsize lane file turn was next state new → Adds had was next state new
   after-write told answer wsize lane file turn was next state new had le is k =
-      by answer (subst (λ (n : Next). puts.AfterWrite n wsize lane file turn was next state new) is k)
+      by answer (subst (λ (n : Step). puts.AfterWrite n wsize lane file turn was next state new) is k)
     where
       by : (a : Answer) → puts.AfterWrite (nexts.Done a) wsize lane file turn was next state new → Adds had was next state new
       by (answers.Done value) q = record {
@@ -110,7 +110,7 @@ module _ (f : List ℕ) where
       }
       by (answers.Refused fault) e = record { step = done-step f had next _ (PutLeft state) e.next_is; table = ap (λ (z : Shelf). z.repeats) e.others }
 
-  adds-bytes : (wsize : ℕ) (machine : PutFile) (file : List ℕ) (turn : Turn) (old : Shelf) (next : Next) (new : PutFile) (after : Shelf) (had : ℕ) → 2 ≤ had
+  adds-bytes : (wsize : ℕ) (machine : PutFile) (file : List ℕ) (turn : Turn) (old : Shelf) (next : Step) (new : PutFile) (after : Shelf) (had : ℕ) → 2 ≤ had
       → is_full (made_bytes machine.write.text) old.back ≡ false → puts.AddsBytes wsize machine file turn old next new after → Adds had old next new.state after
   adds-bytes wsize machine file turn old next new after had le room a =
       by (is_full (made_bytes machine.write.text) old.back) room a.writes
@@ -128,8 +128,8 @@ module _ (f : List ℕ) where
 
   -- ---- a step without a reply
 
-  pub put-resumes : (at : Putting) (wsize : ℕ) (machine : PutFile) (turn : Turn) (old : Shelf) (next : Next) (new : PutFile) (after : Shelf) (had : ℕ) → machine.state ≡ at → PutLeft at had
-      → puts.Resumes at wsize machine turn old next new after → Step f had next (PutLeft new.state)
+  pub put-resumes : (at : Putting) (wsize : ℕ) (machine : PutFile) (turn : Turn) (old : Shelf) (next : Step) (new : PutFile) (after : Shelf) (had : ℕ) → machine.state ≡ at → PutLeft at had
+      → puts.Resumes at wsize machine turn old next new after → StepIs f had next (PutLeft new.state)
   put-resumes putting.Idle wsize machine turn old next new after had is le r =
       wait-step f had next (PutLeft new.state) r.next_is (put-as putting.Idle new.state had (ap (λ (z : PutFile). z.state) r.machine_is ∙ is) tt)
   put-resumes putting.Opens wsize machine turn old next new after had is le r =
@@ -140,8 +140,8 @@ module _ (f : List ℕ) where
   put-resumes (putting.Saves s) wsize machine turn old next new after had is le r =
       put-queues (is_first machine.write.lane old.order) wsize machine.write.lane turn s old next new.state after had le r.0
 
-  pub put-starts : (machine : PutFile) (turn : Turn) (next : Next) (state : Putting) (had : ℕ) → 2 ≤ had → next ≡ opens.goes_as (opening.go_next (puts.opening_at turn machine) turn) → state ≡ putting.Opens
-      → Step f had next (PutLeft state)
+  pub put-starts : (machine : PutFile) (turn : Turn) (next : Step) (state : Putting) (had : ℕ) → 2 ≤ had → next ≡ opens.goes_as (opening.go_next (puts.opening_at turn machine) turn) → state ≡ putting.Opens
+      → StepIs f had next (PutLeft state)
   put-starts machine turn next state had le is opens_ =
       plain-step f had next (PutLeft state)
       (opening-plain (opening.go_next (puts.opening_at turn machine) turn) next is (go-asks (puts.opening_at turn machine) turn (opening.go_next (puts.opening_at turn machine) turn) refl))
@@ -166,7 +166,7 @@ module _ (f : List ℕ) where
   PutWaits (putting.Adds file) = Unit {0}
   PutWaits (putting.Saves s) = Unit {0}
 
-  module _ (wsize : ℕ) (machine : PutFile) (sent turn : Turn) (came : Result Reply Fault) (old : Shelf) (next : Next) (new : PutFile) (after : Shelf) (had : ℕ) (le : 2 ≤ had)
+  module _ (wsize : ℕ) (machine : PutFile) (sent turn : Turn) (came : Result Reply Fault) (old : Shelf) (next : Step) (new : PutFile) (after : Shelf) (had : ℕ) (le : 2 ≤ had)
       (is : machine.state ≡ putting.Opens) (room : HasRoom machine came old) (t : puts.TakesOpening wsize machine sent turn came old next new after) where
     abbrev led_put : PutFile
     led_put = puts.led (opening.opening_again machine.opening sent turn came old.repeats) machine turn came t.took.attrs old.pages
@@ -177,7 +177,7 @@ module _ (f : List ℕ) where
     table-as : (b : Bool) → opening.opening_again machine.opening sent turn came old.repeats ≡ b → t.took.repeats ≡ answered b sent.xid turn.xid old.repeats
     table-as b goes_ = t.repeats ∙ ap (λ (c : Bool). answered c sent.xid turn.xid old.repeats) goes_
 
-    opening-of : (step : OpeningNext) → t.step ≡ step → (b : Bool) → opening.opening_again machine.opening sent turn came old.repeats ≡ b
+    opening-of : (step : OpeningStep) → t.step ≡ step → (b : Bool) → opening.opening_again machine.opening sent turn came old.repeats ≡ b
         → opening.LedIf b machine.opening sent turn (opening.led_on machine.opening turn.now came t.took.attrs old.pages) step old.pages t.took.pages
         → puts.AfterOpening step wsize led_put turn t.took next new after → Taken f had sent turn old.repeats after.repeats next (PutLeft new.state)
     opening-of (steps.Send call) step_is true goes_ l k =
@@ -212,7 +212,7 @@ module _ (f : List ℕ) where
     pub opening-took : Taken f had sent turn old.repeats after.repeats next (PutLeft new.state)
     opening-took = opening-of t.step refl (opening.opening_again machine.opening sent turn came old.repeats) refl t.leads t.follows
 
-  pub put-takes : (at : Putting) (wsize : ℕ) (machine : PutFile) (sent turn : Turn) (came : Result Reply Fault) (old : Shelf) (next : Next) (new : PutFile) (after : Shelf) (had : ℕ) → machine.state ≡ at
+  pub put-takes : (at : Putting) (wsize : ℕ) (machine : PutFile) (sent turn : Turn) (came : Result Reply Fault) (old : Shelf) (next : Step) (new : PutFile) (after : Shelf) (had : ℕ) → machine.state ≡ at
       → PutWaits at → PutLeft at had → PutRoom at machine came old → puts.Takes at wsize machine sent turn came old next new after
       → Taken f had sent turn old.repeats after.repeats next (PutLeft new.state)
   put-takes putting.Idle wsize machine sent turn came old next new after had is waits le room t = absurd waits

@@ -1,10 +1,10 @@
 -- A save asks for two COMMITs at most: after what was pending was sent, and after what the first one showed to be lost.
-use Rattle.core_counts.proofs.Prelude.{◌≡◌, ◌≤◌, inl, inr, ◌+◌, ◌==◌, ◌&&◌, ℕ, Bool, true, false, List, [], ◌∷◌, Option, Some, None, Result, Ok, Err, refl, sym, ap, subst, ◌∙◌, arith, nat_lt, Verf, Verdict, AllStable, SendAgain, verdict_of, lost, chosen, piece_of, Pending, of_file, Segments, IsCommitOf, commit, Fault, Memory, Answer, Call, Reply, goes_again, ended, repeated, Next, Repeat, Turn, commit_told, Sending, Committing, Resending, CommittingAgain, Saving}
+use Rattle.core_counts.proofs.Prelude.{◌≡◌, ◌≤◌, inl, inr, ◌+◌, ◌==◌, ◌&&◌, ℕ, Bool, true, false, List, [], ◌∷◌, Option, Some, None, Result, Ok, Err, refl, sym, ap, subst, ◌∙◌, arith, nat_lt, Verf, Verdict, AllStable, SendAgain, verdict_of, lost, chosen, piece_of, Pending, of_file, Segments, IsCommitOf, commit, Fault, Memory, Answer, Call, Reply, goes_again, ended, repeated, Step, Repeat, Turn, commit_told, Sending, Committing, Resending, CommittingAgain, Saving}
 use Rattle.client_shelf.specs.Repeats.{answered}
 use Rattle.write_back.specs.Pieces.{Sent}
 use Rattle.world_model.specs.declared.answer.Answer.TheVariants as answers
 use Rattle.world_model.specs.declared.answer.Value.TheVariants as values
-use Rattle.client_shelf.specs.declared.next.Next.TheVariants as nexts
+use Rattle.client_shelf.specs.declared.step.Step.TheVariants as nexts
 use Rattle.file_ops.specs.Saves as saves
 use Rattle.file_ops.specs.Syncs as syncs
 use Rattle.file_ops.specs.declared.saving.Phase.{Phase}
@@ -21,12 +21,12 @@ left_to s = left_in s.phase
 
 module _ (f : List ℕ) where
   -- a step leaves so many, and a COMMIT takes one
-  pub record Spent (had : ℕ) (next : Next) (new : Saving) : Type 0 where
+  pub record Spent (had : ℕ) (next : Step) (new : Saving) : Type 0 where
     pub less : left_to new ≤ had
     pub asks : (call : Call) → next ≡ nexts.Send call → IsCommitOf f call → left_to new + 1 ≤ had
 
   led : (had : ℕ) (to : _) (s : Saving) (gives : _) (new : Saving) → saves.Leads to s gives new → Spent had (syncs.sync_next to) s → Spent had (syncs.sync_next gives) new
-  led had to s gives new l k = subst (λ (n : Next). Spent had n new) (ap syncs.sync_next (sym l.gives_next)) (subst (Spent had (syncs.sync_next to)) (sym l.keeps) k)
+  led had to s gives new l k = subst (λ (n : Step). Spent had n new) (ap syncs.sync_next (sym l.gives_next)) (subst (Spent had (syncs.sync_next to)) (sym l.keeps) k)
 
   wait-spent : (had : ℕ) (s : Saving) → left_to s ≤ had → Spent had nexts.Wait s
   wait-spent had s few = record { less = few; asks = λ call sends is. absurd (cc) }
@@ -99,11 +99,11 @@ module _ (f : List ℕ) where
 
   -- ---- what came
 
-  pub data Took (sent turn : Turn) (old later : List Repeat) (s : Saving) (next : Next) (new : Saving) : Type 0 where
+  pub data Took (sent turn : Turn) (old later : List Repeat) (s : Saving) (next : Step) (new : Saving) : Type 0 where
     again : later ≡ repeated sent.xid turn.xid old → left_to new ≤ left_to s → Took sent turn old later s next new
     on : later ≡ ended sent.xid old → Spent (left_to s) next new → Took sent turn old later s next new
 
-  spent-as : (few many : ℕ) (next : Next) (new : Saving) → few ≤ many → Spent few next new → Spent many next new
+  spent-as : (few many : ℕ) (next : Step) (new : Saving) → few ≤ many → Spent few next new → Spent many next new
   spent-as few many next new le k = record {
     less = let l = k.less in omega (arith, l, le);
     asks = λ call sends is. let l = k.asks call sends is in omega (arith, l, le);

@@ -1,5 +1,5 @@
 -- Along a history each call that is made has its row, and each operation makes no more first calls that are counted than its account has room for.
-use Rattle.core_counts.proofs.Prelude.{◌≡◌, ◌≢◌, ◌<◌, ◌≤◌, ◌+◌, ◌⊎◌, inl, inr, ℕ, List, [], ◌∷◌, ◌++◌, length, Bool, true, false, nat_eq, Option, Some, slice_get, slice_set, refl, sym, ap, subst, ◌∙◌, arith, eqb-true, eqb-false, Waiting, next_xid, made_call, waiting_at, waits_early, at_made, others_made, Entry, Began, Sent, Call, Op, NoneBegan, At, HasXid, SpellsCall, proc_of, UnderWay, At-one, Next, Send, Repeat, Mounted, Machine, machine_of, Lane, Purpose, State, Busy, Setup, record_of, Makes, View, turn_at, in_flight, IsMade, begins-unbegun, Runs, Rows, made-known, made-asked, AskedOf, Going, set-other, at-set, one-call, nfs-of, Outgoing, Calls, count, IsWaiting, Each}
+use Rattle.core_counts.proofs.Prelude.{◌≡◌, ◌≢◌, ◌<◌, ◌≤◌, ◌+◌, ◌⊎◌, inl, inr, ℕ, List, [], ◌∷◌, ◌++◌, length, Bool, true, false, nat_eq, Option, Some, slice_get, slice_set, refl, sym, ap, subst, ◌∙◌, arith, eqb-true, eqb-false, Waiting, next_xid, made_call, waiting_at, waits_early, at_made, others_made, Entry, Began, Sent, Call, Op, NoneBegan, At, HasXid, SpellsCall, proc_of, UnderWay, At-one, Step, Send, Repeat, Mounted, Machine, machine_of, Lane, Purpose, State, Busy, Setup, record_of, Makes, View, turn_at, in_flight, IsMade, begins-unbegun, Runs, Rows, made-known, made-asked, AskedOf, Going, set-other, at-set, one-call, nfs-of, Outgoing, Calls, count, IsWaiting, Each}
 use Rattle.core_facts.proofs.Stories.{some-call}
 use Rattle.core_session.proofs.delays.Tables.{AreApart, each-map}
 use Rattle.core_session.proofs.calls.TableHeld.{AllNoted}
@@ -85,7 +85,7 @@ module _ (m : Mounted) (setup : Setup) (H : List Entry) (V : View) (P : Call →
   AreOneEach lanes = (k other : Lane) (a b : ℕ) → slice_get lanes a ≡ Some k → slice_get lanes b ≡ Some other → k.number ≡ other.number → a ≡ b
 
   -- a call waits, or it is the one that the step asks for
-  abbrev pub Due : View → Next → ℕ → Type 0
+  abbrev pub Due : View → Step → ℕ → Type 0
   Due v next xid = IsWaiting v.calls.calls xid ⊎ ((xid ≡ next_xid v.calls) × ((call : Call) × (next ≡ Send call)))
 
   -- as which row the call joins the others
@@ -98,7 +98,7 @@ module _ (m : Mounted) (setup : Setup) (H : List Entry) (V : View) (P : Call →
     pub alone : (xid : ℕ) → IsWaiting v.calls.calls xid → (r : Row) → In r rows → r.xid ≡ xid → r.root ≢ root
 
   -- the operation of the lane made a step
-  pub record Own (rows : List Row) (h : List Entry) (v : View) (x : ℕ) (op : Op) (machine : Machine) (next : Next) : Type 0 where
+  pub record Own (rows : List Row) (h : List Entry) (v : View) (x : ℕ) (op : Op) (machine : Machine) (next : Step) : Type 0 where
     pub had : ℕ
     pub left : ℕ
     pub account : Account P Q base rows h x op had
@@ -106,7 +106,7 @@ module _ (m : Mounted) (setup : Setup) (H : List Entry) (V : View) (P : Call →
     pub less : left ≤ had
     pub asks : (call : Call) → next ≡ Send call → count (next_xid v.calls) v.shelf.repeats ≡ 0 → P call → left + 1 ≤ had
 
-  pub record Owing (rows : List Row) (h : List Entry) (v : View) (at number x : ℕ) (op : Op) (machine : Machine) (next : Next) : Type 0 where
+  pub record Owing (rows : List Row) (h : List Entry) (v : View) (at number x : ℕ) (op : Op) (machine : Machine) (next : Step) : Type 0 where
     pub there : slice_get v.lanes at ≡ Some (record { number = number; state = Busy machine })
     pub lanes : AreOneEach v.lanes
     pub runs : Runs h number
@@ -331,7 +331,7 @@ module _ (m : Mounted) (setup : Setup) (H : List Entry) (V : View) (P : Call →
     pub early : (xid : ℕ) (w : Waiting Purpose) → waiting_at xid v.calls.calls ≡ Some w → xid < next_xid v.calls
     early xid w at = waits_early v.calls.cred v.calls.first_xid (next_xid v.calls) xid v.calls.calls w r.sound.calls.each at
 
-    made-waits : (row : Waiting Purpose) (next : Next) (xid : ℕ) → Due v next xid → IsWaiting (v.calls.calls ++ (next_xid v.calls, row) ∷ []) xid
+    made-waits : (row : Waiting Purpose) (next : Step) (xid : ℕ) → Due v next xid → IsWaiting (v.calls.calls ++ (next_xid v.calls, row) ∷ []) xid
     made-waits row next xid (inl w) = record {
       call = w.call;
       waits =

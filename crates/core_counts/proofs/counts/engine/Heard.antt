@@ -1,5 +1,5 @@
 -- The book is kept where an operation takes what came of its call.
-use Rattle.core_counts.proofs.Prelude.{◌≡◌, ◌≢◌, ◌<◌, ◌≤◌, ◌+◌, ◌-◌, ◌&&◌, inl, inr, ℕ, List, [], ◌∷◌, ◌++◌, length, Bool, true, false, nat_eq, Some, None, option_map, position, Result, refl, sym, ap, subst, ◌∙◌, arith, eqb-true, eqb-false, ltb-true, xid_at, Waiting, next_xid, waiting_at, without, waits_early, others_taken, gone, Fault, Entry, Began, Sent, Delivered, Call, Reply, Op, At, IsBusy, UnderWay, FirstSent-grow, At-grow, At-below, At-back, At-last, length_last, said_of, Says, Next, Send, Repeat, goes_again, ended, repeated, Mounted, Machine, machine_of, Purpose, Busy, Setup, is_busy, numbers_of, with_state, TakesAt, View, turn_at, in_flight, Counts, HearsRecord, Reaches, IsMade, IsOutstanding, Tried, counts-calls, begins-unbegun, taken_one, was-sent, says-of, Known, Runs, LanesKnown, number_of, lanes-under-way, lanes-stay, quiet-facts, at-position, at-set, to-map, Rows, same-rows, rows-grow, taken-quiet, not-sent, taken-rows, Going, reached-good, NoCall, NoShelf, NoStory, no-laws, one-call, machine-fits, nfs-of, Calls, calls-laws, count, ended-is, IsWaiting, Each, Calm, took-any}
+use Rattle.core_counts.proofs.Prelude.{◌≡◌, ◌≢◌, ◌<◌, ◌≤◌, ◌+◌, ◌-◌, ◌&&◌, inl, inr, ℕ, List, [], ◌∷◌, ◌++◌, length, Bool, true, false, nat_eq, Some, None, option_map, position, Result, refl, sym, ap, subst, ◌∙◌, arith, eqb-true, eqb-false, ltb-true, xid_at, Waiting, next_xid, waiting_at, without, waits_early, others_taken, gone, Fault, Entry, Began, Sent, Delivered, Call, Reply, Op, At, IsBusy, UnderWay, FirstSent-grow, At-grow, At-below, At-back, At-last, length_last, said_of, Says, Step, Send, Repeat, goes_again, ended, repeated, Mounted, Machine, machine_of, Purpose, Busy, Setup, is_busy, numbers_of, with_state, TakesAt, View, turn_at, in_flight, Counts, HearsRecord, Reaches, IsMade, IsOutstanding, Tried, counts-calls, begins-unbegun, taken_one, was-sent, says-of, Known, Runs, LanesKnown, number_of, lanes-under-way, lanes-stay, quiet-facts, at-position, at-set, to-map, Rows, same-rows, rows-grow, taken-quiet, not-sent, taken-rows, Going, reached-good, NoCall, NoShelf, NoStory, no-laws, one-call, machine-fits, nfs-of, Calls, calls-laws, count, ended-is, IsWaiting, Each, Calm, took-any}
 use Rattle.core_facts.proofs.Tales.{IsExpected}
 use Rattle.core_session.proofs.delays.Delays.{Off, off-own, off-given, off-evident}
 use Rattle.client_shelf.specs.Repeats.{times_of, answered as answered_table}
@@ -335,7 +335,7 @@ module _ (m : Mounted) (setup : Setup) (H : List Entry) (V : View) (P : Call →
             had = (d.budgets x o.number own-before.line op own-before.began fits).left;
             left = left;
             account = account-grow P Q base d.rows h (Delivered rec) x op (d.budgets x o.number own-before.line op own-before.began fits).left (d.budgets x o.number own-before.line op own-before.began fits).account;
-            keeps = subst (λ (n : Next). Going n (Left later x op o.after left)) (sym (took.again busy)) l;
+            keeps = subst (λ (n : Step). Going n (Left later x op o.after left)) (sym (took.again busy)) l;
             less = less;
             asks = λ c same_call none p. absurd (let size = count-is in omega (arith, size, none));
           }

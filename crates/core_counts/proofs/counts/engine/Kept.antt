@@ -1,5 +1,5 @@
 -- The book is kept along a history.
-use Rattle.core_counts.proofs.Prelude.{◌≡◌, ◌≢◌, ◌<◌, ◌≤◌, ◌⊎◌, inl, inr, ℕ, List, [], ◌∷◌, ◌++◌, length, Option, Some, None, option_map, slice_get, refl, sym, ap, subst, ◌∙◌, arith, append_assoc, Waiting, next_xid, waiting_at, waits_early, Answer, Entry, Began, Answered, Sent, Delivered, Call, Op, NoneBegan, At, IsBusy, HasXid, SpellsCallBy, UnderWay, At-grow, At-below, At-back, At-cases, Next, Send, Wait, Done, Repeat, Shelf, Mounted, Machine, machine_of, Lane, Purpose, Busy, Setup, IsIdle, with_state, Stirs, counted, StartsLane, AnswersAt, View, turn_at, in_flight, Counts, counts-calls, begins-unbegun, Known, purpose_at, Runs, LanesKnown, number_of, lanes-under-way, lanes-stay, lanes-begin, at-set, at-push, get-push, get-remove, skip, to-map, Rows, same-rows, silent-grow, under-back, SameCalls, calls-laws, count, IsWaiting, Each}
+use Rattle.core_counts.proofs.Prelude.{◌≡◌, ◌≢◌, ◌<◌, ◌≤◌, ◌⊎◌, inl, inr, ℕ, List, [], ◌∷◌, ◌++◌, length, Option, Some, None, option_map, slice_get, refl, sym, ap, subst, ◌∙◌, arith, append_assoc, Waiting, next_xid, waiting_at, waits_early, Answer, Entry, Began, Answered, Sent, Delivered, Call, Op, NoneBegan, At, IsBusy, HasXid, SpellsCallBy, UnderWay, At-grow, At-below, At-back, At-cases, Step, Send, Wait, Done, Repeat, Shelf, Mounted, Machine, machine_of, Lane, Purpose, Busy, Setup, IsIdle, with_state, Stirs, counted, StartsLane, AnswersAt, View, turn_at, in_flight, Counts, counts-calls, begins-unbegun, Known, purpose_at, Runs, LanesKnown, number_of, lanes-under-way, lanes-stay, lanes-begin, at-set, at-push, get-push, get-remove, skip, to-map, Rows, same-rows, silent-grow, under-back, SameCalls, calls-laws, count, IsWaiting, Each}
 use Rattle.std.proofs.Common.{remove}
 use Rattle.core_session.proofs.delays.Tables.{AreApart, IsFree, each-map, free-of, free-count}
 use Rattle.core_facts.proofs.Counting.{none-idle}
@@ -37,13 +37,13 @@ module _ (m : Mounted) (setup : Setup) (H : List Entry) (V : View) (P : Call →
   abbrev pub IBudget : List Row → List Entry → List Lane → ℕ → Op → Type 0
   IBudget = BudgetAt m setup H V P Q is base Left laws
 
-  abbrev pub IOwn : List Row → List Entry → View → ℕ → Op → Machine → Next → Type 0
+  abbrev pub IOwn : List Row → List Entry → View → ℕ → Op → Machine → Step → Type 0
   IOwn = OwnAt m setup H V P Q is base Left laws
 
-  abbrev pub IOwing : List Row → List Entry → View → ℕ → ℕ → ℕ → Op → Machine → Next → Type 0
+  abbrev pub IOwing : List Row → List Entry → View → ℕ → ℕ → ℕ → Op → Machine → Step → Type 0
   IOwing = OwingAt m setup H V P Q is base Left laws
 
-  abbrev pub IDue : View → Next → ℕ → Type 0
+  abbrev pub IDue : View → Step → ℕ → Type 0
   IDue = DueAt m setup H V P Q is base Left laws
 
   abbrev pub IJoining : List Row → View → ℕ → Op → Call → ℕ → Type 0
@@ -202,7 +202,7 @@ module _ (m : Mounted) (setup : Setup) (H : List Entry) (V : View) (P : Call →
   pub one-each : (h : List Entry) (v : View) → LanesKnown h v → OneEach m setup H V P Q is base Left laws v.lanes
   one-each h v k a b i j here there same = (lanes-under-way h v k).apart i j a b here there same
 
-  pub some-in-flight : (others : ℕ) (machine : Machine) (next : Next) → Counts next others machine → (call : Call) → next ≡ Send call → 1 ≤ in_flight machine
+  pub some-in-flight : (others : ℕ) (machine : Machine) (next : Step) → Counts next others machine → (call : Call) → next ≡ Send call → 1 ≤ in_flight machine
   some-in-flight others machine (Send c) k call same = let one = k.0 in omega (arith, one)
   some-in-flight others machine Wait k call same = absurd (cc)
   some-in-flight others machine (Done answer) k call same = absurd (cc)

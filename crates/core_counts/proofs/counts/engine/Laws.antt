@@ -1,5 +1,5 @@
 -- What a count of calls has to show of each step of an operation, for a session to make no more of them than its operations need.
-use Rattle.core_counts.proofs.Prelude.{◌≡◌, ◌≤◌, ◌+◌, ℕ, List, ◌∷◌, [], ◌++◌, length, Result, Ok, Err, false, Some, slice_get, Fault, Entry, Began, Call, Reply, Op, Heard, UnderWay, Says, Next, Send, Repeat, Shelf, Turn, ended, repeated, Mounted, Machine, machine_of, Starts, Resumes, Takes, Busy, Setup, View, in_flight, Reaches, Going, Calls}
+use Rattle.core_counts.proofs.Prelude.{◌≡◌, ◌≤◌, ◌+◌, ℕ, List, ◌∷◌, [], ◌++◌, length, Result, Ok, Err, false, Some, slice_get, Fault, Entry, Began, Call, Reply, Op, Heard, UnderWay, Says, Step, Send, Repeat, Shelf, Turn, ended, repeated, Mounted, Machine, machine_of, Starts, Resumes, Takes, Busy, Setup, View, in_flight, Reaches, Going, Calls}
 use Rattle.world_model.specs.declared.answer.Fault.TheVariants as faults
 use Rattle.core_answers.proofs.answers.PieceSteps.{IsPiece}
 
@@ -25,7 +25,7 @@ pub data Came (h : List Entry) (x : ℕ) (machine : Machine) (sent : Turn) (came
 -- ---- the measure of an operation: how many calls it may still ask for, those that are made again because the server is busy apart
 
 -- A step leaves so much of the measure, that was `had`; each call that is counted takes one.
-pub record Spends (P : Call → Type 0) (Left : List Entry → ℕ → Op → Machine → ℕ → Type 0) (h : List Entry) (x : ℕ) (op : Op) (had : ℕ) (next : Next) (new : Machine) : Type 0 where
+pub record Spends (P : Call → Type 0) (Left : List Entry → ℕ → Op → Machine → ℕ → Type 0) (h : List Entry) (x : ℕ) (op : Op) (had : ℕ) (next : Step) (new : Machine) : Type 0 where
   pub left : ℕ
   pub keeps : Going next (Left h x op new left)
   pub less : left ≤ had
@@ -38,7 +38,7 @@ pub data Gains (Q : Call → ℕ → List ℕ → Type 0) (h : List Entry) (x : 
 
 -- A step at what came: it makes the call again, by the table of such calls, and then the measure is what it was; or it goes on.
 pub data Took (P : Call → Type 0) (Q : Call → ℕ → List ℕ → Type 0) (Left : List Entry → ℕ → Op → Machine → ℕ → Type 0) (h : List Entry) (x : ℕ) (op : Op) (had : ℕ) (sent turn : Turn)
-    (came : Result Reply Fault) (old : List Repeat) (next : Next) (new : Machine) (later : List Repeat) : Type 0 where
+    (came : Result Reply Fault) (old : List Repeat) (next : Step) (new : Machine) (later : List Repeat) : Type 0 where
   again : later ≡ repeated sent.xid turn.xid old → (left : ℕ) → left ≤ had → Left h x op new left → Took P Q Left h x op had sent turn came old next new later
   on : later ≡ ended sent.xid old → (gain : ℕ) → Gains Q h x came gain → Spends P Left h x op (had + gain) next new → Took P Q Left h x op had sent turn came old next new later
 
@@ -46,11 +46,11 @@ pub data Took (P : Call → Type 0) (Q : Call → ℕ → List ℕ → Type 0) (
 -- Left what is left to it.
 pub record CountLaws (machine_of : ℕ → Op → Machine) (P : Call → Type 0) (Q : Call → ℕ → List ℕ → Type 0) (is : Op → Type 0) (base : Op → ℕ)
     (Left : List Entry → ℕ → Op → Machine → ℕ → Type 0) : Type 0 where
-  pub starts : (h : List Entry) (lane line : ℕ) (op : Op) (wsize : ℕ) (turn : Turn) (old : Shelf) (next : Next) (new : Machine) (after : Shelf) → is op
+  pub starts : (h : List Entry) (lane line : ℕ) (op : Op) (wsize : ℕ) (turn : Turn) (old : Shelf) (next : Step) (new : Machine) (after : Shelf) → is op
       → Starts wsize (machine_of lane op) turn old next new after → Spends P Left (h ++ Began lane line op ∷ []) (length h) op (base op) next new
-  pub resumes : (h : List Entry) (x : ℕ) (op : Op) (machine : Machine) (wsize : ℕ) (turn : Turn) (old : Shelf) (next : Next) (new : Machine) (after : Shelf) (had : ℕ) → is op
+  pub resumes : (h : List Entry) (x : ℕ) (op : Op) (machine : Machine) (wsize : ℕ) (turn : Turn) (old : Shelf) (next : Step) (new : Machine) (after : Shelf) (had : ℕ) → is op
       → Left h x op machine had → Resumes wsize machine turn old next new after → Spends P Left h x op had next new
-  pub takes : (h : List Entry) (x : ℕ) (op : Op) (machine : Machine) (wsize : ℕ) (sent turn : Turn) (came : Result Reply Fault) (old : Shelf) (next : Next) (new : Machine)
+  pub takes : (h : List Entry) (x : ℕ) (op : Op) (machine : Machine) (wsize : ℕ) (sent turn : Turn) (came : Result Reply Fault) (old : Shelf) (next : Step) (new : Machine)
       (after : Shelf) (others had : ℕ) → is op → Left h x op machine had → in_flight machine ≡ others + 1 → Came h x machine sent came old
       → Takes wsize machine sent turn came old next new after → Took P Q Left h x op had sent turn came old.repeats next new after.repeats
   pub grows : (h : List Entry) (e : Entry) (x : ℕ) (op : Op) (machine : Machine) (left : ℕ) → Left h x op machine left → Left (h ++ e ∷ []) x op machine left
@@ -81,11 +81,11 @@ pub data Seen (m : Mounted) (setup : Setup) (H h : List Entry) (x : ℕ) (op : O
 -- As `CountLaws`, but that a step at what came knows this too.
 pub record SeenLaws (m : Mounted) (setup : Setup) (H : List Entry) (P : Call → Type 0) (Q : Call → ℕ → List ℕ → Type 0) (is : Op → Type 0) (base : Op → ℕ)
     (Left : List Entry → ℕ → Op → Machine → ℕ → Type 0) : Type 0 where
-  pub starts : (h : List Entry) (lane line : ℕ) (op : Op) (wsize : ℕ) (turn : Turn) (old : Shelf) (next : Next) (new : Machine) (after : Shelf) → is op
+  pub starts : (h : List Entry) (lane line : ℕ) (op : Op) (wsize : ℕ) (turn : Turn) (old : Shelf) (next : Step) (new : Machine) (after : Shelf) → is op
       → Starts wsize (machine_of m lane op) turn old next new after → Spends P Left (h ++ Began lane line op ∷ []) (length h) op (base op) next new
-  pub resumes : (h : List Entry) (x : ℕ) (op : Op) (machine : Machine) (wsize : ℕ) (turn : Turn) (old : Shelf) (next : Next) (new : Machine) (after : Shelf) (had : ℕ) → is op
+  pub resumes : (h : List Entry) (x : ℕ) (op : Op) (machine : Machine) (wsize : ℕ) (turn : Turn) (old : Shelf) (next : Step) (new : Machine) (after : Shelf) (had : ℕ) → is op
       → Left h x op machine had → Resumes wsize machine turn old next new after → Spends P Left h x op had next new
-  pub takes : (h : List Entry) (x : ℕ) (op : Op) (machine : Machine) (wsize : ℕ) (sent turn : Turn) (came : Result Reply Fault) (old : Shelf) (next : Next) (new : Machine)
+  pub takes : (h : List Entry) (x : ℕ) (op : Op) (machine : Machine) (wsize : ℕ) (sent turn : Turn) (came : Result Reply Fault) (old : Shelf) (next : Step) (new : Machine)
       (after : Shelf) (others had : ℕ) → is op → Left h x op machine had → in_flight machine ≡ others + 1 → Came h x machine sent came old → Seen m setup H h x op machine came old
       → Takes wsize machine sent turn came old next new after → Took P Q Left h x op had sent turn came old.repeats next new after.repeats
   pub grows : (h : List Entry) (e : Entry) (x : ℕ) (op : Op) (machine : Machine) (left : ℕ) → Left h x op machine left → Left (h ++ e ∷ []) x op machine left

@@ -1,5 +1,5 @@
 -- The book is kept by each step of a lane, and by each entry.
-use Rattle.core_counts.proofs.Prelude.{◌≡◌, ◌≢◌, ◌<◌, ◌≤◌, ◌+◌, ◌-◌, ◌&&◌, inl, inr, ℕ, List, [], ◌∷◌, ◌++◌, length, Bool, true, false, nat_eq, Some, slice_set, Result, Ok, Err, refl, sym, ap, subst, ◌∙◌, arith, length-append, eqb-true, eqb-false, Waiting, next_xid, waiting_at, Answer, Fault, Entry, Began, Call, Reply, Op, At, Next, Send, Wait, Done, Repeat, repeats_after, ended, Mounted, Machine, Lane, Purpose, State, Busy, Over, Setup, with_state, IsRefused, Leads, View, turn_at, unmade_turn, in_flight, Rows, Going, machine-fits, ended-is, IsWaiting, Each, Calm, took-any}
+use Rattle.core_counts.proofs.Prelude.{◌≡◌, ◌≢◌, ◌<◌, ◌≤◌, ◌+◌, ◌-◌, ◌&&◌, inl, inr, ℕ, List, [], ◌∷◌, ◌++◌, length, Bool, true, false, nat_eq, Some, slice_set, Result, Ok, Err, refl, sym, ap, subst, ◌∙◌, arith, length-append, eqb-true, eqb-false, Waiting, next_xid, waiting_at, Answer, Fault, Entry, Began, Call, Reply, Op, At, Step, Send, Wait, Done, Repeat, repeats_after, ended, Mounted, Machine, Lane, Purpose, State, Busy, Over, Setup, with_state, IsRefused, Leads, View, turn_at, unmade_turn, in_flight, Rows, Going, machine-fits, ended-is, IsWaiting, Each, Calm, took-any}
 use Rattle.std.proofs.Common.{nat_lt}
 use Rattle.world_model.specs.declared.answer.Fault.TheVariants as faults
 use Rattle.claims.specs.Terms.{jukebox}
@@ -52,13 +52,13 @@ module _ (m : Mounted) (setup : Setup) (H : List Entry) (V : View) (P : Call →
   abbrev pub BudgetAt : List Row → List Entry → List Lane → ℕ → Op → Type 0
   BudgetAt = Budget m setup H V P Q is base Left
 
-  abbrev pub OwnAt : List Row → List Entry → View → ℕ → Op → Machine → Next → Type 0
+  abbrev pub OwnAt : List Row → List Entry → View → ℕ → Op → Machine → Step → Type 0
   OwnAt = Own m setup H V P Q is base Left
 
-  abbrev pub OwingAt : List Row → List Entry → View → ℕ → ℕ → ℕ → Op → Machine → Next → Type 0
+  abbrev pub OwingAt : List Row → List Entry → View → ℕ → ℕ → ℕ → Op → Machine → Step → Type 0
   OwingAt = Owing m setup H V P Q is base Left
 
-  abbrev pub DueAt : View → Next → ℕ → Type 0
+  abbrev pub DueAt : View → Step → ℕ → Type 0
   DueAt = Due m setup H V P Q is base Left
 
   abbrev pub JoiningAt : List Row → View → ℕ → Op → Call → ℕ → Type 0
@@ -112,7 +112,7 @@ module _ (m : Mounted) (setup : Setup) (H : List Entry) (V : View) (P : Call →
     any-own : CallFaults (λ (fault : Fault). Unit {0})
     any-own = record { memory = tt }
 
-    not-due : (next : Next) (xid : ℕ) → DueAt v next xid × (xid ≢ next_xid v.calls) → IsWaiting v.calls.calls xid
+    not-due : (next : Step) (xid : ℕ) → DueAt v next xid × (xid ≢ next_xid v.calls) → IsWaiting v.calls.calls xid
     not-due next xid (inl w, apart) = w
     not-due next xid (inr mine, apart) = absurd (apart mine.0)
 
@@ -148,7 +148,7 @@ module _ (m : Mounted) (setup : Setup) (H : List Entry) (V : View) (P : Call →
       left-is : f.left.repeats ≡ left_of (next_xid v.calls) v.shelf.repeats
       left-is = table ∙ ended-is (next_xid v.calls) v.shelf.repeats
 
-      state-left : (next : Next) (state : State) (left : ℕ) → IsRefused f.after next state → Going next (Left h x op f.after left) → (other : Machine) → state ≡ Busy other → Left h x op other left
+      state-left : (next : Step) (state : State) (left : ℕ) → IsRefused f.after next state → Going next (Left h x op f.after left) → (other : Machine) → state ≡ Busy other → Left h x op other left
       state-left Wait state left i g other same = subst (λ (q : Machine). Left h x op q left) (same-busy f.after other (sym i ∙ same)) g
         where
           same-busy : (a b : Machine) → Busy a ≡ Busy b → a ≡ b
@@ -207,7 +207,7 @@ module _ (m : Mounted) (setup : Setup) (H : List Entry) (V : View) (P : Call →
 
     -- ---- no call is asked for
 
-    rests-waits : (next : Next) → ((call : Call) → next ≡ Send call → ⊥) → Each (DueAt v next) v.shelf.repeats → Each (IsWaiting v.calls.calls) v.shelf.repeats
+    rests-waits : (next : Step) → ((call : Call) → next ≡ Send call → ⊥) → Each (DueAt v next) v.shelf.repeats → Each (IsWaiting v.calls.calls) v.shelf.repeats
     rests-waits next none waits = each-map (DueAt v next) (IsWaiting v.calls.calls) by v.shelf.repeats waits
       where
         by : (xid : ℕ) → DueAt v next xid → IsWaiting v.calls.calls xid
@@ -261,7 +261,7 @@ module _ (m : Mounted) (setup : Setup) (H : List Entry) (V : View) (P : Call →
               budget-set m setup H V P Q is base Left rows h v.lanes at number machine x op o.there o.runs o.under y its (Over answer) (eqb-false y x d)
               (o.others y lane line its began fits (eqb-false y x d))
 
-      pub leads-book : (new : View) (next : Next) → OwingAt rows h v at number x op machine next → Leads v at number machine next new → BookAt h new
+      pub leads-book : (new : View) (next : Step) → OwingAt rows h v at number x op machine next → Leads v at number machine next new → BookAt h new
       leads-book new (Send call) o (inl k) = made-book m setup H V P Q is base Left rows h v r at number x op machine call o new k
       leads-book new (Send call) o (inr f) = unmade-book at number x op machine call o new f
       leads-book new Wait o same = subst (BookAt h) (sym same) (wait-book o)

@@ -1,10 +1,10 @@
 -- How many calls of its own a machine may still ask for, and what each of its steps costs.
-use Rattle.core_counts.proofs.Prelude.{◌≡◌, ◌≤◌, ◌+◌, ◌-◌, ℕ, zero, suc, Bool, true, false, List, [], ◌∷◌, length, Option, Some, None, slice_get, Result, Ok, Err, refl, sym, ap, subst, ◌∙◌, arith, if◌then◌else◌, Attr, stamp_of, Fault, Entry, Call, Reply, Op, Next, Repeat, Shelf, Turn, fails_busy, goes_again, repeats_after, ended, repeated, Walk, WalkNext, look_up, found_by, look_again, Machine, of_name}
+use Rattle.core_counts.proofs.Prelude.{◌≡◌, ◌≤◌, ◌+◌, ◌-◌, ℕ, zero, suc, Bool, true, false, List, [], ◌∷◌, length, Option, Some, None, slice_get, Result, Ok, Err, refl, sym, ap, subst, ◌∙◌, arith, if◌then◌else◌, Attr, stamp_of, Fault, Entry, Call, Reply, Op, Step, Repeat, Shelf, Turn, fails_busy, goes_again, repeats_after, ended, repeated, Walk, WalkStep, look_up, found_by, look_again, Machine, of_name}
 use Rattle.attr_cache.specs.Attrs as attrs
 use Rattle.name_cache.specs.Names as kept_names
-use Rattle.client_shelf.specs.declared.next.Next.TheVariants as nexts
+use Rattle.client_shelf.specs.declared.step.Step.TheVariants as nexts
 use Rattle.name_ops.specs.declared.walk.Spot.{Spot}
-use Rattle.name_ops.specs.declared.walk.WalkNext.TheVariants as walks
+use Rattle.name_ops.specs.declared.walk.WalkStep.TheVariants as walks
 use Rattle.name_ops.specs.Walking as walking
 use Rattle.core_counts.proofs.counts.engine.Laws.{Spends, nothing, Took, again, on}
 use Rattle.core_counts.proofs.counts.listed.Laws.{table-again}
@@ -13,21 +13,21 @@ use Rattle.core_counts.proofs.counts.listed.Laws.{table-again}
 
 module _ (P : Call → Type 0) where
   -- what is left after a step, where so much was left before
-  abbrev pub Costs : ℕ → Next → ℕ → Type 0
+  abbrev pub Costs : ℕ → Step → ℕ → Type 0
   Costs had (nexts.Send call) after = (after ≤ had) × (P call → after + 1 ≤ had)
   Costs had nexts.Wait after = after ≤ had
   Costs had (nexts.Done answer) after = Unit {0}
 
-  pub costs-as : (had : ℕ) (to next : Next) (one other : ℕ) → next ≡ to → other ≡ one → Costs had to one → Costs had next other
-  costs-as had to next one other is same c = subst (λ (n : Next). Costs had n other) (sym is) (subst (Costs had to) (sym same) c)
+  pub costs-as : (had : ℕ) (to next : Step) (one other : ℕ) → next ≡ to → other ≡ one → Costs had to one → Costs had next other
+  costs-as had to next one other is same c = subst (λ (n : Step). Costs had n other) (sym is) (subst (Costs had to) (sym same) c)
 
-  pub costs-more : (had more : ℕ) (next : Next) (after : ℕ) → had ≤ more → Costs had next after → Costs more next after
+  pub costs-more : (had more : ℕ) (next : Step) (after : ℕ) → had ≤ more → Costs had next after → Costs more next after
   costs-more had more (nexts.Send call) after wide c = (let low = c.0 in omega (arith, low, wide), λ p. let less = c.1 p in omega (arith, less, wide))
   costs-more had more nexts.Wait after wide c = omega (arith, c, wide)
   costs-more had more (nexts.Done answer) after wide c = tt
 
   -- a step at what came: the call is made again, by the table, or the operation goes on
-  pub data TakesCosts (had : ℕ) (sent turn : Turn) (old : List Repeat) (next : Next) (after : ℕ) (later : List Repeat) : Type 0 where
+  pub data TakesCosts (had : ℕ) (sent turn : Turn) (old : List Repeat) (next : Step) (after : ℕ) (later : List Repeat) : Type 0 where
     repeats_it : later ≡ repeated sent.xid turn.xid old → after ≤ had → TakesCosts had sent turn old next after later
     goes_on : later ≡ ended sent.xid old → Costs had next after → TakesCosts had sent turn old next after later
 
@@ -46,7 +46,7 @@ module _ (P : Call → Type 0) where
     left-to : (h : List Entry) (x : ℕ) (op : Op) (k : S) (n : ℕ) → left k ≤ n → LeftTo h x op (wrap k) n
     left-to h x op k n few = record { k = k; is = refl; enough = few }
 
-    pub spends : (h : List Entry) (x : ℕ) (op : Op) (had : ℕ) (next : Next) (k : S) → Costs had next (left k) → Spends P LeftTo h x op had next (wrap k)
+    pub spends : (h : List Entry) (x : ℕ) (op : Op) (had : ℕ) (next : Step) (k : S) → Costs had next (left k) → Spends P LeftTo h x op had next (wrap k)
     spends h x op had (nexts.Send call) k c = record { left = left k; keeps = left-to h x op k (left k) (omega arith); less = c.0; asks = λ other same p. c.1 (subst P (sym (sent-call call other same)) p) }
       where
         sent-call : (a b : Call) → nexts.Send a ≡ nexts.Send b → a ≡ b
@@ -60,7 +60,7 @@ module _ (P : Call → Type 0) where
         no-send : (b : Call) → nexts.Done answer ≡ nexts.Send b → ⊥
         no-send b e = cc
 
-    pub took : (h : List Entry) (x : ℕ) (op : Op) (had : ℕ) (sent turn : Turn) (came : Result Reply Fault) (old : List Repeat) (next : Next) (k : S) (later : List Repeat)
+    pub took : (h : List Entry) (x : ℕ) (op : Op) (had : ℕ) (sent turn : Turn) (came : Result Reply Fault) (old : List Repeat) (next : Step) (k : S) (later : List Repeat)
         → TakesCosts had sent turn old next (left k) later → Took P NoReply LeftTo h x op had sent turn came old next (wrap k) later
     took h x op had sent turn came old next k later (repeats_it table few) = again table (left k) few (left-to h x op k (left k) (omega arith))
     took h x op had sent turn came old next k later (goes_on table c) =
@@ -78,7 +78,7 @@ due target next = 1 - (next - target)
 -- ---- tables
 
 -- a call that is made again, or whose operation has its answer
-pub own-takes : (P : Call → Type 0) (had : ℕ) (b busy : Bool) (sent turn : Turn) (old : List Repeat) (next : Next) (after : ℕ) (later : List Repeat) → goes_again busy sent turn old ≡ b
+pub own-takes : (P : Call → Type 0) (had : ℕ) (b busy : Bool) (sent turn : Turn) (old : List Repeat) (next : Step) (after : ℕ) (later : List Repeat) → goes_again busy sent turn old ≡ b
     → later ≡ repeats_after busy sent turn old → after ≤ had → (b ≡ false → Costs P had next after) → TakesCosts P had sent turn old next after later
 own-takes P had true busy sent turn old next after later is table few rest = repeats_it (table-again true busy sent turn old later is table) few
 own-takes P had false busy sent turn old next after later is table few rest = goes_on (table-again false busy sent turn old later is table) (rest refl)
@@ -93,7 +93,7 @@ left_by false left = left
 abbrev pub names_left : Walk → ℕ
 names_left w = left_by w.asked w.spot.left
 
-abbrev pub WalkCosts : ℕ → WalkNext → ℕ → Type 0
+abbrev pub WalkCosts : ℕ → WalkStep → ℕ → Type 0
 WalkCosts had (walks.Send call) after = after + 1 ≤ had
 WalkCosts had walks.Wait after = after ≤ had
 WalkCosts had (walks.At object) after = after ≤ had
@@ -150,7 +150,7 @@ go-costs w turn shelf = by w.asked refl
     by false is = on-costs w turn shelf w.spot.left is (omega arith)
 
 -- what a reply leads to
-pub data WalkTakes (had : ℕ) (sent turn : Turn) (old : List Repeat) (step : WalkNext) (after : ℕ) (later : List Repeat) : Type 0 where
+pub data WalkTakes (had : ℕ) (sent turn : Turn) (old : List Repeat) (step : WalkStep) (after : ℕ) (later : List Repeat) : Type 0 where
   walk_again : (call : Call) → step ≡ walks.Send call → later ≡ repeated sent.xid turn.xid old → after ≤ had → WalkTakes had sent turn old step after later
   walk_on : later ≡ ended sent.xid old → WalkCosts had step after → WalkTakes had sent turn old step after later
 
@@ -163,7 +163,7 @@ told-costs : (w : Walk) (found : Result (List ℕ) Fault) (turn : Turn) (shelf :
 told-costs w (Ok found) turn shelf = on-costs (walking.arrived w found) turn shelf (w.spot.left - 1) refl (omega arith)
 told-costs w (Err fault) turn shelf = tt
 
-pub walk-takes : (name : Option (List ℕ)) (w : Walk) (sent turn : Turn) (came : Result Reply Fault) (old : Shelf) (step : WalkNext) (new : Walk) (after : Shelf) → walking.waiting_name w ≡ name → 1 ≤ of_name name
+pub walk-takes : (name : Option (List ℕ)) (w : Walk) (sent turn : Turn) (came : Result Reply Fault) (old : Shelf) (step : WalkStep) (new : Walk) (after : Shelf) → walking.waiting_name w ≡ name → 1 ≤ of_name name
     → walking.Takes name w sent turn came old step new after → WalkTakes (names_left w) sent turn old.repeats step (names_left new) after.repeats
 walk-takes None w sent turn came old step new after named some t = absurd (omega (arith, some))
 walk-takes (Some name) w sent turn came old step new after named some t = by (look_again sent turn came old) refl
@@ -190,6 +190,6 @@ walk-takes (Some name) w sent turn came old step new after named some t = by (lo
     by false calm =
         walk_on (table-again false (fails_busy (found_by came)) sent turn old.repeats after.repeats calm table)
         (subst (λ (n : ℕ). WalkCosts n step (names_left new)) had
-        (subst (λ (s : WalkNext). WalkCosts (w.spot.left - 1) s (names_left new)) (sym (t.next_is ∙ ap (λ (c : Bool). walking.followed_next c w name (found_by came) turn t.heard) calm))
+        (subst (λ (s : WalkStep). WalkCosts (w.spot.left - 1) s (names_left new)) (sym (t.next_is ∙ ap (λ (c : Bool). walking.followed_next c w name (found_by came) turn t.heard) calm))
         (subst (λ (k : Walk). WalkCosts (w.spot.left - 1) (walking.told_next w (found_by came) turn t.heard) (names_left k))
         (sym (t.walk_is ∙ ap (λ (c : Bool). walking.followed_walk c w (found_by came) turn t.heard) calm)) (told-costs w (found_by came) turn t.heard))))

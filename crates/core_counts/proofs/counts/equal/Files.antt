@@ -1,16 +1,16 @@
 -- What the steps of opens and puts cost, with the walk to their directory: LOOKUP, CREATE, LOOKUP and GETATTR once each.
-use Rattle.core_counts.proofs.Prelude.{◌≡◌, ◌≤◌, ◌+◌, ◌||◌, ◌&&◌, ◌==◌, inl, inr, not, ℕ, Bool, true, false, List, Option, Some, None, Result, Ok, Err, refl, sym, ap, subst, ◌∙◌, arith, if◌then◌else◌, Attrs, Attr, Mode, Stamp, Opens, stamp_of, Pages, known_of, Answer, Fault, Call, Reply, Next, Shelf, Turn, Led, Opening, OpeningNext, OpeningStep, Putting, got_by, FileMachine, Opener, file_of}
+use Rattle.core_counts.proofs.Prelude.{◌≡◌, ◌≤◌, ◌+◌, ◌||◌, ◌&&◌, ◌==◌, inl, inr, not, ℕ, Bool, true, false, List, Option, Some, None, Result, Ok, Err, refl, sym, ap, subst, ◌∙◌, arith, if◌then◌else◌, Attrs, Attr, Mode, Stamp, Opens, stamp_of, Pages, known_of, Answer, Fault, Call, Reply, Step, Shelf, Turn, Led, Opening, OpeningStep, OpeningPhase, Putting, got_by, FileMachine, Opener, file_of}
 use Rattle.attr_cache.specs.Attrs.{looked}
 use Rattle.nfs_types.specs.Stamps.{same_stamp}
 use Rattle.file_ops.specs.Told.{found_by, made_by}
 use Rattle.op_machines.specs.Openers.{placed}
 use Rattle.std.specs.FinMap as finite
 use Rattle.world_model.specs.declared.answer.Fault.TheVariants as faults
-use Rattle.client_shelf.specs.declared.next.Next.TheVariants as nexts
+use Rattle.client_shelf.specs.declared.step.Step.TheVariants as nexts
 use Rattle.file_ops.specs.declared.open_file.OpenFile.{OpenFile}
 use Rattle.file_ops.specs.declared.opening.Led.TheVariants as leads
-use Rattle.file_ops.specs.declared.opening.OpeningNext.TheVariants as openings
-use Rattle.file_ops.specs.declared.opening.OpeningStep.TheVariants as steps
+use Rattle.file_ops.specs.declared.opening.OpeningStep.TheVariants as openings
+use Rattle.file_ops.specs.declared.opening.OpeningPhase.TheVariants as steps
 use Rattle.file_ops.specs.declared.put_file.Putting.TheVariants as putting
 use Rattle.file_ops.specs.OpenFile as opens
 use Rattle.file_ops.specs.Opening as opening
@@ -23,7 +23,7 @@ use Rattle.core_counts.proofs.counts.equal.Costs.{Costs, costs-as, TakesCosts, o
 
 -- ---- how many calls an opening may still ask for
 
-abbrev pub rank : OpeningStep → Bool → ℕ
+abbrev pub rank : OpeningPhase → Bool → ℕ
 rank steps.Look true = 3
 rank steps.Look false = 4
 rank steps.Make true = 2
@@ -47,13 +47,13 @@ file_left (files.Open m) = opening_left m.opening
 file_left (files.Put m) = putting_left m.state m.opening
 file_left machine = 0
 
-rank-step : (step : OpeningStep) → rank step true + 1 ≡ rank step false
+rank-step : (step : OpeningPhase) → rank step true + 1 ≡ rank step false
 rank-step steps.Look = refl
 rank-step steps.Make = refl
 rank-step steps.Find = refl
 rank-step (steps.Ask file) = refl
 
-rank-most : (step : OpeningStep) (b : Bool) → rank step b ≤ 4
+rank-most : (step : OpeningPhase) (b : Bool) → rank step b ≤ 4
 rank-most steps.Look true = omega arith
 rank-most steps.Look false = omega arith
 rank-most steps.Make true = omega arith
@@ -90,7 +90,7 @@ got-fits file (Ok attr) = by (attr.kind == 1)
     by true = tt
     by false = tt
 
-told-fits : (mode : Mode) (step : OpeningStep) (came : Result Reply Fault) → LedFits (rank step true) (opening.led_to mode step came)
+told-fits : (mode : Mode) (step : OpeningPhase) (came : Result Reply Fault) → LedFits (rank step true) (opening.led_to mode step came)
 told-fits mode steps.Look came = by (opening.makes mode came)
   where
     by : (b : Bool) → LedFits 3 (if b then leads.Goes steps.Make else opening.found (found_by came))
@@ -130,7 +130,7 @@ asked-some true others is = refl
 asked-some false others is = absurd (omega (arith, is))
 
 -- the call that a step asks for, if it does
-abbrev pub SendsOf : Next → FileMachine → Type 0
+abbrev pub SendsOf : Step → FileMachine → Type 0
 SendsOf next new = (call : Call) → next ≡ nexts.Send call → FileNames new call × (1 ≤ of_file new)
 
 module _ (P : Call → Type 0) where
@@ -151,10 +151,10 @@ module _ (P : Call → Type 0) where
           (omega (arith, few, now, one), λ p. omega (arith, few, now, one))
 
   -- what it comes to, but where it has ended
-  pub led-costs : (o : Opening) (sent turn : Turn) (led : Led) (step : OpeningNext) (old new : Pages) (had : ℕ) → LedFits had led → opening.LedTo o sent turn led step old new
+  pub led-costs : (o : Opening) (sent turn : Turn) (led : Led) (step : OpeningStep) (old new : Pages) (had : ℕ) → LedFits had led → opening.LedTo o sent turn led step old new
       → ((r : Result (List ℕ) Fault) → step ≡ openings.Ended r → ⊥) → Costs P had (opens.goes_as step) (opening_left (opening.led_after o turn led))
   led-costs o sent turn (leads.Goes s) step old new had fits l open_ =
-      subst (λ (n : OpeningNext). Costs P had (opens.goes_as n) (opening_left (opening.go_after (opening.at_step o s) turn))) (sym l.0) (go-costs (opening.at_step o s) turn had fits)
+      subst (λ (n : OpeningStep). Costs P had (opens.goes_as n) (opening_left (opening.go_after (opening.at_step o s) turn))) (sym l.0) (go-costs (opening.at_step o s) turn had fits)
   led-costs o sent turn (leads.Opens file attr) (openings.Ended r) old new had fits l open_ = absurd (open_ r refl)
   led-costs o sent turn (leads.Opens file attr) (openings.Send call) old new had fits l open_ = absurd l
   led-costs o sent turn (leads.Opens file attr) openings.Wait old new had fits l open_ = absurd l
@@ -165,7 +165,7 @@ module _ (P : Call → Type 0) where
 
   -- ---- an open
 
-  open-done : (m : OpenFile) (r : Result (List ℕ) Fault) (next : Next) (old new : Opens) → opens.Follows m (openings.Ended r) next old new → (answer : Answer) × (next ≡ nexts.Done answer)
+  open-done : (m : OpenFile) (r : Result (List ℕ) Fault) (next : Step) (old new : Opens) → opens.Follows m (openings.Ended r) next old new → (answer : Answer) × (next ≡ nexts.Done answer)
   open-done m (Ok file) next old new f = by (finite.get old (opens.place_of m)) f
     where
       by : (o : Option _) → opens.PutsOver o (opens.place_of m) (opens.opened_of m.opening file) next old new → (answer : Answer) × (next ≡ nexts.Done answer)
@@ -174,7 +174,7 @@ module _ (P : Call → Type 0) where
       by None (inr p) = (_, p.0)
   open-done m (Err fault) next old new f = (_, f.0)
 
-  pub open-takes : (m : OpenFile) (sent turn : Turn) (came : Result Reply Fault) (old : Shelf) (next : Next) (new : FileMachine) (after : Shelf) (others : ℕ) → of_file (files.Open m) ≡ others + 1
+  pub open-takes : (m : OpenFile) (sent turn : Turn) (came : Result Reply Fault) (old : Shelf) (next : Step) (new : FileMachine) (after : Shelf) (others : ℕ) → of_file (files.Open m) ≡ others + 1
       → stepping.OpenTakes m sent turn came old next new after → TakesCosts P (opening_left m.opening) sent turn old.repeats next (file_left new) after.repeats
   open-takes m sent turn came old next new after others flight t =
       own-takes P (opening_left m.opening) (opening.opening_again m.opening sent turn came old.repeats) (opening.may_again m.opening (opening.told_led m.opening came)) sent turn old.repeats next (file_left new) after.repeats
@@ -228,15 +228,15 @@ module _ (P : Call → Type 0) where
           new_is : file_left new ≡ opening_left (opening.led_after m.opening turn (opening.led_on m.opening turn.now came after.attrs old.pages))
           new_is = ap file_left (t.machine_is ∙ ap (λ (b : Bool). files.Open (opens.took_after b m turn came after.attrs old.pages)) calm)
 
-          goes : (s : OpeningNext) → t.steps.step ≡ s → ((r : Result (List ℕ) Fault) → s ≡ openings.Ended r → ⊥) → next ≡ opens.goes_as s → Costs P (opening_left m.opening) next (file_left new)
+          goes : (s : OpeningStep) → t.steps.step ≡ s → ((r : Result (List ℕ) Fault) → s ≡ openings.Ended r → ⊥) → next ≡ opens.goes_as s → Costs P (opening_left m.opening) next (file_left new)
           goes s is open_ next_is =
               costs-as P (opening_left m.opening) (opens.goes_as s) next (opening_left (opening.led_after m.opening turn (opening.led_on m.opening turn.now came after.attrs old.pages))) (file_left new) next_is new_is
               (subst (λ (n : ℕ). Costs P n (opens.goes_as s) (opening_left (opening.led_after m.opening turn (opening.led_on m.opening turn.now came after.attrs old.pages)))) had
               (led-costs m.opening sent turn (opening.led_on m.opening turn.now came after.attrs old.pages) s old.pages after.pages (rank m.opening.step true)
               (led-fits m.opening turn.now came after.attrs old.pages)
-              (subst (λ (n : OpeningNext). opening.LedTo m.opening sent turn (opening.led_on m.opening turn.now came after.attrs old.pages) n old.pages after.pages) is l) open_))
+              (subst (λ (n : OpeningStep). opening.LedTo m.opening sent turn (opening.led_on m.opening turn.now came after.attrs old.pages) n old.pages after.pages) is l) open_))
 
-          by : (s : OpeningNext) → t.steps.step ≡ s → opens.Follows m s next old.opens after.opens → Costs P (opening_left m.opening) next (file_left new)
+          by : (s : OpeningStep) → t.steps.step ≡ s → opens.Follows m s next old.opens after.opens → Costs P (opening_left m.opening) next (file_left new)
           by (openings.Send call) is f = goes (openings.Send call) is (λ r e. absurd (cc)) f.0
           by openings.Wait is f = goes openings.Wait is (λ r e. absurd (cc)) f.0
           by (openings.Ended r) is f = let k = open-done m r next old.opens after.opens f in costs-as P (opening_left m.opening) (nexts.Done k.0) next (file_left new) (file_left new) k.1 refl tt

@@ -1,5 +1,5 @@
 -- No operation asks for equal calls more often than three times and once for each name of its paths.
-use Rattle.core_counts.proofs.Prelude.{◌≡◌, ◌≤◌, ◌+◌, ◌-◌, ℕ, zero, suc, Bool, true, false, List, [], ◌∷◌, ◌++◌, length, take, Option, Some, None, Result, Ok, Err, refl, sym, ap, subst, ◌∙◌, arith, if◌then◌else◌, Fault, Entry, Began, Call, Reply, Op, Next, Repeat, Shelf, Turn, fails_busy, goes_again, repeats_after, CloseFile, ReadFile, Truncating, joined, Link, ListDir, Pair, Deed, Look, Seek, Move, Remove, RemoveFile, Rename, Stat, SymLink, Visit, access_call, deed_call, TakesLink, look_up, found_by, moved_told, text_call, TakesText, TakesRename, sym_link_call, TakesSymLink, Mounted, Machine, Opener, PathMachine, slot_taken, machine_of, front_of, last_of, put_of, Starts, Resumes, Takes, Busy, Setup, of_walk, visit_by, in_flight, Counts, counts-calls, AskedOf, Expects, expects-laws, Saves}
+use Rattle.core_counts.proofs.Prelude.{◌≡◌, ◌≤◌, ◌+◌, ◌-◌, ℕ, zero, suc, Bool, true, false, List, [], ◌∷◌, ◌++◌, length, take, Option, Some, None, Result, Ok, Err, refl, sym, ap, subst, ◌∙◌, arith, if◌then◌else◌, Fault, Entry, Began, Call, Reply, Op, Step, Repeat, Shelf, Turn, fails_busy, goes_again, repeats_after, CloseFile, ReadFile, Truncating, joined, Link, ListDir, Pair, Deed, Look, Seek, Move, Remove, RemoveFile, Rename, Stat, SymLink, Visit, access_call, deed_call, TakesLink, look_up, found_by, moved_told, text_call, TakesText, TakesRename, sym_link_call, TakesSymLink, Mounted, Machine, Opener, PathMachine, slot_taken, machine_of, front_of, last_of, put_of, Starts, Resumes, Takes, Busy, Setup, of_walk, visit_by, in_flight, Counts, counts-calls, AskedOf, Expects, expects-laws, Saves}
 use Rattle.name_ops.specs.Access.{access_attr, access_told}
 use Rattle.name_ops.specs.DirChange.{deed_told}
 use Rattle.name_ops.specs.Link.{link_call, linked_told}
@@ -13,7 +13,7 @@ use Rattle.nfs_file_calls.specs.declared.call.FileCall.TheVariants as of_files
 use Rattle.world_model.specs.declared.message.Call.TheVariants as calls
 use Rattle.world_model.specs.declared.op.Op.TheVariants as ops
 use Rattle.claims.specs.Paths.{names_in}
-use Rattle.client_shelf.specs.declared.next.Next.TheVariants as nexts
+use Rattle.client_shelf.specs.declared.step.Step.TheVariants as nexts
 use Rattle.file_ops.specs.declared.close_file.Closing.TheVariants as closing
 use Rattle.file_ops.specs.declared.truncate_file.TruncateFile.{TruncateFile}
 use Rattle.file_ops.specs.declared.truncate_file.Truncating.TheVariants as truncating
@@ -100,10 +100,10 @@ module _ (m : Mounted) (some_read : 1 ≤ m.rsize) (P : Call → Type 0) (target
   left (on_path k) = path_left k
   left (read s) = reading_left start s.k.reading
 
-  abbrev Goes : ℕ → Next → Machine → Type 0
+  abbrev Goes : ℕ → Step → Machine → Type 0
   Goes had next new = (s : State) × (new ≡ wrap s) × Costs P had next (left s)
 
-  abbrev Tooks : ℕ → Turn → Turn → List Repeat → Next → Machine → List Repeat → Type 0
+  abbrev Tooks : ℕ → Turn → Turn → List Repeat → Step → Machine → List Repeat → Type 0
   Tooks had sent turn old next new later = (s : State) × (new ≡ wrap s) × TakesCosts P had sent turn old next (left s) later
 
   -- ---- truncates
@@ -150,14 +150,14 @@ module _ (m : Mounted) (some_read : 1 ≤ m.rsize) (P : Call → Type 0) (target
 
   -- ---- any of them
 
-  goes-as : (had : ℕ) (to next : Next) (s : State) (new : Machine) → next ≡ to → new ≡ wrap s → Costs P had to (left s) → Goes had next new
-  goes-as had to next s new next_is new_is c = (s, new_is, subst (λ (n : Next). Costs P had n (left s)) (sym next_is) c)
+  goes-as : (had : ℕ) (to next : Step) (s : State) (new : Machine) → next ≡ to → new ≡ wrap s → Costs P had to (left s) → Goes had next new
+  goes-as had to next s new next_is new_is c = (s, new_is, subst (λ (n : Step). Costs P had n (left s)) (sym next_is) c)
 
-  took-as : (had : ℕ) (sent turn : Turn) (old : List Repeat) (next : Next) (s : State) (new : Machine) (later : List Repeat) → new ≡ wrap s → TakesCosts P had sent turn old next (left s) later
+  took-as : (had : ℕ) (sent turn : Turn) (old : List Repeat) (next : Step) (s : State) (new : Machine) (later : List Repeat) → new ≡ wrap s → TakesCosts P had sent turn old next (left s) later
       → Tooks had sent turn old next new later
   took-as had sent turn old next s new later new_is c = (s, new_is, c)
 
-  pub resumes-by : (s : State) (wsize : ℕ) (turn : Turn) (old : Shelf) (next : Next) (new : Machine) (after : Shelf) → Resumes wsize (wrap s) turn old next new after → Goes (left s) next new
+  pub resumes-by : (s : State) (wsize : ℕ) (turn : Turn) (old : Shelf) (next : Step) (new : Machine) (after : Shelf) → Resumes wsize (wrap s) turn old next new after → Goes (left s) next new
   resumes-by (change k) wsize turn old next new after r =
       goes-as (visit_left P k.visit) (visiting.next_by (deed_call k.deed k.name) (visiting.visit_next k.visit turn old)) next (change (record k { visit = visiting.visit_after k.visit turn old })) new
       r.step.next_is (r.machine_is ∙ ap machines.Name r.step.machine_is) (visit-goes P (deed_call k.deed k.name) k.visit turn old)
@@ -206,7 +206,7 @@ module _ (m : Mounted) (some_read : 1 ≤ m.rsize) (P : Call → Type 0) (target
   pair-takes-change : (had : ℕ) (p new : Pair) → new ≡ p → pair_left P new ≤ pair_left P p
   pair-takes-change had p new is = let same = ap (pair_left P) is in omega (arith, same)
 
-  text-takes : (asked : Bool) (v : Visit) (sent turn : Turn) (came : Result Reply Fault) (old : Shelf) (next : Next) (new : Visit) (after : Shelf) (others : ℕ) → v.asked ≡ asked
+  text-takes : (asked : Bool) (v : Visit) (sent turn : Turn) (came : Result Reply Fault) (old : Shelf) (next : Step) (new : Visit) (after : Shelf) (others : ℕ) → v.asked ≡ asked
       → visit_by v.asked (of_walk v.walk) ≡ others + 1 → TakesText asked v sent turn came old next new after → TakesCosts P (visit_left P v) sent turn old.repeats next (visit_left P new) after.repeats
   text-takes true v sent turn came old next new after others is flight t =
       shown-takes P (visit_left P v) v.walk.spot.dir (text_attr came) t.1.told (text_call v.walk.spot.dir) sent turn old next after (visit_left P new) (let same = ap (visit_left P) t.0 in omega (arith, same)) t.1.shows
@@ -216,7 +216,7 @@ module _ (m : Mounted) (some_read : 1 ≤ m.rsize) (P : Call → Type 0) (target
       some false same count = omega (arith, count)
       some true same count = absurd (let no_way : true ≡ false = same in cc)
 
-  sym-takes : (asked : Bool) (k : SymLink) (sent turn : Turn) (came : Result Reply Fault) (old : Shelf) (next : Next) (new : Visit) (after : Shelf) (others : ℕ) → k.visit.asked ≡ asked
+  sym-takes : (asked : Bool) (k : SymLink) (sent turn : Turn) (came : Result Reply Fault) (old : Shelf) (next : Step) (new : Visit) (after : Shelf) (others : ℕ) → k.visit.asked ≡ asked
       → visit_by k.visit.asked (of_walk k.visit.walk) ≡ others + 1 → TakesSymLink asked k sent turn came old next new after
       → TakesCosts P (visit_left P k.visit) sent turn old.repeats next (visit_left P new) after.repeats
   sym-takes true k sent turn came old next new after others is flight t =
@@ -229,7 +229,7 @@ module _ (m : Mounted) (some_read : 1 ≤ m.rsize) (P : Call → Type 0) (target
       some false same count = omega (arith, count)
       some true same count = absurd (let no_way : true ≡ false = same in cc)
 
-  rename-takes : (asked : Bool) (k : Rename) (sent turn : Turn) (came : Result Reply Fault) (old : Shelf) (next : Next) (new : Pair) (after : Shelf) (others : ℕ) → k.pair.asked ≡ asked
+  rename-takes : (asked : Bool) (k : Rename) (sent turn : Turn) (came : Result Reply Fault) (old : Shelf) (next : Step) (new : Pair) (after : Shelf) (others : ℕ) → k.pair.asked ≡ asked
       → pair_by k.pair.asked k.pair.first.asked k.pair.second.asked (of_walk k.pair.first) (of_walk k.pair.second) ≡ others + 1 → TakesRename asked k sent turn came old next new after
       → TakesCosts P (pair_left P k.pair) sent turn old.repeats next (pair_left P new) after.repeats
   rename-takes true k sent turn came old next new after others is flight t =
@@ -239,7 +239,7 @@ module _ (m : Mounted) (some_read : 1 ≤ m.rsize) (P : Call → Type 0) (target
       (t.1.next_is ∙ ap (λ (b : Bool). renamed_next b (rename_call k.from k.to k.pair.first.spot.dir k.pair.second.spot.dir) (moved_told came)) calm) refl tt)
   rename-takes false k sent turn came old next new after others is flight t = pair-walks P (rename_call k.from k.to) k.pair sent turn came old next new after others is flight t
 
-  link-takes : (asked : Bool) (k : Link) (sent turn : Turn) (came : Result Reply Fault) (old : Shelf) (next : Next) (new : Pair) (after : Shelf) (others : ℕ) → k.pair.asked ≡ asked
+  link-takes : (asked : Bool) (k : Link) (sent turn : Turn) (came : Result Reply Fault) (old : Shelf) (next : Step) (new : Pair) (after : Shelf) (others : ℕ) → k.pair.asked ≡ asked
       → pair_by k.pair.asked k.pair.first.asked k.pair.second.asked (of_walk k.pair.first) (of_walk k.pair.second) ≡ others + 1 → TakesLink asked k sent turn came old next new after
       → TakesCosts P (pair_left P k.pair) sent turn old.repeats next (pair_left P new) after.repeats
   link-takes true k sent turn came old next new after others is flight t =
@@ -252,7 +252,7 @@ module _ (m : Mounted) (some_read : 1 ≤ m.rsize) (P : Call → Type 0) (target
   Known (removal k) counter = Grown k.deed counter
   Known s counter = Unit {0}
 
-  pub takes-by : (s : State) (wsize : ℕ) (sent turn : Turn) (came : Result Reply Fault) (old : Shelf) (next : Next) (new : Machine) (after : Shelf) (others : ℕ) → in_flight (wrap s) ≡ others + 1
+  pub takes-by : (s : State) (wsize : ℕ) (sent turn : Turn) (came : Result Reply Fault) (old : Shelf) (next : Step) (new : Machine) (after : Shelf) (others : ℕ) → in_flight (wrap s) ≡ others + 1
       → ((found : List ℕ) → found_by came ≡ Ok found → Known s old.counter) → Tabled sent turn old.repeats next after.repeats → Takes wsize (wrap s) sent turn came old next new after → Tooks (left s) sent turn old.repeats next new after.repeats
   takes-by (change k) wsize sent turn came old next new after others flight g w t =
       took-as (visit_left P k.visit) sent turn old.repeats next (change (record k { visit = t.step.visit })) new after.repeats (t.machine_is ∙ ap machines.Name t.step.machine_is)
@@ -286,7 +286,7 @@ module _ (m : Mounted) (some_read : 1 ≤ m.rsize) (P : Call → Type 0) (target
   takes-by (truncate k) wsize sent turn came old next new after others flight g w t =
       took-as (truncate_left k.state) sent turn old.repeats next (truncate (record k { state = truncates.took_state k.state came sent turn old.repeats })) new after.repeats
       (t.machine_is ∙ ap machines.File t.step.machine_is)
-      (subst (λ (n : Next). TakesCosts P (truncate_left k.state) sent turn old.repeats n (truncate_left (truncates.took_state k.state came sent turn old.repeats)) after.repeats) (sym t.step.next_is)
+      (subst (λ (n : Step). TakesCosts P (truncate_left k.state) sent turn old.repeats n (truncate_left (truncates.took_state k.state came sent turn old.repeats)) after.repeats) (sym t.step.next_is)
       (truncate-takes k.state k sent turn came old.repeats after.repeats others flight
       (λ file upto is. ap (λ (q : Shelf). q.repeats) (t.step.shelf_is ∙ ap (λ (state : Truncating). truncates.took_shelf state k came sent turn after.attrs after.back old) is))))
   takes-by (close k) wsize sent turn came old next new after others flight g w t =
@@ -331,7 +331,7 @@ module _ (m : Mounted) (some_read : 1 ≤ m.rsize) (P : Call → Type 0) (target
   abbrev pub at_first : Op → ℕ
   at_first op = 3 + names_in op
 
-  goes-more : (had more : ℕ) (next : Next) (new : Machine) → had ≤ more → Goes had next new → Goes more next new
+  goes-more : (had more : ℕ) (next : Step) (new : Machine) → had ≤ more → Goes had next new → Goes more next new
   goes-more had more next new wide g = (g.0, g.1, costs-more P had more next (left g.0) wide g.2)
 
   front-short : (n : ℕ) (path : List (List ℕ)) → length (take n path) ≤ n
@@ -339,7 +339,7 @@ module _ (m : Mounted) (some_read : 1 ≤ m.rsize) (P : Call → Type 0) (target
   front-short (suc n) [] = omega arith
   front-short (suc n) (name ∷ names_) = let rest = front-short n names_ in omega (arith, rest)
 
-  starts-path : (names_of : List (List ℕ)) (opener : Opener) (wsize : ℕ) (turn : Turn) (old : Shelf) (next : Next) (new : Machine) (after : Shelf) → 1 ≤ length names_of
+  starts-path : (names_of : List (List ℕ)) (opener : Opener) (wsize : ℕ) (turn : Turn) (old : Shelf) (next : Step) (new : Machine) (after : Shelf) → 1 ≤ length names_of
       → Starts wsize (path_of m names_of opener) turn old next new after → Goes (3 + (length names_of + 0)) next new
   starts-path names_of opener wsize turn old next new after named t =
       let k : PathMachine = record { walk = pairs.walk_of m.root (front_of names_of); opener = opener; arrived = false } in
@@ -349,7 +349,7 @@ module _ (m : Mounted) (some_read : 1 ≤ m.rsize) (P : Call → Type 0) (target
       goes-more (length (front_of names_of) + 4) (3 + (length names_of + 0)) next new (omega (arith, named, short))
       (on_path t.machine, t.machine_is, path-starts P no_saved (slot_taken opener old.opens) wsize k turn old next t.machine after refl t.step s)
 
-  starts-by : (lane : ℕ) (op : Op) (wsize : ℕ) (turn : Turn) (old : Shelf) (next : Next) (new : Machine) (after : Shelf) → IsCovered op → Starts wsize (machine_of m lane op) turn old next new after
+  starts-by : (lane : ℕ) (op : Op) (wsize : ℕ) (turn : Turn) (old : Shelf) (next : Step) (new : Machine) (after : Shelf) → IsCovered op → Starts wsize (machine_of m lane op) turn old next new after
       → Goes (at_first op) next new
   starts-by lane (ops.Truncate slot size) wsize turn old next new after is t =
       let k : TruncateFile = record { lane = lane; slot = slot; size = size; state = truncating.Idle } in
@@ -412,11 +412,11 @@ module _ (m : Mounted) (some_read : 1 ≤ m.rsize) (P : Call → Type 0) (target
   abbrev pub Left : List Entry → ℕ → Op → Machine → ℕ → Type 0
   Left h x op machine n = LeftTo P wrap left h x op machine n
 
-  spends-so : (h : List Entry) (x : ℕ) (op : Op) (had more : ℕ) (next : Next) (new : Machine) → had ≤ more → Goes had next new → Spends P Left h x op more next new
+  spends-so : (h : List Entry) (x : ℕ) (op : Op) (had more : ℕ) (next : Step) (new : Machine) → had ≤ more → Goes had next new → Spends P Left h x op more next new
   spends-so h x op had more next new wide g =
       subst (λ (k : Machine). Spends P Left h x op more next k) (sym g.1) (spends P wrap left h x op more next g.0 (costs-more P had more next (left g.0) wide g.2))
 
-  takes-more : (had more : ℕ) (sent turn : Turn) (old : List Repeat) (next : Next) (after : ℕ) (later : List Repeat) → had ≤ more → TakesCosts P had sent turn old next after later
+  takes-more : (had more : ℕ) (sent turn : Turn) (old : List Repeat) (next : Step) (after : ℕ) (later : List Repeat) → had ≤ more → TakesCosts P had sent turn old next after later
       → TakesCosts P more sent turn old next after later
   takes-more had more sent turn old next after later wide (repeats_it table few) = repeats_it table (omega (arith, wide, few))
   takes-more had more sent turn old next after later wide (goes_on table c) = goes_on table (costs-more P had more next after wide c)

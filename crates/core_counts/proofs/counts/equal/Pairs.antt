@@ -1,16 +1,16 @@
 -- What the steps of operations with two walks cost, of listings, and of removals.
-use Rattle.core_counts.proofs.Prelude.{◌≡◌, ◌≤◌, ◌+◌, ◌||◌, inl, inr, ℕ, Bool, true, false, List, ◌++◌, Result, Ok, Err, refl, sym, ap, subst, ◌∙◌, arith, if◌then◌else◌, Fault, Call, Reply, Next, Repeat, Shelf, Turn, fails_busy, goes_again, repeats_after, ended, repeated, ListDir, Pair, PairNext, Visit, WalkNext, of_walk, visit_by}
+use Rattle.core_counts.proofs.Prelude.{◌≡◌, ◌≤◌, ◌+◌, ◌||◌, inl, inr, ℕ, Bool, true, false, List, ◌++◌, Result, Ok, Err, refl, sym, ap, subst, ◌∙◌, arith, if◌then◌else◌, Fault, Call, Reply, Step, Repeat, Shelf, Turn, fails_busy, goes_again, repeats_after, ended, repeated, ListDir, Pair, PairStep, Visit, WalkStep, of_walk, visit_by}
 use Rattle.client_shelf.specs.Busy.{is_busy}
 use Rattle.core_facts.specs.InFlight.{pair_by}
-use Rattle.dir_list.specs.declared.progress.Step.{Step}
-use Rattle.dir_list.specs.declared.progress.Step.TheVariants.{More, End}
+use Rattle.dir_list.specs.declared.progress.ListStep.{ListStep}
+use Rattle.dir_list.specs.declared.progress.ListStep.TheVariants.{More, End}
 use Rattle.dir_list.specs.declared.progress.ListFault.{ListFault}
 use Rattle.dir_list.specs.Listings.{counted, page_step}
 use Rattle.world_model.specs.declared.answer.Answer.TheVariants as answers
-use Rattle.client_shelf.specs.declared.next.Next.TheVariants as nexts
-use Rattle.name_ops.specs.declared.pair.PairNext.TheVariants as pairing
-use Rattle.name_ops.specs.declared.visit.VisitNext.TheVariants as visits
-use Rattle.name_ops.specs.declared.walk.WalkNext.TheVariants as walks
+use Rattle.client_shelf.specs.declared.step.Step.TheVariants as nexts
+use Rattle.name_ops.specs.declared.pair.PairStep.TheVariants as pairing
+use Rattle.name_ops.specs.declared.visit.VisitStep.TheVariants as visits
+use Rattle.name_ops.specs.declared.walk.WalkStep.TheVariants as walks
 use Rattle.name_ops.specs.ListDir as listing
 use Rattle.name_ops.specs.Pairs as pairs
 use Rattle.name_ops.specs.Visiting as visiting
@@ -27,19 +27,19 @@ module _ (P : Call → Type 0) where
   abbrev pub pair_left : Pair → ℕ
   pair_left p = pair_left_by p.asked (names_left p.first) (names_left p.second)
 
-  abbrev PairCosts : ℕ → PairNext → ℕ → Type 0
+  abbrev PairCosts : ℕ → PairStep → ℕ → Type 0
   PairCosts had (pairing.Look call) after = after + 1 ≤ had
   PairCosts had pairing.Wait after = after ≤ had
   PairCosts had (pairing.Ask first second) after = after + 1 ≤ had
   PairCosts had (pairing.Refused fault) after = Unit {0}
 
-  pair-more : (had more : ℕ) (step : PairNext) (after : ℕ) → had ≤ more → PairCosts had step after → PairCosts more step after
+  pair-more : (had more : ℕ) (step : PairStep) (after : ℕ) → had ≤ more → PairCosts had step after → PairCosts more step after
   pair-more had more (pairing.Look call) after wide c = omega (arith, wide, c)
   pair-more had more pairing.Wait after wide c = omega (arith, wide, c)
   pair-more had more (pairing.Ask first second) after wide c = omega (arith, wide, c)
   pair-more had more (pairing.Refused fault) after wide c = tt
 
-  pair-by : (had : ℕ) (of : List ℕ → List ℕ → Call) (step : PairNext) (after : ℕ) → PairCosts had step after → Costs P had (pairs.next_by of step) after
+  pair-by : (had : ℕ) (of : List ℕ → List ℕ → Call) (step : PairStep) (after : ℕ) → PairCosts had step after → Costs P had (pairs.next_by of step) after
   pair-by had of (pairing.Look call) after c = (omega (arith, c), λ p. c)
   pair-by had of pairing.Wait after c = c
   pair-by had of (pairing.Ask first second) after c = (omega (arith, c), λ p. c)
@@ -48,7 +48,7 @@ module _ (P : Call → Type 0) where
   idle-left : (p : Pair) → p.asked ≡ false → pair_left p ≡ names_left p.first + names_left p.second + 1
   idle-left p idle = ap (λ (b : Bool). pair_left_by b (names_left p.first) (names_left p.second)) idle
 
-  second-costs : (first : List ℕ) (step : WalkNext) (room : Bool) (p : Pair) (had : ℕ) → p.asked ≡ false → WalkCosts had step (names_left p.second)
+  second-costs : (first : List ℕ) (step : WalkStep) (room : Bool) (p : Pair) (had : ℕ) → p.asked ≡ false → WalkCosts had step (names_left p.second)
       → PairCosts (names_left p.first + had + 1) (pairs.led_second first step room) (pair_left (pairs.second_kept step room p))
   second-costs first (walks.Send call) room p had idle c = let now = idle-left p idle in omega (arith, c, now)
   second-costs first walks.Wait room p had idle c = let now = idle-left p idle in omega (arith, c, now)
@@ -56,7 +56,7 @@ module _ (P : Call → Type 0) where
   second-costs first (walks.At second) false p had idle c = let now = idle-left p idle in omega (arith, c, now)
   second-costs first (walks.Refused fault) room p had idle c = tt
 
-  first-costs : (step : WalkNext) (p : Pair) (turn : Turn) (shelf : Shelf) (had : ℕ) → p.asked ≡ false → WalkCosts had step (names_left p.first)
+  first-costs : (step : WalkStep) (p : Pair) (turn : Turn) (shelf : Shelf) (had : ℕ) → p.asked ≡ false → WalkCosts had step (names_left p.first)
       → PairCosts (had + names_left p.second + 1) (pairs.led_first step p turn shelf) (pair_left (pairs.first_kept step p turn shelf))
   first-costs (walks.Send call) p turn shelf had idle c = let now = idle-left p idle in omega (arith, c, now)
   first-costs walks.Wait p turn shelf had idle c = let now = idle-left p idle in omega (arith, c, now)
@@ -80,17 +80,17 @@ module _ (P : Call → Type 0) where
           subst (λ (n : ℕ). PairCosts n (pairs.on_next p turn old) (pair_left (pairs.on_after p turn old))) (sym (idle-left p idle))
           (first-costs (walking.go_next p.first turn old) (pairs.walked_first p turn old) turn (walking.go_shelf p.first turn old) (names_left p.first) idle (go-costs p.first turn old))
 
-  first-repeats : (step : WalkNext) (p : Pair) (turn : Turn) (s : Shelf) → (pairs.first_shelf step p turn s).repeats ≡ s.repeats
+  first-repeats : (step : WalkStep) (p : Pair) (turn : Turn) (s : Shelf) → (pairs.first_shelf step p turn s).repeats ≡ s.repeats
   first-repeats (walks.Send call) p turn s = refl
   first-repeats walks.Wait p turn s = refl
   first-repeats (walks.At first) p turn s = refl
   first-repeats (walks.Refused fault) p turn s = refl
 
-  data Paired (had : ℕ) (sent turn : Turn) (old : List Repeat) (step : PairNext) (after : ℕ) (later : List Repeat) : Type 0 where
+  data Paired (had : ℕ) (sent turn : Turn) (old : List Repeat) (step : PairStep) (after : ℕ) (later : List Repeat) : Type 0 where
     pair_again : later ≡ repeated sent.xid turn.xid old → after ≤ had → Paired had sent turn old step after later
     pair_on : later ≡ ended sent.xid old → PairCosts had step after → Paired had sent turn old step after later
 
-  takes-first : (p : Pair) (sent turn : Turn) (came : Result Reply Fault) (old : Shelf) (step : PairNext) (new : Pair) (after : Shelf) → p.asked ≡ false → 1 ≤ of_walk p.first
+  takes-first : (p : Pair) (sent turn : Turn) (came : Result Reply Fault) (old : Shelf) (step : PairStep) (new : Pair) (after : Shelf) → p.asked ≡ false → 1 ≤ of_walk p.first
       → pairs.TakesFirst p sent turn came old step new after → Paired (pair_left p) sent turn old.repeats step (pair_left new) after.repeats
   takes-first p sent turn came old step new after idle some t = by (walk-takes (walking.waiting_name p.first) p.first sent turn came old t.step t.walked.first t.heard refl some t.takes)
     where
@@ -109,17 +109,17 @@ module _ (P : Call → Type 0) where
       by : WalkTakes (names_left p.first) sent turn old.repeats t.step (names_left t.walked.first) t.heard.repeats → Paired (pair_left p) sent turn old.repeats step (pair_left new) after.repeats
       by (walk_again call is again few) =
           pair_again (table ∙ again)
-          (let same : pair_left new ≡ pair_left t.walked = ap pair_left (t.pair_is ∙ ap (λ (s : WalkNext). pairs.first_kept s t.walked turn t.heard) is) in
+          (let same : pair_left new ≡ pair_left t.walked = ap pair_left (t.pair_is ∙ ap (λ (s : WalkStep). pairs.first_kept s t.walked turn t.heard) is) in
           let now = idle-left t.walked walked_idle in
           omega (arith, same, now, few, had, second_same))
       by (walk_on ended_table c) =
           pair_on (table ∙ ended_table)
           (pair-more (names_left p.first + names_left t.walked.second + 1) (pair_left p) step (pair_left new) (omega (arith, had, second_same))
-          (subst (λ (s : PairNext). PairCosts (names_left p.first + names_left t.walked.second + 1) s (pair_left new)) (sym t.next_is)
+          (subst (λ (s : PairStep). PairCosts (names_left p.first + names_left t.walked.second + 1) s (pair_left new)) (sym t.next_is)
           (subst (λ (w : Pair). PairCosts (names_left p.first + names_left t.walked.second + 1) (pairs.led_first t.step t.walked turn t.heard) (pair_left w)) (sym t.pair_is)
           (first-costs t.step t.walked turn t.heard (names_left p.first) walked_idle c))))
 
-  takes-second : (p : Pair) (sent turn : Turn) (came : Result Reply Fault) (old : Shelf) (step : PairNext) (new : Pair) (after : Shelf) → p.asked ≡ false → 1 ≤ of_walk p.second
+  takes-second : (p : Pair) (sent turn : Turn) (came : Result Reply Fault) (old : Shelf) (step : PairStep) (new : Pair) (after : Shelf) → p.asked ≡ false → 1 ≤ of_walk p.second
       → pairs.TakesSecond p sent turn came old step new after → Paired (pair_left p) sent turn old.repeats step (pair_left new) after.repeats
   takes-second p sent turn came old step new after idle some t = by (walk-takes (walking.waiting_name p.second) p.second sent turn came old t.step t.walked.second after refl some t.takes)
     where
@@ -135,17 +135,17 @@ module _ (P : Call → Type 0) where
       by : WalkTakes (names_left p.second) sent turn old.repeats t.step (names_left t.walked.second) after.repeats → Paired (pair_left p) sent turn old.repeats step (pair_left new) after.repeats
       by (walk_again call is again few) =
           pair_again again
-          (let same : pair_left new ≡ pair_left t.walked = ap pair_left (t.pair_is ∙ ap (λ (s : WalkNext). pairs.second_kept s turn.room t.walked) is) in
+          (let same : pair_left new ≡ pair_left t.walked = ap pair_left (t.pair_is ∙ ap (λ (s : WalkStep). pairs.second_kept s turn.room t.walked) is) in
           let now = idle-left t.walked walked_idle in
           omega (arith, same, now, few, had, first_same))
       by (walk_on ended_table c) =
           pair_on ended_table
           (pair-more (names_left t.walked.first + names_left p.second + 1) (pair_left p) step (pair_left new) (omega (arith, had, first_same))
-          (subst (λ (s : PairNext). PairCosts (names_left t.walked.first + names_left p.second + 1) s (pair_left new)) (sym t.next_is)
+          (subst (λ (s : PairStep). PairCosts (names_left t.walked.first + names_left p.second + 1) s (pair_left new)) (sym t.next_is)
           (subst (λ (w : Pair). PairCosts (names_left t.walked.first + names_left p.second + 1) (pairs.led_second p.first.spot.dir t.step turn.room) (pair_left w)) (sym t.pair_is)
           (second-costs p.first.spot.dir t.step turn.room t.walked (names_left p.second) walked_idle c))))
 
-  pub pair-walks : (of : List ℕ → List ℕ → Call) (p : Pair) (sent turn : Turn) (came : Result Reply Fault) (old : Shelf) (next : Next) (new : Pair) (after : Shelf) (others : ℕ) → p.asked ≡ false
+  pub pair-walks : (of : List ℕ → List ℕ → Call) (p : Pair) (sent turn : Turn) (came : Result Reply Fault) (old : Shelf) (next : Step) (new : Pair) (after : Shelf) (others : ℕ) → p.asked ≡ false
       → pair_by p.asked p.first.asked p.second.asked (of_walk p.first) (of_walk p.second) ≡ others + 1 → pairs.Walks of p sent turn came old next new after
       → TakesCosts P (pair_left p) sent turn old.repeats next (pair_left new) after.repeats
   pair-walks of p sent turn came old next new after others idle flight w =
@@ -167,7 +167,7 @@ module _ (P : Call → Type 0) where
     abbrev pub list_left : ListDir → ℕ
     list_left k = names_left k.visit.walk
 
-    list-follow : (step : WalkNext) (room : Bool) (k : ListDir) (v : Visit) (had : ℕ) → WalkCosts had step (names_left v.walk)
+    list-follow : (step : WalkStep) (room : Bool) (k : ListDir) (v : Visit) (had : ℕ) → WalkCosts had step (names_left v.walk)
         → Costs P had (visiting.next_by (listing.page_call k.place) (visiting.follow_next step room)) (names_left (visiting.follow_after step room v).walk)
     list-follow (walks.Send call) room k v had c = (omega (arith, c), λ p. c)
     list-follow walks.Wait room k v had c = c
@@ -185,12 +185,12 @@ module _ (P : Call → Type 0) where
         by true = omega arith
         by false = list-follow (walking.go_next k.visit.walk turn old) turn.room k (record k.visit { walk = walking.go_after k.visit.walk turn old }) (list_left k) (go-costs k.visit.walk turn old)
 
-    list-walks : (k : ListDir) (sent turn : Turn) (came : Result Reply Fault) (old : Shelf) (next : Next) (new : ListDir) (after : Shelf) → 1 ≤ of_walk k.visit.walk
+    list-walks : (k : ListDir) (sent turn : Turn) (came : Result Reply Fault) (old : Shelf) (next : Step) (new : ListDir) (after : Shelf) → 1 ≤ of_walk k.visit.walk
         → listing.WalksToList k sent turn came old next new after → TakesCosts P (list_left k) sent turn old.repeats next (list_left new) after.repeats
     list-walks k sent turn came old next new after some t =
         by (walk-takes (walking.waiting_name k.visit.walk) k.visit.walk sent turn came old t.walks.takes.step t.walks.takes.walked.walk after refl some t.walks.takes.takes)
       where
-        kept : (step : WalkNext) (room : Bool) (v : Visit) → (visiting.follow_after step room v).walk ≡ v.walk
+        kept : (step : WalkStep) (room : Bool) (v : Visit) → (visiting.follow_after step room v).walk ≡ v.walk
         kept (walks.Send call) room v = refl
         kept walks.Wait room v = refl
         kept (walks.At object) true v = refl
@@ -214,7 +214,7 @@ module _ (P : Call → Type 0) where
     page-costs k place true m had few = (few, λ p. absurd (no_page place m.visit.walk.spot.dir p))
     page-costs k place false m had few = few
 
-    list-pages : (k : ListDir) (sent turn : Turn) (came : Result Reply Fault) (old : List Repeat) (told_page : Result _ Fault) (next : Next) (new : ListDir) (later : List Repeat)
+    list-pages : (k : ListDir) (sent turn : Turn) (came : Result Reply Fault) (old : List Repeat) (told_page : Result _ Fault) (next : Step) (new : ListDir) (later : List Repeat)
         → later ≡ repeats_after (fails_busy told_page) sent turn old → listing.Follows told_page (goes_again (fails_busy told_page) sent turn old) turn.room k next new
         → TakesCosts P (list_left k) sent turn old next (list_left new) later
     list-pages k sent turn came old (Err fault) next new later table f =
@@ -223,7 +223,7 @@ module _ (P : Call → Type 0) where
     list-pages k sent turn came old (Ok heard) next new later table (inl f) = goes_on table (costs-as P (list_left k) _ next (list_left new) (list_left new) f.0 refl tt)
     list-pages k sent turn came old (Ok heard) next new later table (inr f) = goes_on table (by (page_step k.listing heard.page heard.verf heard.eof) f)
       where
-        by : (step : Result Step ListFault) → listing.TakesStep step heard turn.room k next new → Costs P (list_left k) next (list_left new)
+        by : (step : Result ListStep ListFault) → listing.TakesStep step heard turn.room k next new → Costs P (list_left k) next (list_left new)
         by (Ok (More its with_)) t =
             costs-as P (list_left k) (listing.more_next (record { cookie = its; verf = with_ }) turn.room (record k { listing = k.listing ++ counted heard.page })) next
             (list_left (listing.more_after (record { cookie = its; verf = with_ }) turn.room (record k { listing = k.listing ++ counted heard.page }))) (list_left new) t.0 (ap list_left t.1)
@@ -231,7 +231,7 @@ module _ (P : Call → Type 0) where
         by (Ok End) t = costs-as P (list_left k) _ next (list_left new) (list_left new) t.next_is refl tt
         by (Err fault) t = costs-as P (list_left k) _ next (list_left new) (list_left new) t.0 refl tt
 
-    pub list-takes : (asked : Bool) (k : ListDir) (sent turn : Turn) (came : Result Reply Fault) (old : Shelf) (next : Next) (new : ListDir) (after : Shelf) (others : ℕ) → k.visit.asked ≡ asked
+    pub list-takes : (asked : Bool) (k : ListDir) (sent turn : Turn) (came : Result Reply Fault) (old : Shelf) (next : Step) (new : ListDir) (after : Shelf) (others : ℕ) → k.visit.asked ≡ asked
         → visit_by k.visit.asked (of_walk k.visit.walk) ≡ others + 1 → listing.TakesList asked k sent turn came old next new after
         → TakesCosts P (list_left k) sent turn old.repeats next (list_left new) after.repeats
     list-takes true k sent turn came old next new after others is flight t =

@@ -1,8 +1,8 @@
 -- What the steps of puts cost: those of their opening. Their WRITEs and COMMITs don't count.
-use Rattle.core_counts.proofs.Prelude.{◌≡◌, ◌≤◌, ◌+◌, inl, inr, ℕ, Bool, true, false, List, Result, Ok, Err, refl, sym, ap, subst, ◌∙◌, arith, Fault, Call, Reply, Next, Repeat, Shelf, Turn, repeats_after, is_first, Led, Opening, OpeningNext, PutFile, Putting, Saving, Writing, by-step, Saves, joined}
+use Rattle.core_counts.proofs.Prelude.{◌≡◌, ◌≤◌, ◌+◌, inl, inr, ℕ, Bool, true, false, List, Result, Ok, Err, refl, sym, ap, subst, ◌∙◌, arith, Fault, Call, Reply, Step, Repeat, Shelf, Turn, repeats_after, is_first, Led, Opening, OpeningStep, PutFile, Putting, Saving, Writing, by-step, Saves, joined}
 use Rattle.world_model.specs.declared.answer.Answer.TheVariants as answers
-use Rattle.client_shelf.specs.declared.next.Next.TheVariants as nexts
-use Rattle.file_ops.specs.declared.opening.OpeningNext.TheVariants as openings
+use Rattle.client_shelf.specs.declared.step.Step.TheVariants as nexts
+use Rattle.file_ops.specs.declared.opening.OpeningStep.TheVariants as openings
 use Rattle.file_ops.specs.declared.put_file.Putting.TheVariants as putting
 use Rattle.file_ops.specs.declared.write_file.Writing.TheVariants as writing
 use Rattle.file_ops.specs.OpenFile as opens
@@ -35,16 +35,16 @@ quiet-none (putting.Saves saving) o q = refl
 quiet-at : (s state : Putting) → state ≡ s → IsQuiet s → IsQuiet state
 quiet-at s state is q = subst IsQuiet (sym is) q
 
-follows-quiet : (gives : _) (lane : ℕ) (saving : Saving) (old : Shelf) (next : Next) (state : Putting) (new : Shelf) → puts.Follows gives lane saving old next state new → IsQuiet state
+follows-quiet : (gives : _) (lane : ℕ) (saving : Saving) (old : Shelf) (next : Step) (state : Putting) (new : Shelf) → puts.Follows gives lane saving old next state new → IsQuiet state
 follows-quiet gives lane saving old next state new f = by-step (λ g. puts.Follows g lane saving old next state new → IsQuiet state)
     (λ call l. quiet-at (putting.Saves saving) state l.1 tt) (λ l. quiet-at (putting.Saves saving) state l.1 tt) (λ result l. quiet-at putting.Idle state l.state_is tt) gives f
 
-queues-quiet : (b : Bool) (wsize lane : ℕ) (turn : Turn) (saving : Saving) (old : Shelf) (next : Next) (state : Putting) (new : Shelf) → puts.QueuesIf b wsize lane turn saving old next state new
+queues-quiet : (b : Bool) (wsize lane : ℕ) (turn : Turn) (saving : Saving) (old : Shelf) (next : Step) (state : Putting) (new : Shelf) → puts.QueuesIf b wsize lane turn saving old next state new
     → IsQuiet state
 queues-quiet true wsize lane turn saving old next state new q = follows-quiet q.gives lane q.saved q.gone next state new q.follows
 queues-quiet false wsize lane turn saving old next state new q = quiet-at (putting.Saves saving) state q.state_is tt
 
-after-quiet : (told : Next) (wsize lane : ℕ) (file : List ℕ) (turn : Turn) (shelf : Shelf) (next : Next) (state : Putting) (new : Shelf)
+after-quiet : (told : Step) (wsize lane : ℕ) (file : List ℕ) (turn : Turn) (shelf : Shelf) (next : Step) (state : Putting) (new : Shelf)
     → puts.AfterWrite told wsize lane file turn shelf next state new → IsQuiet state
 after-quiet (nexts.Send call) wsize lane file turn shelf next state new a = quiet-at (putting.Adds file) state a.1 tt
 after-quiet nexts.Wait wsize lane file turn shelf next state new a = quiet-at (putting.Adds file) state a.1 tt
@@ -60,7 +60,7 @@ module _ (P : Call → Type 0) (no_saved : (f : List ℕ) (call : Call) → Save
   saved-by (putting.Adds file) o (writing.Room f saving) call q named some p = no_saved saving.file call named p
   saved-by (putting.Saves saving) o w call q named some p = no_saved saving.file call named p
 
-  quiet-costs : (new : PutFile) (next : Next) (had : ℕ) → IsQuiet new.state → SendsOf next (files.Put new) → Costs P had next (put_left new)
+  quiet-costs : (new : PutFile) (next : Step) (had : ℕ) → IsQuiet new.state → SendsOf next (files.Put new) → Costs P had next (put_left new)
   quiet-costs new (nexts.Send call) had q s =
       let none = quiet-none new.state new.opening q in
       let n = s call refl in
@@ -68,12 +68,12 @@ module _ (P : Call → Type 0) (no_saved : (f : List ℕ) (call : Call) → Save
   quiet-costs new nexts.Wait had q s = let none = quiet-none new.state new.opening q in omega (arith, none)
   quiet-costs new (nexts.Done answer) had q s = tt
 
-  tabled-quiet : (had : ℕ) (sent turn : Turn) (old : List Repeat) (next : Next) (new : PutFile) (later : List Repeat) → IsQuiet new.state → SendsOf next (files.Put new) → Tabled sent turn old next later
+  tabled-quiet : (had : ℕ) (sent turn : Turn) (old : List Repeat) (next : Step) (new : PutFile) (later : List Repeat) → IsQuiet new.state → SendsOf next (files.Put new) → Tabled sent turn old next later
       → TakesCosts P had sent turn old next (put_left new) later
   tabled-quiet had sent turn old next new later q s (inl k) = repeats_it k.2 (let none = quiet-none new.state new.opening q in omega (arith, none))
   tabled-quiet had sent turn old next new later q s (inr table) = goes_on table (quiet-costs new next had q s)
 
-  pub put-resumes : (at : Putting) (wsize : ℕ) (m : PutFile) (turn : Turn) (old : Shelf) (next : Next) (new : PutFile) (after : Shelf) → m.state ≡ at → puts.Resumes at wsize m turn old next new after
+  pub put-resumes : (at : Putting) (wsize : ℕ) (m : PutFile) (turn : Turn) (old : Shelf) (next : Step) (new : PutFile) (after : Shelf) → m.state ≡ at → puts.Resumes at wsize m turn old next new after
       → SendsOf next (files.Put new) → Costs P (putting_left at m.opening) next (put_left new)
   put-resumes putting.Idle wsize m turn old next new after is r s =
       costs-as P 0 nexts.Wait next 0 (put_left new) r.next_is (ap put_left r.machine_is ∙ ap (λ (state : Putting). putting_left state m.opening) is) (omega arith)
@@ -85,7 +85,7 @@ module _ (P : Call → Type 0) (no_saved : (f : List ℕ) (call : Call) → Save
   put-resumes (putting.Saves saving) wsize m turn old next new after is r s =
       quiet-costs new next 0 (queues-quiet (is_first m.write.lane old.order) wsize m.write.lane turn saving old next new.state after r.0) s
 
-  opening-takes : (b : Bool) (wsize : ℕ) (m : PutFile) (sent turn : Turn) (came : Result Reply Fault) (old took : Shelf) (step : OpeningNext) (next : Next) (new : PutFile) (after : Shelf) → m.state ≡ putting.Opens
+  opening-takes : (b : Bool) (wsize : ℕ) (m : PutFile) (sent turn : Turn) (came : Result Reply Fault) (old took : Shelf) (step : OpeningStep) (next : Step) (new : PutFile) (after : Shelf) → m.state ≡ putting.Opens
       → m.opening.asked ≡ true → opening.opening_again m.opening sent turn came old.repeats ≡ b
       → took.repeats ≡ repeats_after (opening.may_again m.opening (opening.told_led m.opening came)) sent turn old.repeats
       → opening.LedIf b m.opening sent turn (opening.led_on m.opening turn.now came took.attrs old.pages) step old.pages took.pages
@@ -117,7 +117,7 @@ module _ (P : Call → Type 0) (no_saved : (f : List ℕ) (call : Call) → Save
       goes_on (table-again false (opening.may_again m.opening (opening.told_led m.opening came)) sent turn old.repeats after.repeats again (ap (λ (q : Shelf). q.repeats) f.2 ∙ table))
       (costs-as P (opening_left m.opening) (nexts.Done (answers.Refused fault)) next (put_left new) (put_left new) f.0 refl tt)
 
-  pub put-takes : (at : Putting) (wsize : ℕ) (m : PutFile) (sent turn : Turn) (came : Result Reply Fault) (old : Shelf) (next : Next) (new : PutFile) (after : Shelf) (others : ℕ) → m.state ≡ at
+  pub put-takes : (at : Putting) (wsize : ℕ) (m : PutFile) (sent turn : Turn) (came : Result Reply Fault) (old : Shelf) (next : Step) (new : PutFile) (after : Shelf) (others : ℕ) → m.state ≡ at
       → of_putting at m.opening m.write.state ≡ others + 1 → puts.Takes at wsize m sent turn came old next new after → SendsOf next (files.Put new) → Tabled sent turn old.repeats next after.repeats
       → TakesCosts P (putting_left at m.opening) sent turn old.repeats next (put_left new) after.repeats
   put-takes putting.Idle wsize m sent turn came old next new after others is flight t s w = absurd (omega (arith, flight))

@@ -1,6 +1,6 @@
 -- What the steps of a read cost: one GETATTR, where the session asks for a file's attributes anew; and one READ from any place, since each READ begins where the
 -- bytes end that came before it, and each part brings some.
-use Rattle.core_counts.proofs.Prelude.{◌≡◌, ◌≤◌, ◌<◌, ◌+◌, ◌-◌, ◌/◌, ◌%◌, ◌==◌, ◌&&◌, ◌||◌, not, ℕ, zero, suc, Bool, true, false, List, [], ◌∷◌, length, take, Option, Some, None, Result, Ok, Err, inl, inr, refl, sym, ap, subst, ◌∙◌, arith, if◌then◌else◌, nat_lt, length-take, Attr, Mode, FileKept, Opened, Pages, known_of, after_page, Pending, Fault, Call, Reply, Next, Repeat, Turn, fails_busy, goes_again, repeats_after, Found, ReadFile, Bytes, place_after, with_more, next_page, Phase, Reading, part, refusal, said_to, said_by, breaks_rule, got_by, PhaseAt, ReadAt}
+use Rattle.core_counts.proofs.Prelude.{◌≡◌, ◌≤◌, ◌<◌, ◌+◌, ◌-◌, ◌/◌, ◌%◌, ◌==◌, ◌&&◌, ◌||◌, not, ℕ, zero, suc, Bool, true, false, List, [], ◌∷◌, length, take, Option, Some, None, Result, Ok, Err, inl, inr, refl, sym, ap, subst, ◌∙◌, arith, if◌then◌else◌, nat_lt, length-take, Attr, Mode, FileKept, Opened, Pages, known_of, after_page, Pending, Fault, Call, Reply, Step, Repeat, Turn, fails_busy, goes_again, repeats_after, Found, ReadFile, Bytes, place_after, with_more, next_page, Phase, Reading, part, refusal, said_to, said_by, breaks_rule, got_by, PhaseAt, ReadAt}
 use Rattle.std.specs.Prelude.{nat_eq}
 use Rattle.std.proofs.lemmas.List.{length-append}
 use Rattle.client_shelf.specs.Busy.{is_busy}
@@ -16,7 +16,7 @@ use Rattle.xdr_codec.specs.declared.blob.Memory as memory
 use Rattle.world_model.specs.declared.answer.Fault.TheVariants as faults
 use Rattle.world_model.specs.declared.message.Call.TheVariants as calls
 use Rattle.world_model.specs.declared.message.Reply.TheVariants as replies
-use Rattle.client_shelf.specs.declared.next.Next.TheVariants as nexts
+use Rattle.client_shelf.specs.declared.step.Step.TheVariants as nexts
 use Rattle.file_ops.specs.declared.gather.Found.TheVariants as found
 use Rattle.file_ops.specs.declared.reading.Phase.TheVariants as phases
 use Rattle.file_ops.specs.ReadFile as reads
@@ -59,13 +59,13 @@ known-goes room r pages k = record {
   at = gone-at k.f k.offset k.count k.rsize k.noac k.one room (reading.settled r pages) (settled-at k.f k.offset k.count k.rsize k.noac k.one r pages k.at);
 }
 
-pub known-resumes : (o : Option Reading) (room : Bool) (m : ReadFile) (pages : Pages) (back : Pending) (next : Next) (new : ReadFile) (later : Pages) → m.reading ≡ o → KnownIn o
+pub known-resumes : (o : Option Reading) (room : Bool) (m : ReadFile) (pages : Pages) (back : Pending) (next : Step) (new : ReadFile) (later : Pages) → m.reading ≡ o → KnownIn o
     → reads.ResumesIn o room m pages back next new later → KnownIn new.reading
 known-resumes None room m pages back next new later is k s = known-as None new.reading (ap (λ (q : ReadFile). q.reading) s.machine ∙ is) tt
 known-resumes (Some r) room m pages back next new later is k s =
     known-as (Some (reading.gone room (reading.settled r pages)).reading) new.reading (ap (λ (q : ReadFile). q.reading) s.machine) (known-goes room r pages k)
 
-pub known-takes : (o : Option Reading) (sent turn : Turn) (came : Result Reply Fault) (old : List Repeat) (m : ReadFile) (pages : Pages) (back : Pending) (next : Next) (new : ReadFile) (later : Pages)
+pub known-takes : (o : Option Reading) (sent turn : Turn) (came : Result Reply Fault) (old : List Repeat) (m : ReadFile) (pages : Pages) (back : Pending) (next : Step) (new : ReadFile) (later : Pages)
     → m.reading ≡ o → KnownIn o → reads.TakesIn o sent turn came old m pages back next new later → KnownIn new.reading
 known-takes None sent turn came old m pages back next new later is k t = known-as None new.reading (ap (λ (q : ReadFile). q.reading) t.machine ∙ is) tt
 known-takes (Some r) sent turn came old m pages back next new later is k t =
@@ -98,7 +98,7 @@ module _ (lane slot offset count rsize : ℕ) (noac : Bool) (one : 1 ≤ rsize) 
     at = record { file = refl; size = refl; base = begun-in offset count; phase = first-phase f noac refl };
   }
 
-  pub known-starts : (of : Option Opened) (turn : Turn) (pages : Pages) (back : Pending) (next : Next) (new : ReadFile) (later : Pages) → reads.Starts of turn own_read pages back next new later
+  pub known-starts : (of : Option Opened) (turn : Turn) (pages : Pages) (back : Pending) (next : Step) (new : ReadFile) (later : Pages) → reads.Starts of turn own_read pages back next new later
       → KnownIn new.reading
   known-starts of turn pages back next new later s = by of s.begins
     where
@@ -245,10 +245,10 @@ module _ (P : Call → Type 0) (start : ℕ) (only_read : (f : List ℕ) (at cou
   asked-costs (phases.Asked count) s w = absurd (let no_way : false ≡ true = w in cc)
   asked-costs phases.Ended s w = absurd (let no_way : false ≡ true = w in cc)
 
-  waits-costs : (n : ℕ) (next : Next) → next ≡ nexts.Wait → Costs P n next n
+  waits-costs : (n : ℕ) (next : Step) → next ≡ nexts.Wait → Costs P n next n
   waits-costs n next is = costs-as P n nexts.Wait next n n is refl (omega arith)
 
-  stays-costs : (p : Phase) (r : Reading) (back : Pending) (next : Next) → reading.Stays p r back next → Costs P (part_left start r) next (part_left start (reading.answered p r))
+  stays-costs : (p : Phase) (r : Reading) (back : Pending) (next : Step) → reading.Stays p r back next → Costs P (part_left start r) next (part_left start (reading.answered p r))
   stays-costs phases.Attrs r back next s = waits-costs (part_left start r) next s
   stays-costs phases.AskedAttrs r back next s = waits-costs (part_left start r) next s
   stays-costs phases.Pages r back next s = waits-costs (part_left start r) next s
@@ -261,7 +261,7 @@ module _ (P : Call → Type 0) (start : ℕ) (only_read : (f : List ℕ) (at cou
   and-right true b is = is
   and-right false b is = absurd (let no_way : false ≡ true = is in cc)
 
-  goes-costs : (room : Bool) (back : Pending) (s : reading.State) (next : Next) → reading.Goes room back s next → Costs P (part_left start s.reading) next (part_left start (reading.gone room s).reading)
+  goes-costs : (room : Bool) (back : Pending) (s : reading.State) (next : Step) → reading.Goes room back s next → Costs P (part_left start s.reading) next (part_left start (reading.gone room s).reading)
   goes-costs room back s next g = by (reading.asks room s) refl g
     where
       by : (b : Bool) → reading.asks room s ≡ b → reading.GoesIf b back s next
@@ -271,30 +271,30 @@ module _ (P : Call → Type 0) (start : ℕ) (only_read : (f : List ℕ) (at cou
           (asked-costs s.reading.phase s (and-right room (reading.wants s.reading.phase) asks))
       by false asks is = stays-costs s.reading.phase s.reading back next is
 
-  settled-costs : (room : Bool) (back : Pending) (r : Reading) (pages : Pages) (next : Next) → reading.Goes room back (reading.settled r pages) next
+  settled-costs : (room : Bool) (back : Pending) (r : Reading) (pages : Pages) (next : Step) → reading.Goes room back (reading.settled r pages) next
       → Costs P (part_left start r) next (part_left start (reading.gone room (reading.settled r pages)).reading)
   settled-costs room back r pages next g =
       costs-more P (part_left start (reading.settled r pages).reading) (part_left start r) next (part_left start (reading.gone room (reading.settled r pages)).reading) (settled-left r.phase r pages refl)
       (goes-costs room back (reading.settled r pages) next g)
 
-  from-costs : (room : Bool) (m : ReadFile) (back : Pending) (r : Reading) (pages : Pages) (next : Next) (new : ReadFile) (later : Pages)
+  from-costs : (room : Bool) (m : ReadFile) (back : Pending) (r : Reading) (pages : Pages) (next : Step) (new : ReadFile) (later : Pages)
       → reads.GoesFrom room m back (reading.settled r pages) next new later → Costs P (part_left start r) next (reading_left start new.reading)
   from-costs room m back r pages next new later g =
       costs-as P (part_left start r) next next (part_left start (reading.gone room (reading.settled r pages)).reading) (reading_left start new.reading) refl
       (ap (λ (k : ReadFile). reading_left start k.reading) g.machine) (settled-costs room back r pages next g.step)
 
-  starts-with : (result : Result Reading Fault) (room : Bool) (m : ReadFile) (pages : Pages) (back : Pending) (next : Next) (new : ReadFile) (later : Pages)
+  starts-with : (result : Result Reading Fault) (room : Bool) (m : ReadFile) (pages : Pages) (back : Pending) (next : Step) (new : ReadFile) (later : Pages)
       → reads.StartsWith result room m pages back next new later → Costs P 2 next (reading_left start new.reading)
   starts-with (Err fault) room m pages back next new later s =
       costs-as P 2 (reading.refused fault) next (reading_left start new.reading) (reading_left start new.reading) s.step refl tt
   starts-with (Ok r) room m pages back next new later s =
       costs-more P (part_left start r) 2 next (reading_left start new.reading) (phase-most r.phase (place_after r.base)) (from-costs room m back r pages next new later s)
 
-  pub read-starts : (of : Option Opened) (turn : Turn) (m : ReadFile) (pages : Pages) (back : Pending) (next : Next) (new : ReadFile) (later : Pages) → reads.Starts of turn m pages back next new later
+  pub read-starts : (of : Option Opened) (turn : Turn) (m : ReadFile) (pages : Pages) (back : Pending) (next : Step) (new : ReadFile) (later : Pages) → reads.Starts of turn m pages back next new later
       → Costs P 2 next (reading_left start new.reading)
   read-starts of turn m pages back next new later s = starts-with s.reading turn.room m pages back next new later s.goes
 
-  pub read-resumes : (o : Option Reading) (room : Bool) (m : ReadFile) (pages : Pages) (back : Pending) (next : Next) (new : ReadFile) (later : Pages) → m.reading ≡ o
+  pub read-resumes : (o : Option Reading) (room : Bool) (m : ReadFile) (pages : Pages) (back : Pending) (next : Step) (new : ReadFile) (later : Pages) → m.reading ≡ o
       → reads.ResumesIn o room m pages back next new later → Costs P (reading_left start o) next (reading_left start new.reading)
   read-resumes None room m pages back next new later is s =
       costs-as P 2 nexts.Wait next 2 (reading_left start new.reading) s.step (ap (λ (k : ReadFile). reading_left start k.reading) s.machine ∙ ap (reading_left start) is) (omega arith)
@@ -302,24 +302,24 @@ module _ (P : Call → Type 0) (start : ℕ) (only_read : (f : List ℕ) (at cou
 
   -- ---- what came
 
-  by-table : (had : ℕ) (sent turn : Turn) (old : List Repeat) (next : Next) (after : ℕ) (later : List Repeat) → after ≤ had → Tabled sent turn old next later → Costs P had next after
+  by-table : (had : ℕ) (sent turn : Turn) (old : List Repeat) (next : Step) (after : ℕ) (later : List Repeat) → after ≤ had → Tabled sent turn old next later → Costs P had next after
       → TakesCosts P had sent turn old next after later
   by-table had sent turn old next after later few (inl k) c = repeats_it k.2 few
   by-table had sent turn old next after later few (inr table) c = goes_on table c
 
-  again-or : (had : ℕ) (busy b : Bool) (call : Call) (fault : Fault) (sent turn : Turn) (old later : List Repeat) (next : Next) (after : ℕ) → goes_again busy sent turn old ≡ b → later ≡ repeats_after busy sent turn old
+  again-or : (had : ℕ) (busy b : Bool) (call : Call) (fault : Fault) (sent turn : Turn) (old later : List Repeat) (next : Step) (after : ℕ) → goes_again busy sent turn old ≡ b → later ≡ repeats_after busy sent turn old
       → after ≤ had → next ≡ reading.again_next b call fault → TakesCosts P had sent turn old next after later
   again-or had busy true call fault sent turn old later next after goes table few is =
       own-takes P had true busy sent turn old next after later goes table few (λ calm. absurd (let no_way : true ≡ false = calm in cc))
   again-or had busy false call fault sent turn old later next after goes table few is =
       own-takes P had false busy sent turn old next after later goes table few (λ calm. costs-as P had (reading.refused fault) next after after is refl tt)
 
-  state-as : (had : ℕ) (sent turn : Turn) (old : List Repeat) (next : Next) (later : List Repeat) (to new : reading.State) → new ≡ to → TakesCosts P had sent turn old next (part_left start to.reading) later
+  state-as : (had : ℕ) (sent turn : Turn) (old : List Repeat) (next : Step) (later : List Repeat) (to new : reading.State) → new ≡ to → TakesCosts P had sent turn old next (part_left start to.reading) later
       → TakesCosts P had sent turn old next (part_left start new.reading) later
   state-as had sent turn old next later to new is c = subst (λ (s : reading.State). TakesCosts P had sent turn old next (part_left start s.reading) later) (sym is) c
 
   -- the attributes came
-  opened-costs : (result : Result (Unit {0}) memory.Memory) (turn : Turn) (r : Reading) (pages : Pages) (back : Pending) (next : Next) (new : reading.State)
+  opened-costs : (result : Result (Unit {0}) memory.Memory) (turn : Turn) (r : Reading) (pages : Pages) (back : Pending) (next : Step) (new : reading.State)
       → reading.AfterOpened result turn r pages back next new → Costs P (due start (place_after r.base)) next (part_left start new.reading)
   opened-costs (Ok done) turn r pages back next new a =
       let to : Reading = record r { phase = phases.Pages } in
@@ -328,7 +328,7 @@ module _ (P : Call → Type 0) (start : ℕ) (only_read : (f : List ℕ) (at cou
   opened-costs (Err no_memory) turn r pages back next new a =
       costs-as P (due start (place_after r.base)) (reading.refused faults.Memory) next (part_left start new.reading) (part_left start new.reading) a.0 refl tt
 
-  attrs-takes : (told : Result Attr Fault) (sent turn : Turn) (old later : List Repeat) (r : Reading) (pages : Pages) (back : Pending) (next : Next) (new : reading.State) → r.phase ≡ phases.AskedAttrs
+  attrs-takes : (told : Result Attr Fault) (sent turn : Turn) (old later : List Repeat) (r : Reading) (pages : Pages) (back : Pending) (next : Step) (new : reading.State) → r.phase ≡ phases.AskedAttrs
       → later ≡ repeats_after (fails_busy told) sent turn old → reading.TakesAttrs (goes_again (fails_busy told) sent turn old) told sent turn r pages back next new
       → TakesCosts P (part_left start r) sent turn old next (part_left start new.reading) later
   attrs-takes (Ok attr) sent turn old later r pages back next new is table t =
@@ -354,7 +354,7 @@ module _ (P : Call → Type 0) (start : ℕ) (only_read : (f : List ℕ) (at cou
       let low = then-left (nat_lt (length bytes) n || not (place_after (with_more bytes r.base) % 4096 == 0)) (place_after (with_more bytes r.base)) in
       omega (arith, place, low)
 
-  said-takes : (said : Said) (n : ℕ) (sent turn : Turn) (old later : List Repeat) (r : Reading) (pages : Pages) (back : Pending) (next : Next) → HasSome said → r.phase ≡ phases.Asked n
+  said-takes : (said : Said) (n : ℕ) (sent turn : Turn) (old later : List Repeat) (r : Reading) (pages : Pages) (back : Pending) (next : Step) → HasSome said → r.phase ≡ phases.Asked n
       → length r.base.bytes < r.base.limit → later ≡ repeats_after (says_busy said) sent turn old
       → reading.Tells (goes_again (says_busy said) sent turn old) sent turn said r pages back next
       → TakesCosts P (part_left start r) sent turn old next (part_left start (reading.told sent turn said r pages).reading) later
@@ -368,7 +368,7 @@ module _ (P : Call → Type 0) (start : ℕ) (only_read : (f : List ℕ) (at cou
       again-or (part_left start r) (is_busy fault) (goes_again (is_busy fault) sent turn old) (reading.part_call r) fault sent turn old later next (part_left start r) refl table (omega arith) t
 
   -- it waits for none
-  none-takes : (o : Option Said) (sent turn : Turn) (old later : List Repeat) (r : Reading) (pages : Pages) (back : Pending) (next : Next) (new : reading.State) → o ≡ None
+  none-takes : (o : Option Said) (sent turn : Turn) (old later : List Repeat) (r : Reading) (pages : Pages) (back : Pending) (next : Step) (new : reading.State) → o ≡ None
       → Tabled sent turn old next later → reading.TakesPart o sent turn old r pages back next new → TakesCosts P (part_left start r) sent turn old next (part_left start new.reading) later
   none-takes None sent turn old later r pages back next new none w t =
       state-as (part_left start r) sent turn old next later (record { reading = r; pages = pages }) new t.1
@@ -378,7 +378,7 @@ module _ (P : Call → Type 0) (start : ℕ) (only_read : (f : List ℕ) (at cou
   one-said : (a b : Said) → Some a ≡ Some b → a ≡ b
   one-said a b e = cc
 
-  heard-takes : (o : Option Said) (n : ℕ) (came : Result Reply Fault) (sent turn : Turn) (old later : List Repeat) (r : Reading) (pages : Pages) (back : Pending) (next : Next) (new : reading.State)
+  heard-takes : (o : Option Said) (n : ℕ) (came : Result Reply Fault) (sent turn : Turn) (old later : List Repeat) (r : Reading) (pages : Pages) (back : Pending) (next : Step) (new : reading.State)
       → o ≡ Some (said_to n came) → r.phase ≡ phases.Asked n → length r.base.bytes < r.base.limit → later ≡ repeats_after (says_busy (said_to n came)) sent turn old
       → reading.TakesPart o sent turn old r pages back next new → TakesCosts P (part_left start r) sent turn old next (part_left start new.reading) later
   heard-takes None n came sent turn old later r pages back next new some is lacks table t = absurd (let no_way : None ≡ Some (said_to n came) = some in cc)
@@ -387,7 +387,7 @@ module _ (P : Call → Type 0) (start : ℕ) (only_read : (f : List ℕ) (at cou
       state-as (part_left start r) sent turn old next later (reading.told sent turn said r pages) new t.1
       (said-takes said n sent turn old later r pages back next (subst HasSome (sym which) (said-some n came)) is lacks (table ∙ ap (λ (s : Said). repeats_after (says_busy s) sent turn old) (sym which)) t.0)
 
-  reading-takes : (p : Phase) (sent turn : Turn) (came : Result Reply Fault) (old later : List Repeat) (r : Reading) (pages : Pages) (back : Pending) (next : Next) (new : reading.State) → r.phase ≡ p
+  reading-takes : (p : Phase) (sent turn : Turn) (came : Result Reply Fault) (old later : List Repeat) (r : Reading) (pages : Pages) (back : Pending) (next : Step) (new : reading.State) → r.phase ≡ p
       → InPages r → later ≡ reading.repeats_taken p sent turn came old → Tabled sent turn old next later → reading.TakesIf (reading.waits_attrs p) sent turn came old r pages back next new
       → TakesCosts P (part_left start r) sent turn old next (part_left start new.reading) later
   reading-takes phases.AskedAttrs sent turn came old later r pages back next new is k table w t = attrs-takes (got_by came) sent turn old later r pages back next new is table t
@@ -408,7 +408,7 @@ module _ (P : Call → Type 0) (start : ℕ) (only_read : (f : List ℕ) (at cou
   reading-takes phases.Ended sent turn came old later r pages back next new is k table w t =
       none-takes (reading.heard r.phase came) sent turn old later r pages back next new (ap (λ (q : Phase). reading.heard q came) is) w t
 
-  pub read-takes : (o : Option Reading) (sent turn : Turn) (came : Result Reply Fault) (old later : List Repeat) (m : ReadFile) (pages : Pages) (back : Pending) (next : Next) (new : ReadFile) (kept_later : Pages)
+  pub read-takes : (o : Option Reading) (sent turn : Turn) (came : Result Reply Fault) (old later : List Repeat) (m : ReadFile) (pages : Pages) (back : Pending) (next : Step) (new : ReadFile) (kept_later : Pages)
       → m.reading ≡ o → KnownIn o → later ≡ reads.repeats_heard o sent turn came old → Tabled sent turn old next later → reads.TakesIn o sent turn came old m pages back next new kept_later
       → TakesCosts P (reading_left start o) sent turn old next (reading_left start new.reading) later
   read-takes None sent turn came old later m pages back next new kept_later is k table w t =

@@ -1,8 +1,8 @@
 -- Whether a call is made again, by the table of such calls, of any operation.
-use Rattle.core_counts.proofs.Prelude.{◌≡◌, ◌≤◌, ◌⊎◌, inl, inr, ℕ, Bool, true, false, List, [], Result, Ok, Err, refl, sym, subst, ◌∙◌, Fault, Entry, Call, Reply, Next, Repeat, Shelf, Turn, goes_again, ended, repeated, Machine, Takes, in_flight, machine-fits, Calm, took-any}
+use Rattle.core_counts.proofs.Prelude.{◌≡◌, ◌≤◌, ◌⊎◌, inl, inr, ℕ, Bool, true, false, List, [], Result, Ok, Err, refl, sym, subst, ◌∙◌, Fault, Entry, Call, Reply, Step, Repeat, Shelf, Turn, goes_again, ended, repeated, Machine, Takes, in_flight, machine-fits, Calm, took-any}
 use Rattle.world_model.specs.declared.answer.Fault.TheVariants as faults
 use Rattle.claims.specs.Terms.{jukebox}
-use Rattle.client_shelf.specs.declared.next.Next.TheVariants as nexts
+use Rattle.client_shelf.specs.declared.step.Step.TheVariants as nexts
 use Rattle.core_answers.proofs.answers.SaveFaults.{CallFaults}
 use Rattle.core_answers.proofs.refusals.Replied.{Given}
 use Rattle.core_session.proofs.delays.Delays.{Off, off-own, off-given, off-evident}
@@ -10,10 +10,10 @@ use Rattle.core_session.proofs.delays.Took.{Took}
 use Rattle.core_counts.proofs.counts.engine.Laws.{Came, told, unmade, IsUnmadeFault}
 use Rattle.core_counts.proofs.counts.listed.Laws.{table-again}
 
-abbrev pub Tabled : Turn → Turn → List Repeat → Next → List Repeat → Type 0
+abbrev pub Tabled : Turn → Turn → List Repeat → Step → List Repeat → Type 0
 Tabled sent turn old next later = ((call : Call) × (next ≡ nexts.Send call) × (later ≡ repeated sent.xid turn.xid old)) ⊎ (later ≡ ended sent.xid old)
 
-tabled-by : (P : Fault → Type 0) (sent turn : Turn) (old later : List Repeat) (next : Next) (call : Call) (C : Type 0) → Took P sent turn old later (next ≡ nexts.Send call) C → Tabled sent turn old next later
+tabled-by : (P : Fault → Type 0) (sent turn : Turn) (old later : List Repeat) (next : Step) (call : Call) (C : Type 0) → Took P sent turn old later (next ≡ nexts.Send call) C → Tabled sent turn old next later
 tabled-by P sent turn old later next call C t = by (goes_again t.busy sent turn old) refl
   where
     by : (b : Bool) → goes_again t.busy sent turn old ≡ b → Tabled sent turn old next later
@@ -44,7 +44,7 @@ none-off faults.Mode u same = absurd u
 none-off faults.Kind u same = absurd u
 none-off faults.Many u same = absurd u
 
-pub tabled : (h : List Entry) (x : ℕ) (machine : Machine) (wsize : ℕ) (sent turn : Turn) (came : Result Reply Fault) (old : Shelf) (next : Next) (new : Machine) (after : Shelf) → 1 ≤ in_flight machine
+pub tabled : (h : List Entry) (x : ℕ) (machine : Machine) (wsize : ℕ) (sent turn : Turn) (came : Result Reply Fault) (old : Shelf) (next : Step) (new : Machine) (after : Shelf) → 1 ≤ in_flight machine
     → Came h x machine sent came old → Takes wsize machine sent turn came old next new after → Tabled sent turn old.repeats next after.repeats
 tabled h x machine wsize sent turn came old next new after some (told call xid rec now e said sent_is piece) t =
     tabled-by (Off xid call rec) sent turn old.repeats after.repeats next call (Calm (λ (fault : Fault). Unit {0}) (record { memory = tt }) came next machine)

@@ -1,5 +1,5 @@
 -- A remove asks for one LOOKUP of a hidden name, and for one more after each that was found.
-use Rattle.core_counts.proofs.Prelude.{◌≡◌, ◌≤◌, ◌+◌, ◌-◌, ◌⊎◌, inl, inr, ℕ, zero, suc, Bool, true, false, List, [], ◌∷◌, ◌++◌, length, take, Contains, Option, Some, None, Result, Ok, Err, refl, sym, ap, subst, ◌∙◌, arith, if◌then◌else◌, DirKept, Answer, Fault, Entry, Began, Call, Reply, Op, Says, Next, Repeat, Shelf, Turn, fails_busy, goes_again, repeats_after, ended, repeated, Deed, Look, Seek, Move, Remove, RemoveFile, Walk, WalkNext, look_up, found_by, look_again, moved_told, Mounted, Machine, machine_of, front_of, last_of, Starts, Resumes, Takes, of_name, of_walk, in_flight}
+use Rattle.core_counts.proofs.Prelude.{◌≡◌, ◌≤◌, ◌+◌, ◌-◌, ◌⊎◌, inl, inr, ℕ, zero, suc, Bool, true, false, List, [], ◌∷◌, ◌++◌, length, take, Contains, Option, Some, None, Result, Ok, Err, refl, sym, ap, subst, ◌∙◌, arith, if◌then◌else◌, DirKept, Answer, Fault, Entry, Began, Call, Reply, Op, Says, Step, Repeat, Shelf, Turn, fails_busy, goes_again, repeats_after, ended, repeated, Deed, Look, Seek, Move, Remove, RemoveFile, Walk, WalkStep, look_up, found_by, look_again, moved_told, Mounted, Machine, machine_of, front_of, last_of, Starts, Resumes, Takes, of_name, of_walk, in_flight}
 use Rattle.core_facts.specs.InFlight.{one_if, removal_by}
 use Rattle.silly_rename.specs.Plans.{plan_of}
 use Rattle.nfs_dir_calls.specs.declared.keeping.DirKept.TheVariants as kept
@@ -9,8 +9,8 @@ use Rattle.world_model.specs.declared.op.Op.TheVariants as ops
 use Rattle.claims.specs.CallCounts.{IsInScript, MetHidden}
 use Rattle.world_model.specs.Heard.{status_of}
 use Rattle.claims.specs.Hidden.{IsHidden}
-use Rattle.client_shelf.specs.declared.next.Next.TheVariants as nexts
-use Rattle.name_ops.specs.declared.walk.WalkNext.TheVariants as walks
+use Rattle.client_shelf.specs.declared.step.Step.TheVariants as nexts
+use Rattle.name_ops.specs.declared.walk.WalkStep.TheVariants as walks
 use Rattle.name_ops.specs.Changing as changing
 use Rattle.name_ops.specs.RemoveFile as removals
 use Rattle.name_ops.specs.Walking as walking
@@ -160,7 +160,7 @@ module _ (m : Mounted) (script : List Entry) where
   done-send answer c e = cc
 
   module _ (h : List Entry) (x : ℕ) (op : Op) (fits : IsRemove op) where
-    abbrev Spent : ℕ → Next → RemoveFile → Type 0
+    abbrev Spent : ℕ → Step → RemoveFile → Type 0
     Spent had next k = Spends IsOther RemoveLeft h x op had next (machines.Name (names.Remove k))
 
     -- it is one of this operation
@@ -252,14 +252,14 @@ module _ (m : Mounted) (script : List Entry) where
     asked-by true deed k n mine may = asks-for deed k n mine may
     asked-by false deed k n mine may = waits-for deed k n mine may
 
-    spent-as : (had : ℕ) (to next : Next) (make new : RemoveFile) → next ≡ to → new ≡ make → Spent had to make → Spent had next new
-    spent-as had to next make new is_next is_new s = subst (λ (n : Next). Spent had n new) (sym is_next) (subst (Spent had to) (sym is_new) s)
+    spent-as : (had : ℕ) (to next : Step) (make new : RemoveFile) → next ≡ to → new ≡ make → Spent had to make → Spent had next new
+    spent-as had to next make new is_next is_new s = subst (λ (n : Step). Spent had n new) (sym is_next) (subst (Spent had to) (sym is_new) s)
 
-    ends : (n : ℕ) (answer : Answer) (next : Next) (new : RemoveFile) → next ≡ nexts.Done answer → Spent n next new
-    ends n answer next new is = subst (λ (o : Next). Spent n o new) (sym is) (record { left = n; keeps = tt; less = omega arith; asks = λ c same p. absurd (done-send answer c same) })
+    ends : (n : ℕ) (answer : Answer) (next : Step) (new : RemoveFile) → next ≡ nexts.Done answer → Spent n next new
+    ends n answer next new is = subst (λ (o : Step). Spent n o new) (sym is) (record { left = n; keeps = tt; less = omega arith; asks = λ c same p. absurd (done-send answer c same) })
 
     -- it does as its walk does
-    follows-left : (step : WalkNext) (room : Bool) (k : RemoveFile) (opens : _) (next : Next) (new : RemoveFile) (n : ℕ) → removals.Follows step room k opens next new → k.deed ≡ None → Mine k → 1 ≤ n
+    follows-left : (step : WalkStep) (room : Bool) (k : RemoveFile) (opens : _) (next : Step) (new : RemoveFile) (n : ℕ) → removals.Follows step room k opens next new → k.deed ≡ None → Mine k → 1 ≤ n
         → ((call : Call) → step ≡ walks.Send call → Looks k.walk.path call) → Spent n next new
     follows-left (walks.Send call) room k opens next new n f none mine some looks =
         spent-as n (nexts.Send call) next k new f.0 f.1 (record {
@@ -284,7 +284,7 @@ module _ (m : Mounted) (script : List Entry) where
         may false = tt
     follows-left (walks.Refused fault) room k opens next new n f none mine some looks = ends n (answers.Refused fault) next new f.0
 
-    goes : (k : RemoveFile) (turn : Turn) (old : Shelf) (next : Next) (new : RemoveFile) (after : Shelf) (n : ℕ) → Mine k → Stage k.deed k.asked k.walk.spot.dir n
+    goes : (k : RemoveFile) (turn : Turn) (old : Shelf) (next : Step) (new : RemoveFile) (after : Shelf) (n : ℕ) → Mine k → Stage k.deed k.asked k.walk.spot.dir n
         → removals.Resumes k.asked k turn old next new after → Spent n next new
     goes k turn old next new after n mine stage r = by k.asked refl r stage
       where
@@ -311,7 +311,7 @@ module _ (m : Mounted) (script : List Entry) where
 
     -- ---- a step at what came
 
-    abbrev Taken : ℕ → Turn → Turn → Result Reply Fault → List Repeat → Next → RemoveFile → List Repeat → Type 0
+    abbrev Taken : ℕ → Turn → Turn → Result Reply Fault → List Repeat → Step → RemoveFile → List Repeat → Type 0
     Taken had sent turn came old next k later = Took IsOther (MetHidden script) RemoveLeft h x op had sent turn came old next (machines.Name (names.Remove k)) later
 
     same-repeats : (a b : Shelf) → a ≡ b → a.repeats ≡ b.repeats
@@ -321,11 +321,11 @@ module _ (m : Mounted) (script : List Entry) where
     plus-none n = omega arith
 
     -- without a reply that gives one more
-    on-plain : (n : ℕ) (sent turn : Turn) (came : Result Reply Fault) (old : List Repeat) (next : Next) (k : RemoveFile) (later : List Repeat) → later ≡ ended sent.xid old → Spent n next k
+    on-plain : (n : ℕ) (sent turn : Turn) (came : Result Reply Fault) (old : List Repeat) (next : Step) (k : RemoveFile) (later : List Repeat) → later ≡ ended sent.xid old → Spent n next k
         → Taken n sent turn came old next k later
     on-plain n sent turn came old next k later table s = on table 0 (nothing refl) (subst (λ (c : ℕ). Spent c next k) (plus-none n) s)
 
-    again-plain : (n : ℕ) (sent turn : Turn) (came : Result Reply Fault) (old : List Repeat) (next : Next) (k new : RemoveFile) (later : List Repeat) → later ≡ repeated sent.xid turn.xid old → new ≡ k → Mine k
+    again-plain : (n : ℕ) (sent turn : Turn) (came : Result Reply Fault) (old : List Repeat) (next : Step) (k new : RemoveFile) (later : List Repeat) → later ≡ repeated sent.xid turn.xid old → new ≡ k → Mine k
         → Stage k.deed k.asked k.walk.spot.dir n → Taken n sent turn came old next new later
     again-plain n sent turn came old next k new later table is mine stage =
         again table n (omega arith) (subst (λ (o : RemoveFile). RemoveLeft h x op (machines.Name (names.Remove o)) n) (sym is) (left-of k n mine stage))
@@ -335,20 +335,20 @@ module _ (m : Mounted) (script : List Entry) where
     followed-repeats false w (Ok place) turn s = refl
     followed-repeats false w (Err fault) turn s = refl
 
-    look-repeats : (b : Bool) (told_it : Result (List ℕ) Fault) (k : RemoveFile) (room : Bool) (old : Shelf) (next : Next) (new : RemoveFile) (after : Shelf)
+    look-repeats : (b : Bool) (told_it : Result (List ℕ) Fault) (k : RemoveFile) (room : Bool) (old : Shelf) (next : Step) (new : RemoveFile) (after : Shelf)
         → removals.FollowsLook b told_it k room old next new after → after.repeats ≡ old.repeats
     look-repeats true told_it k room old next new after f = same-repeats after old f.shelf_is
     look-repeats false (Ok file) k room old next new after f = ap (λ (s : Shelf). s.repeats) f.plans.shelf_is
     look-repeats false (Err fault) k room old next new after f = same-repeats after old f.shelf_is
 
-    seek-repeats : (b : Bool) (told_it : Result (List ℕ) Fault) (file to : List ℕ) (k : RemoveFile) (room : Bool) (old : Shelf) (next : Next) (new : RemoveFile) (after : Shelf)
+    seek-repeats : (b : Bool) (told_it : Result (List ℕ) Fault) (file to : List ℕ) (k : RemoveFile) (room : Bool) (old : Shelf) (next : Step) (new : RemoveFile) (after : Shelf)
         → removals.FollowsSeek b told_it file to k room old next new after → after.repeats ≡ old.repeats
     seek-repeats true told_it file to k room old next new after f = same-repeats after old f.shelf_is
     seek-repeats false (Ok found) file to k room old next new after f = ap (λ (s : Shelf). s.repeats) f.shelf_is
     seek-repeats false (Err fault) file to k room old next new after f = same-repeats after old f.shelf_is
 
     -- the next name is planned
-    plans-left : (is_open : Bool) (file : List ℕ) (k : RemoveFile) (room : Bool) (old : Shelf) (next : Next) (new : RemoveFile) (after : Shelf) (n : ℕ) → Mine k → 1 ≤ n
+    plans-left : (is_open : Bool) (file : List ℕ) (k : RemoveFile) (room : Bool) (old : Shelf) (next : Step) (new : RemoveFile) (after : Shelf) (n : ℕ) → Mine k → 1 ≤ n
         → removals.Plans is_open file k room old next new after → Spent n next new
     plans-left is_open file k room old next new after n mine some p =
         spent-as n (removals.asked_next k (removals.deed_of file (plan_of is_open old.counter)) room) next (removals.asked_after k (removals.deed_of file (plan_of is_open old.counter)) room) new p.next_is p.machine_is
@@ -359,7 +359,7 @@ module _ (m : Mounted) (script : List Entry) where
         may true = (silly-hidden old.counter, some)
 
     -- its walk
-    walk-takes : (k : RemoveFile) (n : ℕ) (name : Option (List ℕ)) (sent turn : Turn) (came : Result Reply Fault) (old : Shelf) (step : WalkNext) (walked : RemoveFile) (next : Next) (new : RemoveFile) (after : Shelf)
+    walk-takes : (k : RemoveFile) (n : ℕ) (name : Option (List ℕ)) (sent turn : Turn) (came : Result Reply Fault) (old : Shelf) (step : WalkStep) (walked : RemoveFile) (next : Step) (new : RemoveFile) (after : Shelf)
         → k.deed ≡ None → Mine k → 1 ≤ n → 1 ≤ of_name name → walking.Takes name k.walk sent turn came old step walked.walk after → walked ≡ record k { walk = walked.walk }
         → removals.Follows step turn.room walked after.opens next new → Taken n sent turn came old.repeats next new after.repeats
     walk-takes k n None sent turn came old step walked next new after none mine some waits t walked_is f = absurd (omega (arith, waits))
@@ -389,7 +389,7 @@ module _ (m : Mounted) (script : List Entry) where
         by : (b : Bool) → look_again sent turn came old ≡ b → Taken n sent turn came old.repeats next new after.repeats
         by true busy =
             let step_is : step ≡ walks.Send (look_up k.walk.spot.dir name) = t.next_is ∙ ap (λ (c : Bool). walking.followed_next c k.walk name (found_by came) turn t.heard) busy in
-            let g = subst (λ (w : WalkNext). removals.Follows w turn.room walked after.opens next new) step_is f in
+            let g = subst (λ (w : WalkStep). removals.Follows w turn.room walked after.opens next new) step_is f in
             again-plain n sent turn came old.repeats next walked new after.repeats (table-again true (fails_busy (found_by came)) sent turn old.repeats after.repeats busy table) g.1 its
             (subst (λ (o : Option Deed). Stage o walked.asked walked.walk.spot.dir n) (sym deed_none) some)
         by false calm =
@@ -399,7 +399,7 @@ module _ (m : Mounted) (script : List Entry) where
             (λ call same. subst (λ (p : List (List ℕ)). Looks p call) (sym path_is) (told-looks k.walk (found_by came) turn t.heard call (sym step_is ∙ same))))
 
     -- the LOOKUP of its name
-    look-takes : (b : Bool) (told_it : Result (List ℕ) Fault) (k : RemoveFile) (n : ℕ) (sent turn : Turn) (came : Result Reply Fault) (heard : Shelf) (old later : List Repeat) (next : Next) (new : RemoveFile)
+    look-takes : (b : Bool) (told_it : Result (List ℕ) Fault) (k : RemoveFile) (n : ℕ) (sent turn : Turn) (came : Result Reply Fault) (heard : Shelf) (old later : List Repeat) (next : Step) (new : RemoveFile)
         (after : Shelf) → k.deed ≡ Some Look → Mine k → 1 ≤ n → (b ≡ true → later ≡ repeated sent.xid turn.xid old) → (b ≡ false → later ≡ ended sent.xid old)
         → removals.FollowsLook b told_it k turn.room heard next new after → Taken n sent turn came old next new later
     look-takes true told_it k n sent turn came heard old later next new after is mine some busy calm f =
@@ -410,7 +410,7 @@ module _ (m : Mounted) (script : List Entry) where
         on-plain n sent turn came old next new later (calm refl) (ends n (answers.Refused fault) next new f.next_is)
 
     -- the LOOKUP of a hidden name
-    seek-takes : (b : Bool) (told_it : Result (List ℕ) Fault) (file to : List ℕ) (k : RemoveFile) (n : ℕ) (sent turn : Turn) (came : Result Reply Fault) (shelf heard : Shelf) (old later : List Repeat) (next : Next)
+    seek-takes : (b : Bool) (told_it : Result (List ℕ) Fault) (file to : List ℕ) (k : RemoveFile) (n : ℕ) (sent turn : Turn) (came : Result Reply Fault) (shelf heard : Shelf) (old later : List Repeat) (next : Step)
         (new : RemoveFile) (after : Shelf) → found_by came ≡ told_it → k.deed ≡ Some (Seek file to) → Mine k → Stage (Some (Seek file to)) true k.walk.spot.dir n → k.asked ≡ true
         → Came h x (machines.Name (names.Remove k)) sent came shelf → (b ≡ true → later ≡ repeated sent.xid turn.xid old) → (b ≡ false → later ≡ ended sent.xid old)
         → removals.FollowsSeek b told_it file to k turn.room heard next new after → Taken n sent turn came old next new later
@@ -444,7 +444,7 @@ module _ (m : Mounted) (script : List Entry) where
         by false other = ends n (answers.Refused fault) next new (f.next_is ∙ ap (λ (b : Bool). removals.missed_next b fault file to k turn.room) other)
 
     -- the RENAME
-    move-takes : (b : Bool) (refusal : Option Fault) (file to : List ℕ) (k : RemoveFile) (n : ℕ) (sent turn : Turn) (came : Result Reply Fault) (old later : List Repeat) (was : removals.Places) (next : Next)
+    move-takes : (b : Bool) (refusal : Option Fault) (file to : List ℕ) (k : RemoveFile) (n : ℕ) (sent turn : Turn) (came : Result Reply Fault) (old later : List Repeat) (was : removals.Places) (next : Step)
         (new : RemoveFile) (now : removals.Places) → k.deed ≡ Some (Move file to) → Mine k → new ≡ k → (b ≡ true → later ≡ repeated sent.xid turn.xid old) → (b ≡ false → later ≡ ended sent.xid old)
         → removals.EndsMove b refusal file to k was next now → Taken n sent turn came old next new later
     move-takes true refusal file to k n sent turn came old later was next new now is mine same busy calm f =
@@ -456,7 +456,7 @@ module _ (m : Mounted) (script : List Entry) where
     move-takes false (Some fault) file to k n sent turn came old later was next new now is mine same busy calm f =
         on-plain n sent turn came old next new later (calm refl) (ends n (answers.Refused fault) next new f.0)
 
-    deed-takes : (deed : Deed) (k : RemoveFile) (n : ℕ) (sent turn : Turn) (came : Result Reply Fault) (old : Shelf) (next : Next) (new : RemoveFile) (after : Shelf) → k.deed ≡ Some deed → k.asked ≡ true → Mine k
+    deed-takes : (deed : Deed) (k : RemoveFile) (n : ℕ) (sent turn : Turn) (came : Result Reply Fault) (old : Shelf) (next : Step) (new : RemoveFile) (after : Shelf) → k.deed ≡ Some deed → k.asked ≡ true → Mine k
         → Stage (Some deed) true k.walk.spot.dir n → Came h x (machines.Name (names.Remove k)) sent came old → removals.TakesDeed deed k sent turn came old next new after
         → Taken n sent turn came old.repeats next new after.repeats
     deed-takes Look k n sent turn came old next new after is asked mine s c t =
@@ -494,7 +494,7 @@ module _ (m : Mounted) (script : List Entry) where
             on-plain n sent turn came old.repeats next new after.repeats (table-again false (changing.told_busy (removals.removed_told came).refusal) sent turn old.repeats after.repeats calm table)
             (ends n _ next new (t.1.next_is ∙ ap (λ (b : Bool). changing.change_next b (removals.call_of k Remove) (removals.removed_told came)) calm))
 
-    takes-remove : (k : RemoveFile) (n : ℕ) (sent turn : Turn) (came : Result Reply Fault) (old : Shelf) (next : Next) (new : RemoveFile) (after : Shelf) (others : ℕ) → Mine k
+    takes-remove : (k : RemoveFile) (n : ℕ) (sent turn : Turn) (came : Result Reply Fault) (old : Shelf) (next : Step) (new : RemoveFile) (after : Shelf) (others : ℕ) → Mine k
         → Stage k.deed k.asked k.walk.spot.dir n → removal_by k.deed k.asked (of_walk k.walk) ≡ others + 1 → Came h x (machines.Name (names.Remove k)) sent came old
         → removals.Takes k.deed k sent turn came old next new after → Taken n sent turn came old.repeats next new after.repeats
     takes-remove k n sent turn came old next new after others mine stage flight c t = by k.deed refl stage flight t
@@ -525,11 +525,11 @@ module _ (m : Mounted) (script : List Entry) where
           let same = same-path l.path fits.path (sym l.op_is ∙ fits.is) in
           record { path_is = l.path_is ∙ ap front_of same; name_is = l.name_is ∙ ap last_of same }
 
-      spent-to : (h : List Entry) (x : ℕ) (op : Op) (had : ℕ) (next : Next) (k : RemoveFile) (new : Machine) → new ≡ machines.Name (names.Remove k)
+      spent-to : (h : List Entry) (x : ℕ) (op : Op) (had : ℕ) (next : Step) (k : RemoveFile) (new : Machine) → new ≡ machines.Name (names.Remove k)
           → Spends IsOther RemoveLeft h x op had next (machines.Name (names.Remove k)) → Spends IsOther RemoveLeft h x op had next new
       spent-to h x op had next k new is s = subst (λ (q : Machine). Spends IsOther RemoveLeft h x op had next q) (sym is) s
 
-      starts : (h : List Entry) (lane line : ℕ) (op : Op) (wsize : ℕ) (turn : Turn) (old : Shelf) (next : Next) (new : Machine) (after : Shelf) → IsRemove op
+      starts : (h : List Entry) (lane line : ℕ) (op : Op) (wsize : ℕ) (turn : Turn) (old : Shelf) (next : Step) (new : Machine) (after : Shelf) → IsRemove op
           → Starts wsize (machine_of m lane op) turn old next new after → Spends IsOther RemoveLeft (h ++ Began lane line op ∷ []) (length h) op 1 next new
       starts h lane line op wsize turn old next new after fits s =
           let g = subst (λ (o : Op). Starts wsize (machine_of m lane o) turn old next new after) fits.is s in
@@ -539,14 +539,14 @@ module _ (m : Mounted) (script : List Entry) where
           first : List (List ℕ) → RemoveFile
           first path = record { walk = record { path = front_of path; spot = record { dir = m.root; left = length (front_of path) }; asked = false }; name = last_of path; deed = None; asked = false }
 
-      resumes : (h : List Entry) (x : ℕ) (op : Op) (machine : Machine) (wsize : ℕ) (turn : Turn) (old : Shelf) (next : Next) (new : Machine) (after : Shelf) (had : ℕ) → IsRemove op
+      resumes : (h : List Entry) (x : ℕ) (op : Op) (machine : Machine) (wsize : ℕ) (turn : Turn) (old : Shelf) (next : Step) (new : Machine) (after : Shelf) (had : ℕ) → IsRemove op
           → RemoveLeft h x op machine had → Resumes wsize machine turn old next new after → Spends IsOther RemoveLeft h x op had next new
       resumes h x op machine wsize turn old next new after had fits l r =
           let g = subst (λ (n : Machine). Resumes wsize n turn old next new after) l.is r in
           spent-to h x op had next g.step.machine new (g.machine_is ∙ ap machines.Name g.step.machine_is)
           (goes h x op fits l.k turn old next g.step.machine after had (its h x op fits machine had l) l.stage g.step.step)
 
-      takes : (h : List Entry) (x : ℕ) (op : Op) (machine : Machine) (wsize : ℕ) (sent turn : Turn) (came : Result Reply Fault) (old : Shelf) (next : Next) (new : Machine) (after : Shelf) (others had : ℕ)
+      takes : (h : List Entry) (x : ℕ) (op : Op) (machine : Machine) (wsize : ℕ) (sent turn : Turn) (came : Result Reply Fault) (old : Shelf) (next : Step) (new : Machine) (after : Shelf) (others had : ℕ)
           → IsRemove op → RemoveLeft h x op machine had → in_flight machine ≡ others + 1 → Came h x machine sent came old → Takes wsize machine sent turn came old next new after
           → Took IsOther (MetHidden script) RemoveLeft h x op had sent turn came old.repeats next new after.repeats
       takes h x op machine wsize sent turn came old next new after others had fits l flight c t =

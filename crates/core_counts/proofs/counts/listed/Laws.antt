@@ -1,5 +1,5 @@
 -- A listing asks for its first page from cookie 0, and for each next one after the page before it came.
-use Rattle.core_counts.proofs.Prelude.{◌≡◌, ◌≤◌, ◌+◌, inl, inr, ℕ, zero, suc, nat_eq, Bool, true, false, List, [], ◌∷◌, ◌++◌, length, Option, Some, None, Result, Ok, Err, refl, sym, ap, subst, ◌∙◌, arith, if◌then◌else◌, Attr, Verf, DirKept, Fault, Entry, Began, Call, Reply, Op, list_call, SpellsReply, Says, Next, Repeat, Shelf, Turn, fails_busy, goes_again, repeats_after, ended, ListDir, Visit, Walk, WalkNext, look_up, found_by, look_again, Mounted, Machine, machine_of, Starts, Resumes, Takes, of_name, of_walk, visit_by, in_flight}
+use Rattle.core_counts.proofs.Prelude.{◌≡◌, ◌≤◌, ◌+◌, inl, inr, ℕ, zero, suc, nat_eq, Bool, true, false, List, [], ◌∷◌, ◌++◌, length, Option, Some, None, Result, Ok, Err, refl, sym, ap, subst, ◌∙◌, arith, if◌then◌else◌, Attr, Verf, DirKept, Fault, Entry, Began, Call, Reply, Op, list_call, SpellsReply, Says, Step, Repeat, Shelf, Turn, fails_busy, goes_again, repeats_after, ended, ListDir, Visit, Walk, WalkStep, look_up, found_by, look_again, Mounted, Machine, machine_of, Starts, Resumes, Takes, of_name, of_walk, visit_by, in_flight}
 use Rattle.std.proofs.Common.{nat_lt}
 use Rattle.world_model.specs.Chains.{page_reply, LastCookie}
 use Rattle.client_shelf.specs.Busy.{is_busy}
@@ -8,22 +8,22 @@ use Rattle.nfs_dir_calls.specs.declared.keeping.DirKept.TheVariants as kept
 use Rattle.nfs_dir_calls.specs.declared.plus_page.PlusRow.{PlusRow}
 use Rattle.dir_list.specs.declared.progress.ListFault.{ListFault}
 use Rattle.dir_list.specs.declared.progress.ListFault.TheVariants as list_faults
-use Rattle.dir_list.specs.declared.progress.Step.{Step}
-use Rattle.dir_list.specs.declared.progress.Step.TheVariants.{More, End}
+use Rattle.dir_list.specs.declared.progress.ListStep.{ListStep}
+use Rattle.dir_list.specs.declared.progress.ListStep.TheVariants.{More, End}
 use Rattle.dir_list.specs.Listings.{counted, page_step, last_cookie, listing_limit}
 use Rattle.world_model.specs.declared.answer.Answer.TheVariants as answers
 use Rattle.world_model.specs.declared.message.Reply.TheVariants as replies
 use Rattle.world_model.specs.declared.op.Op.TheVariants as ops
 use Rattle.claims.specs.CallCounts.{IsPageBefore}
-use Rattle.client_shelf.specs.declared.next.Next.TheVariants as nexts
-use Rattle.name_ops.specs.declared.visit.VisitNext.TheVariants as visits
-use Rattle.name_ops.specs.declared.walk.WalkNext.TheVariants as walks
+use Rattle.client_shelf.specs.declared.step.Step.TheVariants as nexts
+use Rattle.name_ops.specs.declared.visit.VisitStep.TheVariants as visits
+use Rattle.name_ops.specs.declared.walk.WalkStep.TheVariants as walks
 use Rattle.name_ops.specs.ListDir as listing
 use Rattle.name_ops.specs.Visiting as visiting
 use Rattle.name_ops.specs.Walking as walking
 use Rattle.op_machines.specs.declared.machine.Machine.TheVariants as machines
 use Rattle.op_machines.specs.declared.name_machine.NameMachine.TheVariants as names
-use Rattle.core_facts.proofs.Awaited.{OwnOr, WalkStep, go-step, took-step}
+use Rattle.core_facts.proofs.Awaited.{OwnOr, WalkMoves, go-step, took-step}
 use Rattle.core_counts.proofs.counts.engine.Laws.{ToldNow, Came, told, unmade, Spends, nothing, one, Took, again, on, CountLaws}
 
 -- ---- the table of calls that are made again
@@ -90,7 +90,7 @@ is-more before [] verf true cookie with_ is = absurd (cc)
 is-more before [] verf false cookie with_ is = absurd (cc)
 is-more before (row ∷ rows) verf eof cookie with_ is = by (nat_lt listing_limit (length before + length (counted (row ∷ rows)))) eof is
   where
-    by : (b e : Bool) → ◌≡◌ {A = Result Step ListFault} (if b then Err list_faults.Many else if e then Ok End else Ok (More (last_cookie row rows) verf)) (Ok (More cookie with_))
+    by : (b e : Bool) → ◌≡◌ {A = Result ListStep ListFault} (if b then Err list_faults.Many else if e then Ok End else Ok (More (last_cookie row rows) verf)) (Ok (More cookie with_))
         → IsMore (row ∷ rows) verf e cookie with_
     by true e same = absurd (cc)
     by false true same = absurd (cc)
@@ -148,11 +148,11 @@ module _ (m : Mounted) (d : List ℕ) (cookie : ℕ) (verf : Verf) (test : Call 
     pub stage : k.visit.asked ≡ false → Stage k n
 
   module _ (h : List Entry) (x : ℕ) (op : Op) where
-    abbrev Spent : ℕ → Next → Machine → Type 0
+    abbrev Spent : ℕ → Step → Machine → Type 0
     Spent had next new = Spends IsIt ListLeft h x op had next new
 
-    spent-as : (had : ℕ) (to next : Next) (make new : Machine) → next ≡ to → new ≡ make → Spent had to make → Spent had next new
-    spent-as had to next make new is_next is_new s = subst (λ (n : Next). Spent had n new) (sym is_next) (subst (Spent had to) (sym is_new) s)
+    spent-as : (had : ℕ) (to next : Step) (make new : Machine) → next ≡ to → new ≡ make → Spent had to make → Spent had next new
+    spent-as had to next make new is_next is_new s = subst (λ (n : Step). Spent had n new) (sym is_next) (subst (Spent had to) (sym is_new) s)
 
     -- with the walk where it was
     stage-same : (k : ListDir) (visit : Visit) (n : ℕ) → (walking.next_name k.visit.walk ≡ None → visit.walk ≡ k.visit.walk) → Stage k n → Stage (record k { visit = visit }) n
@@ -168,7 +168,7 @@ module _ (m : Mounted) (d : List ℕ) (cookie : ℕ) (verf : Verf) (test : Call 
         same-cookie a b c e v w same = cc
 
     -- the walk comes to a step
-    follow-left : (step : WalkNext) (room : Bool) (k : ListDir) (v : Visit) (n : ℕ) → v.asked ≡ false → WalkStep step v.walk → ((call : Call) → step ≡ walks.Send call → IsIt call → ⊥)
+    follow-left : (step : WalkStep) (room : Bool) (k : ListDir) (v : Visit) (n : ℕ) → v.asked ≡ false → WalkMoves step v.walk → ((call : Call) → step ≡ walks.Send call → IsIt call → ⊥)
         → Stage (record k { visit = v }) n
         → Spent n (visiting.next_by (listing.page_call k.place) (visiting.follow_next step room)) (machines.Name (names.List (record k { visit = visiting.follow_after step room v })))
     follow-left (walks.Send call) room k v n idle s looks stage = record {
@@ -241,7 +241,7 @@ module _ (m : Mounted) (d : List ℕ) (cookie : ℕ) (verf : Verf) (test : Call 
 
     -- ---- a step at what came
 
-    abbrev Taken : ℕ → Turn → Turn → Result Reply Fault → List Repeat → Next → Machine → List Repeat → Type 0
+    abbrev Taken : ℕ → Turn → Turn → Result Reply Fault → List Repeat → Step → Machine → List Repeat → Type 0
     Taken had sent turn came old next new later = Took IsIt Before ListLeft h x op had sent turn came old next new later
 
     still : (k : ListDir) (n had : ℕ) → (k.visit.asked ≡ true → walking.next_name k.visit.walk ≡ None) → (k.visit.asked ≡ false → Stage k n) → ListLeft h x op (machines.Name (names.List k)) n
@@ -259,10 +259,10 @@ module _ (m : Mounted) (d : List ℕ) (cookie : ℕ) (verf : Verf) (test : Call 
     followed-repeats false w (Err fault) turn s = refl
 
     -- a reply to the LOOKUP of a name
-    walk-takes : (k : ListDir) (n : ℕ) (name : Option (List ℕ)) (sent turn : Turn) (came : Result Reply Fault) (old : Shelf) (step : WalkNext) (walked : Visit) (next : Next) (visit : Visit) (after : Shelf)
+    walk-takes : (k : ListDir) (n : ℕ) (name : Option (List ℕ)) (sent turn : Turn) (came : Result Reply Fault) (old : Shelf) (step : WalkStep) (walked : Visit) (next : Step) (visit : Visit) (after : Shelf)
         → k.visit.asked ≡ false → Stage k n → 1 ≤ of_name name → walking.waiting_name k.visit.walk ≡ name → walking.Takes name k.visit.walk sent turn came old step walked.walk after
         → walked ≡ record k.visit { walk = walked.walk } → next ≡ visiting.next_by (listing.page_call k.place) (visiting.follow_next step turn.room) → visit ≡ visiting.follow_after step turn.room walked
-        → WalkStep step walked.walk
+        → WalkMoves step walked.walk
         → Taken n sent turn came old.repeats next (machines.Name (names.List (record k { visit = visit }))) after.repeats
     walk-takes k n None sent turn came old step walked next visit after idle stage some is t walked_is next_is visit_is s = absurd (omega (arith, some))
     walk-takes k n (Some name) sent turn came old step walked next visit after idle stage some is t walked_is next_is visit_is s = by (look_again sent turn came old) refl
@@ -302,7 +302,7 @@ module _ (m : Mounted) (d : List ℕ) (cookie : ℕ) (verf : Verf) (test : Call 
             step_is = t.next_is ∙ ap (λ (c : Bool). walking.followed_next c k.visit.walk name (found_by came) turn t.heard) busy
 
             visit_at : visit ≡ walked
-            visit_at = visit_is ∙ ap (λ (w : WalkNext). visiting.follow_after w turn.room walked) step_is
+            visit_at = visit_is ∙ ap (λ (w : WalkStep). visiting.follow_after w turn.room walked) step_is
         by false calm =
             on (table-again false (fails_busy (found_by came)) sent turn old.repeats after.repeats calm table) 0 (nothing refl)
             (subst (λ (c : ℕ). Spent c next (machines.Name (names.List (record k { visit = visit })))) plus_none
@@ -323,7 +323,7 @@ module _ (m : Mounted) (d : List ℕ) (cookie : ℕ) (verf : Verf) (test : Call 
             looks call same p = not-look call (told-looks k.visit.walk (found_by came) turn t.heard call (sym step_is ∙ same)) p
 
     -- the page that came leads to the next one
-    more-takes : (k : ListDir) (n : ℕ) (sent turn : Turn) (came : Result Reply Fault) (old : Shelf) (page_rows : List PlusRow) (page_verf : Verf) (eof : Bool) (its : ℕ) (with_ : Verf) (room : Bool) (next : Next) (new : ListDir) (later : List Repeat)
+    more-takes : (k : ListDir) (n : ℕ) (sent turn : Turn) (came : Result Reply Fault) (old : Shelf) (page_rows : List PlusRow) (page_verf : Verf) (eof : Bool) (its : ℕ) (with_ : Verf) (room : Bool) (next : Step) (new : ListDir) (later : List Repeat)
         → later ≡ ended sent.xid old.repeats → (call : Call) (xid : ℕ) (rec : List ℕ) → ToldNow h x call xid rec → Says xid call rec came → call ≡ listing.page_call k.place k.visit.walk.spot.dir
         → IsPage came page_verf page_rows eof → IsMore page_rows page_verf eof its with_ → walking.next_name k.visit.walk ≡ None
         → next ≡ listing.more_next (record { cookie = its; verf = with_ }) room (record k { listing = k.listing ++ counted page_rows }) → new ≡ listing.more_after (record { cookie = its; verf = with_ }) room (record k { listing = k.listing ++ counted page_rows })
@@ -393,8 +393,8 @@ module _ (m : Mounted) (d : List ℕ) (cookie : ℕ) (verf : Verf) (test : Call 
             on table 0 (nothing refl) (spends (n + 0) (λ it. absurd (let no_way : true ≡ false = sym (complete (list_call k.visit.walk.spot.dir its with_) it) ∙ none in cc)))
 
     -- the operation ends
-    ends : (n : ℕ) (answer : _) (next : Next) (new : Machine) → next ≡ nexts.Done answer → Spent n next new
-    ends n answer next new is = subst (λ (o : Next). Spent n o new) (sym is) (record { left = n; keeps = tt; less = omega arith; asks = λ c same p. absurd (no-send c same) })
+    ends : (n : ℕ) (answer : _) (next : Step) (new : Machine) → next ≡ nexts.Done answer → Spent n next new
+    ends n answer next new is = subst (λ (o : Step). Spent n o new) (sym is) (record { left = n; keeps = tt; less = omega arith; asks = λ c same p. absurd (no-send c same) })
       where
         no-send : (c : Call) → nexts.Done answer ≡ nexts.Send c → ⊥
         no-send c e = cc
@@ -405,7 +405,7 @@ module _ (m : Mounted) (d : List ℕ) (cookie : ℕ) (verf : Verf) (test : Call 
     err-ok : {A : Type 0} → (R : Type 0) (fault : Fault) (heard : A) → ◌≡◌ {A = Result A Fault} (Err fault) (Ok heard) → R
     err-ok R fault heard e = absurd (cc)
 
-    page-takes : (k : ListDir) (n : ℕ) (sent turn : Turn) (came : Result Reply Fault) (old : Shelf) (told_page : Result _ Fault) (next : Next) (new : ListDir) (later : List Repeat)
+    page-takes : (k : ListDir) (n : ℕ) (sent turn : Turn) (came : Result Reply Fault) (old : Shelf) (told_page : Result _ Fault) (next : Step) (new : ListDir) (later : List Repeat)
         → listing.page_heard came ≡ told_page → later ≡ repeats_after (fails_busy told_page) sent turn old.repeats → k.visit.asked ≡ true → walking.next_name k.visit.walk ≡ None
         → ((heard : _) → told_page ≡ Ok heard → (call : Call) × (xid : ℕ) × (rec : List ℕ) × ToldNow h x call xid rec × Says xid call rec came × (call ≡ listing.page_call k.place k.visit.walk.spot.dir))
         → listing.Follows told_page (goes_again (fails_busy told_page) sent turn old.repeats) turn.room k next new
@@ -424,7 +424,7 @@ module _ (m : Mounted) (d : List ℕ) (cookie : ℕ) (verf : Verf) (test : Call 
         on (calm-table sent turn old.repeats later table) 0 (nothing refl) (ends (n + 0) _ next (machines.Name (names.List new)) f.0)
     page-takes k n sent turn came old (Ok heard) next new later is table asked done now (inr f) = by (page_step k.listing heard.page heard.verf heard.eof) refl f
       where
-        by : (step : Result Step ListFault) → page_step k.listing heard.page heard.verf heard.eof ≡ step → listing.TakesStep step heard turn.room k next new
+        by : (step : Result ListStep ListFault) → page_step k.listing heard.page heard.verf heard.eof ≡ step → listing.TakesStep step heard turn.room k next new
             → Taken n sent turn came old.repeats next (machines.Name (names.List new)) later
         by (Ok (More its with_)) same t =
             let w = now heard refl in
@@ -433,7 +433,7 @@ module _ (m : Mounted) (d : List ℕ) (cookie : ℕ) (verf : Verf) (test : Call 
         by (Ok End) same t = on (calm-table sent turn old.repeats later table) 0 (nothing refl) (ends (n + 0) _ next (machines.Name (names.List new)) t.next_is)
         by (Err fault) same t = on (calm-table sent turn old.repeats later table) 0 (nothing refl) (ends (n + 0) _ next (machines.Name (names.List new)) t.0)
 
-    takes-list : (asked : Bool) (k : ListDir) (n : ℕ) (sent turn : Turn) (came : Result Reply Fault) (old : Shelf) (next : Next) (new : ListDir) (after : Shelf) (others : ℕ) → k.visit.asked ≡ asked
+    takes-list : (asked : Bool) (k : ListDir) (n : ℕ) (sent turn : Turn) (came : Result Reply Fault) (old : Shelf) (next : Step) (new : ListDir) (after : Shelf) (others : ℕ) → k.visit.asked ≡ asked
         → (k.visit.asked ≡ true → walking.next_name k.visit.walk ≡ None) → (k.visit.asked ≡ false → Stage k n) → in_flight (machines.Name (names.List k)) ≡ others + 1
         → Came h x (machines.Name (names.List k)) sent came old → listing.TakesList asked k sent turn came old next new after
         → Taken n sent turn came old.repeats next (machines.Name (names.List new)) after.repeats
@@ -468,7 +468,7 @@ module _ (m : Mounted) (d : List ℕ) (cookie : ℕ) (verf : Verf) (test : Call 
     grows = λ h e x op machine left l. record { k = l.k; is = l.is; waits = l.waits; stage = l.stage };
   }
     where
-      starts : (h : List Entry) (lane line : ℕ) (op : Op) (wsize : ℕ) (turn : Turn) (old : Shelf) (next : Next) (new : Machine) (after : Shelf) → IsList op
+      starts : (h : List Entry) (lane line : ℕ) (op : Op) (wsize : ℕ) (turn : Turn) (old : Shelf) (next : Step) (new : Machine) (after : Shelf) → IsList op
           → Starts wsize (machine_of m lane op) turn old next new after → Spends IsIt ListLeft (h ++ Began lane line op ∷ []) (length h) op (from_zero op) next new
       starts h lane line op wsize turn old next new after (list path is) s =
           let g = subst (λ (o : Op). Starts wsize (machine_of m lane o) turn old next new after) is s in
@@ -481,7 +481,7 @@ module _ (m : Mounted) (d : List ℕ) (cookie : ℕ) (verf : Verf) (test : Call 
           at-zero : cookie ≡ 0 → 1 ≤ from_zero op
           at-zero zero_cookie = subst (λ (n : ℕ). 1 ≤ (if nat_eq n 0 then 1 else 0)) (sym zero_cookie) (omega arith)
 
-      resumes : (h : List Entry) (x : ℕ) (op : Op) (machine : Machine) (wsize : ℕ) (turn : Turn) (old : Shelf) (next : Next) (new : Machine) (after : Shelf) (had : ℕ)
+      resumes : (h : List Entry) (x : ℕ) (op : Op) (machine : Machine) (wsize : ℕ) (turn : Turn) (old : Shelf) (next : Step) (new : Machine) (after : Shelf) (had : ℕ)
           → ListLeft h x op machine had → Resumes wsize machine turn old next new after → Spends IsIt ListLeft h x op had next new
       resumes h x op machine wsize turn old next new after had l r =
           let g = subst (λ (n : Machine). Resumes wsize n turn old next new after) l.is r in
@@ -489,7 +489,7 @@ module _ (m : Mounted) (d : List ℕ) (cookie : ℕ) (verf : Verf) (test : Call 
           (machines.Name (names.List (record l.k { visit = visiting.visit_after l.k.visit turn old }))) new g.step.next_is (g.machine_is ∙ ap machines.Name g.step.machine_is)
           (goes h x op l.k turn old had l.waits l.stage)
 
-      takes : (h : List Entry) (x : ℕ) (op : Op) (machine : Machine) (wsize : ℕ) (sent turn : Turn) (came : Result Reply Fault) (old : Shelf) (next : Next) (new : Machine) (after : Shelf) (others had : ℕ)
+      takes : (h : List Entry) (x : ℕ) (op : Op) (machine : Machine) (wsize : ℕ) (sent turn : Turn) (came : Result Reply Fault) (old : Shelf) (next : Step) (new : Machine) (after : Shelf) (others had : ℕ)
           → ListLeft h x op machine had → in_flight machine ≡ others + 1 → Came h x machine sent came old → Takes wsize machine sent turn came old next new after
           → Took IsIt Before ListLeft h x op had sent turn came old.repeats next new after.repeats
       takes h x op machine wsize sent turn came old next new after others had l flight c t =

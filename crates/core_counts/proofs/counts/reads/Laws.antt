@@ -1,5 +1,5 @@
 -- A read asks for as many READs as the pages that meet its range take, and for one more after each short reply.
-use Rattle.core_counts.proofs.Prelude.{◌≡◌, ◌≢◌, ◌<◌, ◌≤◌, ◌⊎◌, inl, inr, ◌+◌, ◌-◌, ◌*◌, ℕ, Bool, true, false, List, [], ◌∷◌, ◌++◌, length, Option, Some, None, Result, Ok, Err, refl, sym, ap, subst, ◌∙◌, arith, Attr, Mode, Opened, same-or, IsReadOf, Answer, Fault, Entry, Began, Call, Reply, Op, Says, ended, Next, Repeat, Shelf, Turn, ReadFile, Phase, Reading, place_after, Mounted, Machine, machine_of, Starts, Resumes, Takes, of_phase, of_reading, in_flight, Going, PhaseNames, ReadNames, PhaseAt, ReadAt, Calls}
+use Rattle.core_counts.proofs.Prelude.{◌≡◌, ◌≢◌, ◌<◌, ◌≤◌, ◌⊎◌, inl, inr, ◌+◌, ◌-◌, ◌*◌, ℕ, Bool, true, false, List, [], ◌∷◌, ◌++◌, length, Option, Some, None, Result, Ok, Err, refl, sym, ap, subst, ◌∙◌, arith, Attr, Mode, Opened, same-or, IsReadOf, Answer, Fault, Entry, Began, Call, Reply, Op, Says, ended, Step, Repeat, Shelf, Turn, ReadFile, Phase, Reading, place_after, Mounted, Machine, machine_of, Starts, Resumes, Takes, of_phase, of_reading, in_flight, Going, PhaseNames, ReadNames, PhaseAt, ReadAt, Calls}
 use Rattle.std.proofs.Common.{if◌then◌else◌}
 use Rattle.claims.specs.CallCounts.{IsShortRead}
 use Rattle.file_ops.specs.Base.{nothing_of}
@@ -13,7 +13,7 @@ use Rattle.world_model.specs.declared.answer.Fault.TheVariants as faults
 use Rattle.world_model.specs.declared.message.Call.TheVariants as calls
 use Rattle.world_model.specs.declared.message.Reply.TheVariants as replies
 use Rattle.world_model.specs.declared.op.Op.TheVariants as ops
-use Rattle.client_shelf.specs.declared.next.Next.TheVariants as nexts
+use Rattle.client_shelf.specs.declared.step.Step.TheVariants as nexts
 use Rattle.file_ops.specs.declared.reading.Phase.TheVariants as phases
 use Rattle.file_ops.specs.ReadFile as reads
 use Rattle.file_ops.specs.Reading as reading
@@ -28,15 +28,15 @@ use Rattle.core_counts.proofs.counts.reads.Takes as steps
 abbrev pub IsRead : Op → Type 0
 IsRead op = (slot : ℕ) × (offset : ℕ) × (count : ℕ) × (op ≡ ops.Read slot offset count)
 
-going : (next : Next) (P : Type 0) → P → Going next P
+going : (next : Step) (P : Type 0) → P → Going next P
 going (nexts.Send call) P p = p
 going nexts.Wait P p = p
 going (nexts.Done answer) P p = tt
 
-done-going : (next : Next) (answer : Answer) (P : Type 0) → next ≡ nexts.Done answer → Going next P
-done-going next answer P is = subst (λ (n : Next). Going n P) (sym is) tt
+done-going : (next : Step) (answer : Answer) (P : Type 0) → next ≡ nexts.Done answer → Going next P
+done-going next answer P is = subst (λ (n : Step). Going n P) (sym is) tt
 
-done-not : (next : Next) (answer : Answer) (call : Call) → next ≡ nexts.Done answer → next ≡ nexts.Send call → ⊥
+done-not : (next : Step) (answer : Answer) (call : Call) → next ≡ nexts.Done answer → next ≡ nexts.Send call → ⊥
 done-not next answer call is sends = absurd (let no_way : nexts.Done answer ≡ nexts.Send call = sym is ∙ sends in cc)
 
 waits-is : (p : Phase) → steps.waits p ≡ of_phase p
@@ -57,7 +57,7 @@ module _ (m : Mounted) (some : 1 ≤ m.rsize) (f : List ℕ) where
   abbrev level : List ℕ → ℕ → ℕ → Reading → ℕ
   level g offset count r = steps.level-of g offset count m.rsize m.noac some r
 
-  abbrev SpentSo : List ℕ → ℕ → ℕ → ℕ → Next → Reading → Type 0
+  abbrev SpentSo : List ℕ → ℕ → ℕ → ℕ → Step → Reading → Type 0
   SpentSo g offset count had next r = steps.Spends g offset count m.rsize m.noac some had next r
 
   -- how many READs of the file a read that has begun may still ask for
@@ -83,7 +83,7 @@ module _ (m : Mounted) (some : 1 ≤ m.rsize) (f : List ℕ) where
   abbrev pub base : Op → ℕ
   base op = pages_met op * reads_a_page m.rsize
 
-  abbrev SpendsNow : List Entry → ℕ → Op → ℕ → Next → Machine → Type 0
+  abbrev SpendsNow : List Entry → ℕ → Op → ℕ → Step → Machine → Type 0
   SpendsNow h x op had next new = Spends (IsReadOf f) Left h x op had next new
 
   in-as : (offset count left : ℕ) (to new : Option Reading) → new ≡ to → LeftIn offset count to left → LeftIn offset count new left
@@ -91,7 +91,7 @@ module _ (m : Mounted) (some : 1 ≤ m.rsize) (f : List ℕ) where
 
   -- ---- what a step leaves
 
-  spends : (h : List Entry) (x : ℕ) (op : Op) (had : ℕ) (next : Next) (new : Machine) (slot offset count : ℕ) → op ≡ ops.Read slot offset count → (of : ReadFile) → new ≡ machines.File (files.Read of)
+  spends : (h : List Entry) (x : ℕ) (op : Op) (had : ℕ) (next : Step) (new : Machine) (slot offset count : ℕ) → op ≡ ops.Read slot offset count → (of : ReadFile) → new ≡ machines.File (files.Read of)
       → (r : Reading) → of.reading ≡ Some r → (g : List ℕ) → At g offset count r → (most : ℕ) → SpentSo g offset count most next r → (g ≡ f → most ≤ had) → SpendsNow h x op had next new
   spends h x op had next new slot offset count op_is of is r begun g at most sp fits = by (same-or f g)
     where
@@ -125,7 +125,7 @@ module _ (m : Mounted) (some : 1 ≤ m.rsize) (f : List ℕ) where
         asks = λ call sends p. absurd (apart (sp.mine f call sends p));
       }
 
-  ends-spends : (h : List Entry) (x : ℕ) (op : Op) (had : ℕ) (next : Next) (new : Machine) (answer : Answer) → next ≡ nexts.Done answer → SpendsNow h x op had next new
+  ends-spends : (h : List Entry) (x : ℕ) (op : Op) (had : ℕ) (next : Step) (new : Machine) (answer : Answer) → next ≡ nexts.Done answer → SpendsNow h x op had next new
   ends-spends h x op had next new answer is = record {
     left = had;
     keeps = done-going next answer (Left h x op new had) is;
@@ -133,7 +133,7 @@ module _ (m : Mounted) (some : 1 ≤ m.rsize) (f : List ℕ) where
     asks = λ call sends p. absurd (done-not next answer call is sends);
   }
 
-  waits-spends : (h : List Entry) (x : ℕ) (op : Op) (had : ℕ) (next : Next) (new : Machine) → next ≡ nexts.Wait → Left h x op new had → SpendsNow h x op had next new
+  waits-spends : (h : List Entry) (x : ℕ) (op : Op) (had : ℕ) (next : Step) (new : Machine) → next ≡ nexts.Wait → Left h x op new had → SpendsNow h x op had next new
   waits-spends h x op had next new is k = record {
     left = had;
     keeps = going next (Left h x op new had) k;
@@ -143,7 +143,7 @@ module _ (m : Mounted) (some : 1 ≤ m.rsize) (f : List ℕ) where
 
   -- ---- it begins
 
-  module _ (h : List Entry) (lane line slot offset count wsize : ℕ) (turn : Turn) (old : Shelf) (next : Next) (new : Machine) (after : Shelf) where
+  module _ (h : List Entry) (lane line slot offset count wsize : ℕ) (turn : Turn) (old : Shelf) (next : Step) (new : Machine) (after : Shelf) where
     abbrev own : ReadFile
     own = record { lane = lane; slot = slot; offset = offset; count = count; rsize = m.rsize; noac = m.noac; reading = None }
 
@@ -206,7 +206,7 @@ module _ (m : Mounted) (some : 1 ≤ m.rsize) (f : List ℕ) where
 
   -- ---- it goes on
 
-  resumes-so : (h : List Entry) (x : ℕ) (op : Op) (wsize : ℕ) (turn : Turn) (old : Shelf) (next : Next) (new : Machine) (after : Shelf) (had slot offset count : ℕ)
+  resumes-so : (h : List Entry) (x : ℕ) (op : Op) (wsize : ℕ) (turn : Turn) (old : Shelf) (next : Step) (new : Machine) (after : Shelf) (had slot offset count : ℕ)
       → op ≡ ops.Read slot offset count → (k : ReadFile) (to : ReadFile) → new ≡ machines.File (files.Read to) → (o : Option Reading) → k.reading ≡ o → LeftIn offset count o had
       → reads.ResumesIn o turn.room k old.pages old.back next to after.pages → SpendsNow h x op had next new
   resumes-so h x op wsize turn old next new after had slot offset count op_is k to is None none left s =
@@ -226,7 +226,7 @@ module _ (m : Mounted) (some : 1 ≤ m.rsize) (f : List ℕ) where
 
   -- ---- what came
 
-  abbrev TookNow : List Entry → ℕ → Op → ℕ → Turn → Turn → Result Reply Fault → List Repeat → Next → Machine → List Repeat → Type 0
+  abbrev TookNow : List Entry → ℕ → Op → ℕ → Turn → Turn → Result Reply Fault → List Repeat → Step → Machine → List Repeat → Type 0
   TookNow h x op had sent turn came old next new later = Took (IsReadOf f) (IsShortRead f) Left h x op had sent turn came old next new later
 
   own-names : (machine : Machine) (k : ReadFile) (call : Call) → machine ≡ machines.File (files.Read k) → Calls machine call → ReadNames k.reading call
@@ -235,7 +235,7 @@ module _ (m : Mounted) (some : 1 ≤ m.rsize) (f : List ℕ) where
   ok-err : (R : Type 0) (reply : Reply) (fault : Fault) → ◌≡◌ {A = Result Reply Fault} (Ok reply) (Err fault) → R
   ok-err R reply fault e = absurd (cc)
 
-  module _ (h : List Entry) (x : ℕ) (op : Op) (machine : Machine) (sent turn : Turn) (came : Result Reply Fault) (old : Shelf) (next : Next) (new : Machine) (later : List Repeat) (had slot offset count : ℕ)
+  module _ (h : List Entry) (x : ℕ) (op : Op) (machine : Machine) (sent turn : Turn) (came : Result Reply Fault) (old : Shelf) (next : Step) (new : Machine) (later : List Repeat) (had slot offset count : ℕ)
       (op_is : op ≡ ops.Read slot offset count) (k to : ReadFile) (was : machine ≡ machines.File (files.Read k)) (is : new ≡ machines.File (files.Read to)) (r now : Reading)
       (begun : k.reading ≡ Some r) (goes : to.reading ≡ Some now) (left : LeftTo offset count r had) (c : Came h x machine sent came old) where
     plain : later ≡ ended sent.xid old.repeats → SpendsNow h x op had next new → TookNow h x op had sent turn came old.repeats next new later
@@ -283,7 +283,7 @@ module _ (m : Mounted) (some : 1 ≤ m.rsize) (f : List ℕ) where
         by (inr apart) =
             plain table (spends h x op had next new slot offset count op_is to is now goes left.g at (level left.g offset count r + 1) sp (λ e. absurd (apart e)))
 
-  takes-in : (h : List Entry) (x : ℕ) (op : Op) (machine : Machine) (sent turn : Turn) (came : Result Reply Fault) (old : Shelf) (next : Next) (new : Machine) (after : Shelf) (others had slot offset count : ℕ)
+  takes-in : (h : List Entry) (x : ℕ) (op : Op) (machine : Machine) (sent turn : Turn) (came : Result Reply Fault) (old : Shelf) (next : Step) (new : Machine) (after : Shelf) (others had slot offset count : ℕ)
       → op ≡ ops.Read slot offset count → (k to : ReadFile) → machine ≡ machines.File (files.Read k) → new ≡ machines.File (files.Read to) → Came h x machine sent came old → (o : Option Reading)
       → k.reading ≡ o → of_reading o ≡ others + 1 → LeftIn offset count o had → after.repeats ≡ reads.repeats_heard o sent turn came old.repeats
       → reads.TakesIn o sent turn came old.repeats k old.pages old.back next to after.pages → TookNow h x op had sent turn came old.repeats next new after.repeats
@@ -293,7 +293,7 @@ module _ (m : Mounted) (some : 1 ≤ m.rsize) (f : List ℕ) where
       (steps.reading-took left.g offset count m.rsize m.noac some r.phase others came sent turn old.repeats after.repeats r old.pages old.back next t.state refl left.at left.stops
       (let waits = waits-is r.phase in omega (arith, count_is, waits)) table t.step)
 
-  takes-so : (h : List Entry) (x : ℕ) (op : Op) (machine : Machine) (wsize : ℕ) (sent turn : Turn) (came : Result Reply Fault) (old : Shelf) (next : Next) (new : Machine) (after : Shelf) (others had : ℕ)
+  takes-so : (h : List Entry) (x : ℕ) (op : Op) (machine : Machine) (wsize : ℕ) (sent turn : Turn) (came : Result Reply Fault) (old : Shelf) (next : Step) (new : Machine) (after : Shelf) (others had : ℕ)
       → Left h x op machine had → in_flight machine ≡ others + 1 → Came h x machine sent came old → Takes wsize machine sent turn came old next new after
       → TookNow h x op had sent turn came old.repeats next new after.repeats
   takes-so h x op machine wsize sent turn came old next new after others had left count_is c t =

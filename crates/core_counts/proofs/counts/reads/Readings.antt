@@ -1,5 +1,5 @@
 -- A read, step by step: how many READs it may still ask for, if each of those that it waits for is answered with all the bytes that it asks for.
-use Rattle.core_counts.proofs.Prelude.{◌≡◌, ◌<◌, ◌≤◌, ◌⊎◌, inl, inr, ◌+◌, ◌-◌, ◌*◌, ◌/◌, ◌%◌, ◌==◌, ◌&&◌, ◌||◌, not, ℕ, zero, suc, Bool, true, false, List, length, take, Option, Some, None, refl, sym, ap, subst, ◌∙◌, arith, if◌then◌else◌, nat_lt, cases_lt, eqb-true, length-take, start_of, Pages, known_of, after_page, Pending, IsReadOf, Call, Next, Found, Phase, Reading, Bytes, place_after, with_more, next_page, PhaseAt, ReadAt}
+use Rattle.core_counts.proofs.Prelude.{◌≡◌, ◌<◌, ◌≤◌, ◌⊎◌, inl, inr, ◌+◌, ◌-◌, ◌*◌, ◌/◌, ◌%◌, ◌==◌, ◌&&◌, ◌||◌, not, ℕ, zero, suc, Bool, true, false, List, length, take, Option, Some, None, refl, sym, ap, subst, ◌∙◌, arith, if◌then◌else◌, nat_lt, cases_lt, eqb-true, length-take, start_of, Pages, known_of, after_page, Pending, IsReadOf, Call, Step, Found, Phase, Reading, Bytes, place_after, with_more, next_page, PhaseAt, ReadAt}
 use Rattle.std.proofs.Common.{is_some}
 use Rattle.std.specs.Prelude.{nat_le}
 use Rattle.std.proofs.lemmas.List.{length-append}
@@ -11,7 +11,7 @@ use Rattle.std.specs.Int.{div_ceil}
 use Rattle.page_cache.specs.Pages.{page_of as page_in}
 use Rattle.claims.specs.Pages.{page_of, page_from, pages_met}
 use Rattle.world_model.specs.declared.op.Op.TheVariants as ops
-use Rattle.client_shelf.specs.declared.next.Next.TheVariants as nexts
+use Rattle.client_shelf.specs.declared.step.Step.TheVariants as nexts
 use Rattle.file_ops.specs.declared.gather.Found.TheVariants as found
 use Rattle.file_ops.specs.declared.reading.Phase.TheVariants as phases
 use Rattle.file_ops.specs.Reading as reading
@@ -214,7 +214,7 @@ module _ (g : List ℕ) (offset count rsize : ℕ) (noac : Bool) (one : 1 ≤ rs
   -- ---- a call
 
   -- after a step: what is left of what was, and of a READ one less
-  pub record Spent (had : ℕ) (next : Next) (new : Reading) : Type 0 where
+  pub record Spent (had : ℕ) (next : Step) (new : Reading) : Type 0 where
     pub less : level new ≤ had
     pub stops : Stops new
     pub mine : (f : List ℕ) (call : Call) → next ≡ nexts.Send call → IsReadOf f call → g ≡ f
@@ -267,7 +267,7 @@ module _ (g : List ℕ) (offset count rsize : ℕ) (noac : Bool) (one : 1 ≤ rs
 
   -- ---- none
 
-  stays-none : (p : Phase) (r : Reading) (back : Pending) (next : Next) (call : Call) → reading.Stays p r back next → next ≡ nexts.Send call → ⊥
+  stays-none : (p : Phase) (r : Reading) (back : Pending) (next : Step) (call : Call) → reading.Stays p r back next → next ≡ nexts.Send call → ⊥
   stays-none phases.Attrs r back next call s is = absurd (let no_way : nexts.Wait ≡ nexts.Send call = sym s ∙ is in cc)
   stays-none phases.AskedAttrs r back next call s is = absurd (let no_way : nexts.Wait ≡ nexts.Send call = sym s ∙ is in cc)
   stays-none phases.Pages r back next call s is = absurd (let no_way : nexts.Wait ≡ nexts.Send call = sym s ∙ is in cc)
@@ -290,7 +290,7 @@ module _ (g : List ℕ) (offset count rsize : ℕ) (noac : Bool) (one : 1 ≤ rs
   same-call : (a b : Call) → nexts.Send a ≡ nexts.Send b → a ≡ b
   same-call a b e = cc
 
-  pub goes-spent : (room : Bool) (back : Pending) (s : reading.State) (next : Next) → CanGo s → Stops s.reading → reading.Goes room back s next → Spent (level s.reading) next (reading.gone room s).reading
+  pub goes-spent : (room : Bool) (back : Pending) (s : reading.State) (next : Step) → CanGo s → Stops s.reading → reading.Goes room back s next → Spent (level s.reading) next (reading.gone room s).reading
   goes-spent room back s next k stops goes = by (reading.asks room s) refl goes
     where
       by : (b : Bool) → reading.asks room s ≡ b → reading.GoesIf b back s next

@@ -1,5 +1,5 @@
 -- What a step of a read leaves of the READs that it may still ask for: its first one, one without a reply, and one with what came of its call.
-use Rattle.core_counts.proofs.Prelude.{◌≡◌, ◌<◌, ◌≤◌, ◌⊎◌, inl, inr, ◌+◌, ◌*◌, ◌%◌, ◌==◌, ◌||◌, not, ℕ, Bool, true, false, List, length, Option, Some, None, Result, Ok, Err, refl, sym, ap, subst, ◌∙◌, arith, if◌then◌else◌, nat_lt, cases_lt, Attr, FileKept, Pages, Pending, Answer, Fault, Call, Reply, goes_again, fails_busy, repeats_after, ended, repeated, Next, Repeat, Turn, Phase, Reading, Bytes, place_after, with_more, part, refusal, said_to, said_by, breaks_rule, got_by, PhaseAt, ReadAt}
+use Rattle.core_counts.proofs.Prelude.{◌≡◌, ◌<◌, ◌≤◌, ◌⊎◌, inl, inr, ◌+◌, ◌*◌, ◌%◌, ◌==◌, ◌||◌, not, ℕ, Bool, true, false, List, length, Option, Some, None, Result, Ok, Err, refl, sym, ap, subst, ◌∙◌, arith, if◌then◌else◌, nat_lt, cases_lt, Attr, FileKept, Pages, Pending, Answer, Fault, Call, Reply, goes_again, fails_busy, repeats_after, ended, repeated, Step, Repeat, Turn, Phase, Reading, Bytes, place_after, with_more, part, refusal, said_to, said_by, breaks_rule, got_by, PhaseAt, ReadAt}
 use Rattle.client_shelf.specs.Busy.{is_busy}
 use Rattle.client_shelf.specs.Repeats.{answered}
 use Rattle.file_ops.specs.Base.{nothing_of}
@@ -12,7 +12,7 @@ use Rattle.world_model.specs.declared.answer.Answer.TheVariants as answers
 use Rattle.world_model.specs.declared.answer.Fault.TheVariants as faults
 use Rattle.world_model.specs.declared.message.Reply.TheVariants as replies
 use Rattle.world_model.specs.declared.op.Op.TheVariants as ops
-use Rattle.client_shelf.specs.declared.next.Next.TheVariants as nexts
+use Rattle.client_shelf.specs.declared.step.Step.TheVariants as nexts
 use Rattle.file_ops.specs.declared.reading.Phase.TheVariants as phases
 use Rattle.file_ops.specs.Reading as reading
 use Rattle.core_answers.proofs.asks.ReadRanges.{more-in, more-left}
@@ -61,24 +61,24 @@ module _ (g : List ℕ) (offset count rsize : ℕ) (noac : Bool) (one : 1 ≤ rs
   abbrev pub StopsAt : Reading → Type 0
   StopsAt r = Stops g offset count rsize noac one r
 
-  abbrev pub Spends : ℕ → Next → Reading → Type 0
+  abbrev pub Spends : ℕ → Step → Reading → Type 0
   Spends had next new = Spent g offset count rsize noac one had next new
 
   -- what a step at what came leaves
-  pub data Took (came : Result Reply Fault) (sent turn : Turn) (old later : List Repeat) (r : Reading) (next : Next) (new : Reading) : Type 0 where
+  pub data Took (came : Result Reply Fault) (sent turn : Turn) (old later : List Repeat) (r : Reading) (next : Step) (new : Reading) : Type 0 where
     again : later ≡ repeated sent.xid turn.xid old → new ≡ r → Took came sent turn old later r next new
     ends : later ≡ ended sent.xid old → (answer : Answer) → next ≡ nexts.Done answer → Took came sent turn old later r next new
     on : later ≡ ended sent.xid old → At new → Spends (level-of r) next new → Took came sent turn old later r next new
     short : later ≡ ended sent.xid old → At new → Spends (level-of r + 1) next new → (n : ℕ) (attr : Option Attr) (counted : ℕ) (bytes : List ℕ) → r.phase ≡ phases.Asked n
         → came ≡ Ok (replies.File (kept.Read attr counted false bytes)) → length bytes < n → Took came sent turn old later r next new
 
-  took-as : (came : Result Reply Fault) (sent turn : Turn) (old later : List Repeat) (r : Reading) (next : Next) (to new : Reading) → new ≡ to
+  took-as : (came : Result Reply Fault) (sent turn : Turn) (old later : List Repeat) (r : Reading) (next : Step) (to new : Reading) → new ≡ to
       → Took came sent turn old later r next to → Took came sent turn old later r next new
   took-as came sent turn old later r next to new is t = subst (Took came sent turn old later r next) (sym is) t
 
   -- ---- it goes on
 
-  spent-wide : (few many : ℕ) (next : Next) (new : Reading) → few ≤ many → Spends few next new → Spends many next new
+  spent-wide : (few many : ℕ) (next : Step) (new : Reading) → few ≤ many → Spends few next new → Spends many next new
   spent-wide few many next new le s = record {
     less = let l = s.less in omega (arith, l, le);
     stops = s.stops;
@@ -86,7 +86,7 @@ module _ (g : List ℕ) (offset count rsize : ℕ) (noac : Bool) (one : 1 ≤ rs
     asks = λ f call sends reads. let l = s.asks f call sends reads in omega (arith, l, le);
   }
 
-  from : (room : Bool) (back : Pending) (r : Reading) (pages : Pages) (next : Next) → At r → StopsAt r → reading.Goes room back (reading.settled r pages) next
+  from : (room : Bool) (back : Pending) (r : Reading) (pages : Pages) (next : Step) → At r → StopsAt r → reading.Goes room back (reading.settled r pages) next
       → At (reading.gone room (reading.settled r pages)).reading × Spends (level-of r) next (reading.gone room (reading.settled r pages)).reading
   from room back r pages next k stops goes =
       let s = settles g offset count rsize noac one r pages stops in
@@ -98,18 +98,18 @@ module _ (g : List ℕ) (offset count rsize : ℕ) (noac : Bool) (one : 1 ≤ rs
 
   -- ---- what came of the call for attributes
 
-  ends-now : (fault : Fault) (came : Result Reply Fault) (sent turn : Turn) (old later : List Repeat) (r : Reading) (next : Next) (new : Reading) → later ≡ ended sent.xid old
+  ends-now : (fault : Fault) (came : Result Reply Fault) (sent turn : Turn) (old later : List Repeat) (r : Reading) (next : Step) (new : Reading) → later ≡ ended sent.xid old
       → next ≡ reading.refused fault → Took came sent turn old later r next new
   ends-now fault came sent turn old later r next new table is = ends table (answers.Refused fault) is
 
   -- it is made again, or the read is refused
-  again-or : (busy b : Bool) (call : Call) (fault : Fault) (came : Result Reply Fault) (sent turn : Turn) (old later : List Repeat) (r : Reading) (next : Next) → goes_again busy sent turn old ≡ b
+  again-or : (busy b : Bool) (call : Call) (fault : Fault) (came : Result Reply Fault) (sent turn : Turn) (old later : List Repeat) (r : Reading) (next : Step) → goes_again busy sent turn old ≡ b
       → later ≡ repeats_after busy sent turn old → next ≡ reading.again_next b call fault → Took came sent turn old later r next r
   again-or busy true call fault came sent turn old later r next goes table is = again (table ∙ ap (λ (b : Bool). answered b sent.xid turn.xid old) goes) refl
   again-or busy false call fault came sent turn old later r next goes table is =
       ends-now fault came sent turn old later r next r (table ∙ ap (λ (b : Bool). answered b sent.xid turn.xid old) goes) is
 
-  opened : (result : Result (Unit {0}) memory.Memory) (came : Result Reply Fault) (sent turn : Turn) (old later : List Repeat) (r : Reading) (pages : Pages) (back : Pending) (next : Next)
+  opened : (result : Result (Unit {0}) memory.Memory) (came : Result Reply Fault) (sent turn : Turn) (old later : List Repeat) (r : Reading) (pages : Pages) (back : Pending) (next : Step)
       (new : reading.State) → r.phase ≡ phases.AskedAttrs → At r → later ≡ ended sent.xid old → reading.AfterOpened result turn r pages back next new → Took came sent turn old later r next new.reading
   opened (Ok done) came sent turn old later r pages back next new is k table a =
       let to : Reading = record r { phase = phases.Pages } in
@@ -119,7 +119,7 @@ module _ (g : List ℕ) (offset count rsize : ℕ) (noac : Bool) (one : 1 ≤ rs
       (on table moved.0 (spent-wide (level-of to) (level-of r) next (reading.gone turn.room (reading.settled to pages)).reading (omega (arith, same)) moved.1))
   opened (Err no_memory) came sent turn old later r pages back next new is k table a = ends-now faults.Memory came sent turn old later r next new.reading table a.0
 
-  attrs-took : (told : Result Attr Fault) (came : Result Reply Fault) (sent turn : Turn) (old later : List Repeat) (r : Reading) (pages : Pages) (back : Pending) (next : Next)
+  attrs-took : (told : Result Attr Fault) (came : Result Reply Fault) (sent turn : Turn) (old later : List Repeat) (r : Reading) (pages : Pages) (back : Pending) (next : Step)
       (new : reading.State) → r.phase ≡ phases.AskedAttrs → At r → later ≡ repeats_after (fails_busy told) sent turn old
       → reading.TakesAttrs (goes_again (fails_busy told) sent turn old) told sent turn r pages back next new → Took came sent turn old later r next new.reading
   attrs-took (Ok attr) came sent turn old later r pages back next new is k table t = opened t.result came sent turn old later r t.later back next new is k table t.goes
@@ -145,7 +145,7 @@ module _ (g : List ℕ) (offset count rsize : ℕ) (noac : Bool) (one : 1 ≤ rs
       by false = of (nat_lt (length bytes) n || not (place_after (with_more bytes r.base) % 4096 == 0)) refl
 
   gave-part : (n : ℕ) (attr : Option Attr) (counted : ℕ) (eof : Bool) (bytes : List ℕ) (came : Result Reply Fault) (sent turn : Turn) (old later : List Repeat) (r : Reading) (pages : Pages)
-      (back : Pending) (next : Next) → r.phase ≡ phases.Asked n → At r → StopsAt r → later ≡ ended sent.xid old → came ≡ Ok (replies.File (kept.Read attr counted eof bytes))
+      (back : Pending) (next : Step) → r.phase ≡ phases.Asked n → At r → StopsAt r → later ≡ ended sent.xid old → came ≡ Ok (replies.File (kept.Read attr counted eof bytes))
       → reading.Goes turn.room back (reading.settled (reading.added n eof bytes r) pages) next
       → Took came sent turn old later r next (reading.gone turn.room (reading.settled (reading.added n eof bytes r) pages)).reading
   gave-part n attr counted eof bytes came sent turn old later r pages back next is k stops table told goes = by eof refl (cases_lt (length bytes) n)
@@ -169,7 +169,7 @@ module _ (g : List ℕ) (offset count rsize : ℕ) (noac : Bool) (one : 1 ≤ rs
           short table moved.0 (spent-wide (level-of to) (level-of r + 1) next end (added-level g offset count rsize noac one n eof bytes r is k stops).most moved.1) n attr counted bytes is
           (told ∙ ap (λ (e : Bool). Ok (replies.File (kept.Read attr counted e bytes))) same) lt
 
-  said-took : (said : Said) (n : ℕ) (came : Result Reply Fault) (sent turn : Turn) (old later : List Repeat) (r : Reading) (pages : Pages) (back : Pending) (next : Next) → Told came said
+  said-took : (said : Said) (n : ℕ) (came : Result Reply Fault) (sent turn : Turn) (old later : List Repeat) (r : Reading) (pages : Pages) (back : Pending) (next : Step) → Told came said
       → r.phase ≡ phases.Asked n → At r → StopsAt r → later ≡ repeats_after (says_busy said) sent turn old
       → reading.Tells (goes_again (says_busy said) sent turn old) sent turn said r pages back next → Took came sent turn old later r next (reading.told sent turn said r pages).reading
   said-took said n came sent turn old later r pages back next (gives attr counted eof bytes told) is k stops table t =
@@ -180,7 +180,7 @@ module _ (g : List ℕ) (offset count rsize : ℕ) (noac : Bool) (one : 1 ≤ rs
   said-took said n came sent turn old later r pages back next (refuses attr fault) is k stops table t =
       again-or (is_busy fault) (goes_again (is_busy fault) sent turn old) (reading.part_call r) fault came sent turn old later r next refl table t
 
-  pub reading-took : (p : Phase) (others : ℕ) (came : Result Reply Fault) (sent turn : Turn) (old later : List Repeat) (r : Reading) (pages : Pages) (back : Pending) (next : Next) (new : reading.State)
+  pub reading-took : (p : Phase) (others : ℕ) (came : Result Reply Fault) (sent turn : Turn) (old later : List Repeat) (r : Reading) (pages : Pages) (back : Pending) (next : Step) (new : reading.State)
       → r.phase ≡ p → At r → StopsAt r → (1 ≤ waits p) → later ≡ reading.repeats_taken p sent turn came old → reading.TakesIf (reading.waits_attrs p) sent turn came old r pages back next new
       → Took came sent turn old later r next new.reading
   reading-took phases.AskedAttrs others came sent turn old later r pages back next new is k stops some table t =
@@ -205,7 +205,7 @@ module _ (g : List ℕ) (offset count rsize : ℕ) (noac : Bool) (one : 1 ≤ rs
 
   -- ---- the first step, and one without a reply
 
-  pub goes-on : (room : Bool) (back : Pending) (r : Reading) (pages : Pages) (next : Next) → At r → StopsAt r → reading.Goes room back (reading.settled r pages) next
+  pub goes-on : (room : Bool) (back : Pending) (r : Reading) (pages : Pages) (next : Step) → At r → StopsAt r → reading.Goes room back (reading.settled r pages) next
       → At (reading.gone room (reading.settled r pages)).reading × Spends (level-of r) next (reading.gone room (reading.settled r pages)).reading
   goes-on = from
 

@@ -1,5 +1,5 @@
 -- The COMMITs of a file that a session has made, by their xids, and how often those that wait may still be made again.
-use Rattle.core_counts.proofs.Prelude.{◌≡◌, ◌≢◌, ◌<◌, ◌≤◌, ◌+◌, ◌-◌, ◌*◌, ◌⊎◌, inl, inr, ℕ, nat_eq, Bool, true, false, List, [], ◌∷◌, ◌++◌, length, Option, Some, None, Result, Err, refl, sym, ap, subst, ◌∙◌, arith, eqb-true, Waiting, Held, next_xid, made_call, waiting_at, at_made, others_made, Fault, Call, Reply, IsCommitOf, SpellsCall, proc_of, ended, Next, Send, Repeat, Shelf, Turn, Machine, Takes, Purpose, Setup, record_of, Makes, View, turn_at, in_flight, Rows, made-known, made-asked, AskedOf, one-call, machine-fits, Calls, count, ended-is, Calm, took-any}
+use Rattle.core_counts.proofs.Prelude.{◌≡◌, ◌≢◌, ◌<◌, ◌≤◌, ◌+◌, ◌-◌, ◌*◌, ◌⊎◌, inl, inr, ℕ, nat_eq, Bool, true, false, List, [], ◌∷◌, ◌++◌, length, Option, Some, None, Result, Err, refl, sym, ap, subst, ◌∙◌, arith, eqb-true, Waiting, Held, next_xid, made_call, waiting_at, at_made, others_made, Fault, Call, Reply, IsCommitOf, SpellsCall, proc_of, ended, Step, Send, Repeat, Shelf, Turn, Machine, Takes, Purpose, Setup, record_of, Makes, View, turn_at, in_flight, Rows, made-known, made-asked, AskedOf, one-call, machine-fits, Calls, count, ended-is, Calm, took-any}
 use Rattle.client_shelf.specs.Repeats.{answered, times_of}
 use Rattle.client_core.specs.Steps.{IsUnmade}
 use Rattle.core_session.proofs.delays.Tables.{left-count, push-count}
@@ -54,7 +54,7 @@ one-fault : (a b : Fault) → ◌≡◌ {A = Result Reply Fault} (Err a) (Err b)
 one-fault a b e = cc
 
 -- the table after it
-pub unmade-table : (v : View) (machine : Machine) (call : Call) (fault : Fault) (sent turn : Turn) (next : Next) (new : Machine) (after : Shelf) → IsUnmade v fault → 1 ≤ in_flight machine
+pub unmade-table : (v : View) (machine : Machine) (call : Call) (fault : Fault) (sent turn : Turn) (next : Step) (new : Machine) (after : Shelf) → IsUnmade v fault → 1 ≤ in_flight machine
     → AskedOf Calls (Send call) machine → Takes v.wsize machine sent turn (Err fault) v.shelf next new after → (b : Bool) × (after.repeats ≡ answered b sent.xid turn.xid v.shelf.repeats)
 unmade-table v machine call fault sent turn next new after unmade some asked t = (_, took.later_is)
   where
@@ -92,12 +92,12 @@ module _ (f : List ℕ) where
     pub fits : length all + pots new all ≤ length made + held + 4 * spent
 
   -- How the next call counts: as a fresh one; or as one that is made again, for which so much was held.
-  pub data Counts_ (made : List ℕ) (held : ℕ) (v : View) (next : Next) (Fresh : Type 0) : Type 0 where
+  pub data Counts_ (made : List ℕ) (held : ℕ) (v : View) (next : Step) (Fresh : Type 0) : Type 0 where
     fresh : Fresh → pots v made ≤ held → Counts_ made held v next Fresh
     other : ((call : Call) → next ≡ Send call → IsCommitOf f call → ⊥) → pots v made ≤ held → Counts_ made held v next Fresh
     again_ : (d : ℕ) → (3 - count (next_xid v.calls) v.shelf.repeats) + 1 ≤ d → pots v made + d ≤ held → Counts_ made held v next Fresh
 
-  pub held-enough : (made : List ℕ) (held : ℕ) (v : View) (next : Next) (Fresh : Type 0) → Counts_ made held v next Fresh → pots v made ≤ held
+  pub held-enough : (made : List ℕ) (held : ℕ) (v : View) (next : Step) (Fresh : Type 0) → Counts_ made held v next Fresh → pots v made ≤ held
   held-enough made held v next Fresh (fresh is enough) = enough
   held-enough made held v next Fresh (other none enough) = enough
   held-enough made held v next Fresh (again_ d one enough) = omega (arith, enough)

@@ -1,5 +1,5 @@
 -- The step of a lane leads to the call that it asks for, to a refusal, or to its answer: what the session may still make of the COMMITs of the file after it.
-use Rattle.core_counts.proofs.Prelude.{◌≡◌, ◌<◌, ◌≤◌, ◌+◌, ◌-◌, ◌*◌, ◌⊎◌, inl, inr, ℕ, Bool, true, false, List, length, Some, Err, slice_get, refl, sym, ap, subst, ◌∙◌, arith, Pending, Waiting, next_xid, waiting_at, waits_early, Answer, Entry, Sent, Call, Op, IsWriter, Placed, IsCommitOf, StableOf, NoneBegan, At, HasXid, Terms, Next, Send, Wait, Done, Repeat, Shelf, Mounted, Machine, Lane, Purpose, State, Busy, Over, Setup, with_state, IsRefused, Makes, Refuses, Leads, View, turn_at, unmade_turn, in_flight, KnowsRoot, GoesWith, Runs, at-set, Rows, AskedOf, Going, Asks, AreAsked, Calls, count, state-is, job_kind, told, Turns}
+use Rattle.core_counts.proofs.Prelude.{◌≡◌, ◌<◌, ◌≤◌, ◌+◌, ◌-◌, ◌*◌, ◌⊎◌, inl, inr, ℕ, Bool, true, false, List, length, Some, Err, slice_get, refl, sym, ap, subst, ◌∙◌, arith, Pending, Waiting, next_xid, waiting_at, waits_early, Answer, Entry, Sent, Call, Op, IsWriter, Placed, IsCommitOf, StableOf, NoneBegan, At, HasXid, Terms, Step, Send, Wait, Done, Repeat, Shelf, Mounted, Machine, Lane, Purpose, State, Busy, Over, Setup, with_state, IsRefused, Makes, Refuses, Leads, View, turn_at, unmade_turn, in_flight, KnowsRoot, GoesWith, Runs, at-set, Rows, AskedOf, Going, Asks, AreAsked, Calls, count, state-is, job_kind, told, Turns}
 use Rattle.core_answers.proofs.writes.AllFits.{all-takes}
 use Rattle.world_model.specs.declared.op.Op.TheVariants as ops
 use Rattle.client_shelf.specs.Repeats.{answered}
@@ -186,7 +186,7 @@ module _ (mt : Mounted) (terms : Terms) (setup : Setup) (H : List Entry) (V : Vi
       ends = calls.ends-unmade f v new b.made held (next_xid v.calls) 0 table.0 waiting (ap (λ (w : View). w.calls) r.is) (ap (λ (w : View). w.shelf.repeats) r.is ∙ table.1)
           (λ y in_ same. let low = waiting.below y in_ in omega (arith, low, same)) (λ y in_ same. let low = waiting.some y in_ in omega (arith, low, same)) enough
 
-      its-state : (next : Next) → IsRefused r.after next r.state → Going next (Holds f b.stable x r.left.seq r.left.back second.left r.after) → (m : Machine) → r.state ≡ Busy m
+      its-state : (next : Step) → IsRefused r.after next r.state → Going next (Holds f b.stable x r.left.seq r.left.back second.left r.after) → (m : Machine) → r.state ≡ Busy m
           → Holds f b.stable x r.left.seq r.left.back second.left m
       its-state Wait i k m is = subst (Holds f b.stable x r.left.seq r.left.back second.left) (same-machine r.after m (sym i ∙ is)) k
       its-state (Done answer) i k m is = over-busy _ answer m (sym i ∙ is)
@@ -205,7 +205,7 @@ module _ (mt : Mounted) (terms : Terms) (setup : Setup) (H : List Entry) (V : Vi
           by first (inr two) = inr (let less = p.less in omega (arith, two, less))
           by (inr one) (inl two) = inr (let less = second.less in omega (arith, one, less))
 
-    pub lead : (next : Next) → Leads v at number after next new → Post f b.stable x F op had old.shelf v.shelf next after → Counts_ f b.made held v next (F v.shelf.repeats) → AskedOf Calls next after
+    pub lead : (next : Step) → Leads v at number after next new → Post f b.stable x F op had old.shelf v.shelf next after → Counts_ f b.made held v next (F v.shelf.repeats) → AskedOf Calls next after
         → Asks next after → ((call : Call) → next ≡ Send call → 1 ≤ in_flight after) → Purse terms H f h2 new
     lead (Send call) (inl k) p c awaits fits some = made-lead call k p fits c
     lead (Send call) (inr r) p c awaits fits some = refused-lead call r p awaits (some call refl) (held-enough f b.made held v (Send call) (F v.shelf.repeats) c)

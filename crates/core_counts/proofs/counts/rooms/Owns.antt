@@ -1,8 +1,8 @@
 -- The steps of a save of an operation's own file, a sync's, a close's or a put's: it asks for two COMMITs at most. And how each operation begins.
-use Rattle.core_counts.proofs.Prelude.{◌≡◌, ◌≤◌, inl, ◌-◌, ℕ, Bool, true, false, List, Some, None, Result, refl, sym, ap, subst, ◌∙◌, arith, Pending, IsCommitOf, commit, Fault, Call, Reply, Op, ended, is_first, Next, Repeat, Shelf, Turn, file_at, Closing, PutFile, Putting, Saving, Syncing, by-step, machine_of, put_of, front_of, last_of, file_of, begun_at, Starts, Resumes, Takes, Mounted, FileMachine, Machine, Opener, PathMachine, in_flight, Going, commits_of, Asks, job_kind, take-kind}
+use Rattle.core_counts.proofs.Prelude.{◌≡◌, ◌≤◌, inl, ◌-◌, ℕ, Bool, true, false, List, Some, None, Result, refl, sym, ap, subst, ◌∙◌, arith, Pending, IsCommitOf, commit, Fault, Call, Reply, Op, ended, is_first, Step, Repeat, Shelf, Turn, file_at, Closing, PutFile, Putting, Saving, Syncing, by-step, machine_of, put_of, front_of, last_of, file_of, begun_at, Starts, Resumes, Takes, Mounted, FileMachine, Machine, Opener, PathMachine, in_flight, Going, commits_of, Asks, job_kind, take-kind}
 use Rattle.core_session.proofs.syncs.Fates.{start-kind, resume-kind}
 use Rattle.world_model.specs.declared.op.Op.TheVariants as ops
-use Rattle.client_shelf.specs.declared.next.Next.TheVariants as nexts
+use Rattle.client_shelf.specs.declared.step.Step.TheVariants as nexts
 use Rattle.file_ops.specs.PutFile as puts
 use Rattle.file_ops.specs.Syncs as syncs
 use Rattle.file_ops.specs.declared.close_file.Closing.TheVariants as closing
@@ -16,7 +16,7 @@ use Rattle.op_machines.specs.declared.machine.Machine.TheVariants as machines
 use Rattle.op_machines.specs.declared.opener.Opener.TheVariants as openers
 use Rattle.core_answers.specs.writes.Alone.{committed_file}
 use Rattle.core_counts.proofs.counts.commits.Laws.{MachineLeft, machine-resumes, machine-takes}
-use Rattle.core_counts.proofs.counts.commits.Machines.{Step, Taken, repeats, goes, SyncLeft, CloseLeft, sync-starts, close-starts}
+use Rattle.core_counts.proofs.counts.commits.Machines.{StepIs, Taken, repeats, goes, SyncLeft, CloseLeft, sync-starts, close-starts}
 use Rattle.core_counts.proofs.counts.commits.Saves.{Took, again, on, takes-took}
 use Rattle.core_counts.proofs.counts.engine.Steps.{one-longer}
 use Rattle.core_counts.proofs.counts.rooms.Roles.{Role, neither, storing, sync_role, close_role, put_role, file_role, path_role, role_of, as-going, OwnLeft, OwnStep, StoreStep, put-follows, put-queues, follows-seq, queues-seq, path-stores, store-to, write-store}
@@ -49,10 +49,10 @@ module _ (f : List ℕ) where
   committed-is call (commit offset count is) = ap committed_file is
 
   -- the file of a COMMIT that it asks for
-  pub asks-commits : (next : Next) (new : Machine) (call : Call) → Asks next new → next ≡ nexts.Send call → IsCommitOf f call → commits_of new ≡ Some f
-  asks-commits next new call a is p = (subst (λ (n : Next). Asks n new) is a).commits_ f (committed-is call p)
+  pub asks-commits : (next : Step) (new : Machine) (call : Call) → Asks next new → next ≡ nexts.Send call → IsCommitOf f call → commits_of new ≡ Some f
+  asks-commits next new call a is p = (subst (λ (n : Step). Asks n new) is a).commits_ f (committed-is call p)
 
-  quiet-step : (F : List Repeat → Type 0) (had : ℕ) (after : Shelf) (next : Next) (new : Machine) → Asks next new → IsQuiet new → OwnStep f F had after next (role_of new)
+  quiet-step : (F : List Repeat → Type 0) (had : ℕ) (after : Shelf) (next : Step) (new : Machine) → Asks next new → IsQuiet new → OwnStep f F had after next (role_of new)
   quiet-step F had after next new a q = record {
     left = had;
     keeps = as-going next (OwnLeft f had (role_of new)) (subst (OwnLeft f had) (sym q.role) tt);
@@ -62,15 +62,15 @@ module _ (f : List ℕ) where
 
   -- ---- from the count of a sync or a close
 
-  own-of : (F : List Repeat → Type 0) (had : ℕ) (after : Shelf) (next : Next) (to : Role) (P : ℕ → Type 0) → ((n : ℕ) → P n → OwnLeft f n to) → Step f had next P → OwnStep f F had after next to
+  own-of : (F : List Repeat → Type 0) (had : ℕ) (after : Shelf) (next : Step) (to : Role) (P : ℕ → Type 0) → ((n : ℕ) → P n → OwnLeft f n to) → StepIs f had next P → OwnStep f F had after next to
   own-of F had after next to P keeps s = record { left = s.left; keeps = over next s.keeps; less = s.less; asks = λ call sends p fresh. s.asks call sends p }
     where
-      over : (n : Next) → Going n (P s.left) → Going n (OwnLeft f s.left to)
+      over : (n : Step) → Going n (P s.left) → Going n (OwnLeft f s.left to)
       over (nexts.Send call) p = keeps s.left p
       over nexts.Wait p = keeps s.left p
       over (nexts.Done answer) p = tt
 
-  own-taken : (had : ℕ) (sent turn : Turn) (repeats_ : List Repeat) (after : Shelf) (next : Next) (to : Role) (P : ℕ → Type 0) → ((n : ℕ) → P n → OwnLeft f n to)
+  own-taken : (had : ℕ) (sent turn : Turn) (repeats_ : List Repeat) (after : Shelf) (next : Step) (to : Role) (P : ℕ → Type 0) → ((n : ℕ) → P n → OwnLeft f n to)
       → Taken f had sent turn repeats_ after.repeats next P → OwnStep f (NotAgain f sent repeats_) had after next to
   own-taken had sent turn repeats_ after next to P keeps (repeats table p) = record {
     left = had;
@@ -104,7 +104,7 @@ module _ (f : List ℕ) where
 
   -- ---- of a put
 
-  put-own : (F : List Repeat → Type 0) (at : Putting) (wsize : ℕ) (m : PutFile) (turn : Turn) (old : Shelf) (next : Next) (new : PutFile) (after : Shelf) (had : ℕ) → OwnLeft f had (put_role at m.write.state)
+  put-own : (F : List Repeat → Type 0) (at : Putting) (wsize : ℕ) (m : PutFile) (turn : Turn) (old : Shelf) (next : Step) (new : PutFile) (after : Shelf) (had : ℕ) → OwnLeft f had (put_role at m.write.state)
       → puts.Resumes at wsize m turn old next new after → OwnStep f F had after next (put_role new.state new.write.state) × (after.seq ≡ old.seq)
   put-own F putting.Idle wsize m turn old next new after had k r = absurd k
   put-own F putting.Opens wsize m turn old next new after had k r = absurd k
@@ -114,11 +114,11 @@ module _ (f : List ℕ) where
     queues-seq f (is_first m.write.lane old.order) wsize m.write.lane turn s old next new.state after r.0,
   )
 
-  follows-table : (gives : _) (lane : ℕ) (saved : Saving) (was : Shelf) (next : Next) (state : Putting) (after : Shelf) → puts.Follows gives lane saved was next state after → after.repeats ≡ was.repeats
+  follows-table : (gives : _) (lane : ℕ) (saved : Saving) (was : Shelf) (next : Step) (state : Putting) (after : Shelf) → puts.Follows gives lane saved was next state after → after.repeats ≡ was.repeats
   follows-table gives lane saved was next state after l = by-step (λ g. puts.Follows g lane saved was next state after → after.repeats ≡ was.repeats)
       (λ call k. ap (λ (z : Shelf). z.repeats) k.2) (λ k. ap (λ (z : Shelf). z.repeats) k.2) (λ result k. ap (λ (z : Shelf). z.repeats) k.others) gives l
 
-  put-own-takes : (at : Putting) (wsize : ℕ) (m : PutFile) (sent turn : Turn) (came : Result Reply Fault) (old : Shelf) (next : Next) (new : PutFile) (after : Shelf) (had : ℕ)
+  put-own-takes : (at : Putting) (wsize : ℕ) (m : PutFile) (sent turn : Turn) (came : Result Reply Fault) (old : Shelf) (next : Step) (new : PutFile) (after : Shelf) (had : ℕ)
       → OwnLeft f had (put_role at m.write.state) → puts.Takes at wsize m sent turn came old next new after
       → OwnStep f (NotAgain f sent old.repeats) had after next (put_role new.state new.write.state) × (after.seq ≡ old.seq)
   put-own-takes putting.Idle wsize m sent turn came old next new after had k t = absurd k
@@ -142,14 +142,14 @@ module _ (f : List ℕ) where
   -- ---- of any operation
 
   -- where it is a put, the number of the last write stays
-  pub record OwnAll (F : List Repeat → Type 0) (had : ℕ) (old after : Shelf) (next : Next) (m new : Machine) : Type 0 where
+  pub record OwnAll (F : List Repeat → Type 0) (had : ℕ) (old after : Shelf) (next : Step) (m new : Machine) : Type 0 where
     pub step : OwnStep f F had after next (role_of new)
     pub seq : job_kind m ≡ 3 → after.seq ≡ old.seq
 
-  own-as : (F : List Repeat → Type 0) (had : ℕ) (after : Shelf) (next : Next) (to new : Role) → new ≡ to → OwnStep f F had after next to → OwnStep f F had after next new
+  own-as : (F : List Repeat → Type 0) (had : ℕ) (after : Shelf) (next : Step) (to new : Role) → new ≡ to → OwnStep f F had after next to → OwnStep f F had after next new
   own-as F had after next to new is s = subst (OwnStep f F had after next) (sym is) s
 
-  quiet-all : (F : List Repeat → Type 0) (had : ℕ) (old after : Shelf) (next : Next) (m new : Machine) → job_kind m ≡ 0 → job_kind new ≡ job_kind m → Asks next new → OwnAll F had old after next m new
+  quiet-all : (F : List Repeat → Type 0) (had : ℕ) (old after : Shelf) (next : Step) (m new : Machine) → job_kind m ≡ 0 → job_kind new ≡ job_kind m → Asks next new → OwnAll F had old after next m new
   quiet-all F had old after next m new none same a = record {
     step = quiet-step F had after next new a (kind-quiet new (same ∙ none));
     seq = λ three. absurd (omega (arith, none, three));
@@ -158,19 +158,19 @@ module _ (f : List ℕ) where
   path-role : (m : PathMachine) (opener : Opener) (new : PathMachine) → m.arrived ≡ true → new ≡ record m { opener = opener } → path_role new.arrived new.opener ≡ file_role (file_of opener)
   path-role m opener new there is = ap (λ (p : PathMachine). path_role p.arrived p.opener) is ∙ ap (λ (b : Bool). path_role b opener) there
 
-  put-file : (F : List Repeat → Type 0) (p : PutFile) (wsize : ℕ) (turn : Turn) (old : Shelf) (next : Next) (new : FileMachine) (after : Shelf) (had : ℕ) → OwnLeft f had (file_role (files.Put p))
+  put-file : (F : List Repeat → Type 0) (p : PutFile) (wsize : ℕ) (turn : Turn) (old : Shelf) (next : Step) (new : FileMachine) (after : Shelf) (had : ℕ) → OwnLeft f had (file_role (files.Put p))
       → steps.Resumes wsize (files.Put p) turn old next new after → OwnStep f F had after next (file_role new) × (after.seq ≡ old.seq)
   put-file F p wsize turn old next new after had k s =
       let z = put-own F p.state wsize p turn old next s.machine after had k s.step in
       (own-as F had after next (file_role (files.Put s.machine)) (file_role new) (ap file_role s.machine_is) z.0, z.1)
 
-  put-file-takes : (p : PutFile) (wsize : ℕ) (sent turn : Turn) (came : Result Reply Fault) (old : Shelf) (next : Next) (new : FileMachine) (after : Shelf) (had : ℕ) → OwnLeft f had (file_role (files.Put p))
+  put-file-takes : (p : PutFile) (wsize : ℕ) (sent turn : Turn) (came : Result Reply Fault) (old : Shelf) (next : Step) (new : FileMachine) (after : Shelf) (had : ℕ) → OwnLeft f had (file_role (files.Put p))
       → steps.Takes wsize (files.Put p) sent turn came old next new after → OwnStep f (NotAgain f sent old.repeats) had after next (file_role new) × (after.seq ≡ old.seq)
   put-file-takes p wsize sent turn came old next new after had k s =
       let z = put-own-takes p.state wsize p sent turn came old next s.machine after had k s.step in
       (own-as (NotAgain f sent old.repeats) had after next (file_role (files.Put s.machine)) (file_role new) (ap file_role s.machine_is) z.0, z.1)
 
-  path-own : (F : List Repeat → Type 0) (b : Bool) (o : Opener) (wsize : ℕ) (m : PathMachine) (turn : Turn) (old : Shelf) (next : Next) (new : Machine) (after : Shelf) (had : ℕ) → m.arrived ≡ b → m.opener ≡ o
+  path-own : (F : List Repeat → Type 0) (b : Bool) (o : Opener) (wsize : ℕ) (m : PathMachine) (turn : Turn) (old : Shelf) (next : Step) (new : Machine) (after : Shelf) (had : ℕ) → m.arrived ≡ b → m.opener ≡ o
       → OwnLeft f had (path_role b o) → Asks next new → job_kind new ≡ job_kind (machines.Path m) → (machine : PathMachine) → new ≡ machines.Path machine → paths.PathResumes b wsize m turn old next machine after
       → OwnAll F had old after next (machines.Path m) new
   path-own F b (openers.Open o) wsize m turn old next new after had there is k a same machine machine_is r =
@@ -183,7 +183,7 @@ module _ (f : List ℕ) where
         seq = λ three. z.1;
       }
 
-  path-own-takes : (b : Bool) (o : Opener) (wsize : ℕ) (m : PathMachine) (sent turn : Turn) (came : Result Reply Fault) (old : Shelf) (next : Next) (new : Machine) (after : Shelf) (had : ℕ) → m.arrived ≡ b
+  path-own-takes : (b : Bool) (o : Opener) (wsize : ℕ) (m : PathMachine) (sent turn : Turn) (came : Result Reply Fault) (old : Shelf) (next : Step) (new : Machine) (after : Shelf) (had : ℕ) → m.arrived ≡ b
       → m.opener ≡ o → OwnLeft f had (path_role b o) → Asks next new → job_kind new ≡ job_kind (machines.Path m) → (machine : PathMachine) → new ≡ machines.Path machine
       → paths.PathTakes b wsize m sent turn came old next machine after → OwnAll (NotAgain f sent old.repeats) had old after next (machines.Path m) new
   path-own-takes b (openers.Open o) wsize m sent turn came old next new after had there is k a same machine machine_is r =
@@ -197,7 +197,7 @@ module _ (f : List ℕ) where
         seq = λ three. z.1;
       }
 
-  pub all-owns : (F : List Repeat → Type 0) (m : Machine) (wsize : ℕ) (turn : Turn) (old : Shelf) (next : Next) (new : Machine) (after : Shelf) (had : ℕ) → OwnLeft f had (role_of m) → Asks next new
+  pub all-owns : (F : List Repeat → Type 0) (m : Machine) (wsize : ℕ) (turn : Turn) (old : Shelf) (next : Step) (new : Machine) (after : Shelf) (had : ℕ) → OwnLeft f had (role_of m) → Asks next new
       → Resumes wsize m turn old next new after → OwnAll F had old after next m new
   all-owns F (machines.File (files.Sync m)) wsize turn old next new after had k a s = record {
     step = own-as F had after next (sync_role s.step.state) (role_of new) (ap role_of (s.machine_is ∙ ap machines.File s.step.machine_is))
@@ -226,7 +226,7 @@ module _ (f : List ℕ) where
   all-owns F (machines.Name m) wsize turn old next new after had k a s =
       quiet-all F had old after next (machines.Name m) new refl (resume-kind wsize turn (machines.Name m) old next new after s) a
 
-  pub all-own-takes : (m : Machine) (wsize : ℕ) (sent turn : Turn) (came : Result Reply Fault) (old : Shelf) (next : Next) (new : Machine) (after : Shelf) (had : ℕ) → 1 ≤ in_flight m → OwnLeft f had (role_of m)
+  pub all-own-takes : (m : Machine) (wsize : ℕ) (sent turn : Turn) (came : Result Reply Fault) (old : Shelf) (next : Step) (new : Machine) (after : Shelf) (had : ℕ) → 1 ≤ in_flight m → OwnLeft f had (role_of m)
       → Asks next new → Takes wsize m sent turn came old next new after → OwnAll (NotAgain f sent old.repeats) had old after next m new
   all-own-takes (machines.File (files.Sync m)) wsize sent turn came old next new after had some k a s = record {
     step = own-as (NotAgain f sent old.repeats) had after next (sync_role s.step.state) (role_of new) (ap role_of (s.machine_is ∙ ap machines.File s.step.machine_is))
@@ -263,13 +263,13 @@ module _ (f : List ℕ) where
   first-waits : (back : Pending) → Waits f back 32
   first-waits back = record { more = 1; may = inl (omega arith); less = omega arith }
 
-  abbrev pub Begun : (F : List Repeat → Type 0) (old after : Shelf) (next : Next) (new : Machine) → Op → Type 0
+  abbrev pub Begun : (F : List Repeat → Type 0) (old after : Shelf) (next : Step) (new : Machine) → Op → Type 0
   Begun F old after next new (ops.Write slot offset bytes) = StoreStep f F 32 old after next (role_of new)
   Begun F old after next new (ops.Fill slot offset count byte) = StoreStep f F 32 old after next (role_of new)
   Begun F old after next new (ops.Put path offset bytes) = StoreStep f F 32 old after next (role_of new)
   Begun F old after next new op = OwnStep f F 2 after next (role_of new)
 
-  module _ (F : List Repeat → Type 0) (m : Mounted) (lane wsize : ℕ) (turn : Turn) (old : Shelf) (next : Next) (new : Machine) (after : Shelf) (a : Asks next new) where
+  module _ (F : List Repeat → Type 0) (m : Mounted) (lane wsize : ℕ) (turn : Turn) (old : Shelf) (next : Step) (new : Machine) (after : Shelf) (a : Asks next new) where
     plain-begun : (op : Op) → job_kind (machine_of m lane op) ≡ 0 → Starts wsize (machine_of m lane op) turn old next new after → OwnStep f F 2 after next (role_of new)
     plain-begun op kind s = quiet-step F 2 after next new a (kind-quiet new (start-kind wsize turn (machine_of m lane op) old next new after s ∙ kind))
 

@@ -1,9 +1,9 @@
 -- What a step of an operation leaves it of the COMMITs of a file, by what it was about.
-use Rattle.core_counts.proofs.Prelude.{◌≡◌, ◌≤◌, ◌⊎◌, inl, inr, ◌+◌, ℕ, Bool, true, false, List, Some, None, Result, Err, refl, sym, ap, subst, ◌∙◌, arith, Pending, Placed, IsWriter, IsCommitOf, Fault, Call, Reply, Op, Next, Repeat, Shelf, Turn, Closing, Putting, Saving, Syncing, Writing, machine_of, file_of, Starts, Resumes, Takes, Mounted, Machine, Opener, in_flight, Going, commits_of, Asks, Elsewhere, job_save, job_kind}
+use Rattle.core_counts.proofs.Prelude.{◌≡◌, ◌≤◌, ◌⊎◌, inl, inr, ◌+◌, ℕ, Bool, true, false, List, Some, None, Result, Err, refl, sym, ap, subst, ◌∙◌, arith, Pending, Placed, IsWriter, IsCommitOf, Fault, Call, Reply, Op, Step, Repeat, Shelf, Turn, Closing, Putting, Saving, Syncing, Writing, machine_of, file_of, Starts, Resumes, Takes, Mounted, Machine, Opener, in_flight, Going, commits_of, Asks, Elsewhere, job_save, job_kind}
 use Rattle.core_answers.proofs.writes.AllFits.{commits_path}
 use Rattle.claims.specs.Asks as asks
 use Rattle.world_model.specs.declared.op.Op.TheVariants as ops
-use Rattle.client_shelf.specs.declared.next.Next.TheVariants as nexts
+use Rattle.client_shelf.specs.declared.step.Step.TheVariants as nexts
 use Rattle.file_ops.specs.declared.close_file.Closing.TheVariants as closing
 use Rattle.file_ops.specs.declared.put_file.Putting.TheVariants as putting
 use Rattle.file_ops.specs.declared.saving.Phase.{Phase}
@@ -138,7 +138,7 @@ module _ (f : List ℕ) (S : List Placed) (x : ℕ) where
     joins : (left : ℕ) → Elsewhere x S → OwnLeft f left to → left + 1 ≤ 2 → (IsWriter op → (after.seq ≡ old.seq) ⊎ (30 ≤ q)) → Paid op q old after to
 
   -- what a step leaves, before its call is made
-  pub record Post (F : List Repeat → Type 0) (op : Op) (q : ℕ) (old after : Shelf) (next : Next) (new : Machine) : Type 0 where
+  pub record Post (F : List Repeat → Type 0) (op : Op) (q : ℕ) (old after : Shelf) (next : Step) (new : Machine) : Type 0 where
     pub left : ℕ
     pub holds : Going next (Holds after.seq after.back left new)
     pub less : left ≤ q
@@ -155,16 +155,16 @@ module _ (f : List ℕ) (S : List Placed) (x : ℕ) where
   own-unpaid seq q left back (storing state) e k = absurd k
   own-unpaid seq q left back (own saving) e k = inl e
 
-  going-map : (next : Next) (P R : Type 0) → (P → R) → Going next P → Going next R
+  going-map : (next : Step) (P R : Type 0) → (P → R) → Going next P → Going next R
   going-map (nexts.Send call) P R f_ p = f_ p
   going-map nexts.Wait P R f_ p = f_ p
   going-map (nexts.Done answer) P R f_ p = tt
 
-  sent-going : (next : Next) (call : Call) (P : Type 0) → next ≡ nexts.Send call → Going next P → P
-  sent-going next call P is g = subst (λ (n : Next). Going n P) is g
+  sent-going : (next : Step) (call : Call) (P : Type 0) → next ≡ nexts.Send call → Going next P → P
+  sent-going next call P is g = subst (λ (n : Step). Going n P) is g
 
   -- of its own file, with so many left
-  paid-post : (F : List Repeat → Type 0) (op : Op) (q : ℕ) (old after : Shelf) (next : Next) (new : Machine) → (IsWriter op → after.seq ≡ old.seq) → OwnStep f F q after next (role_of new)
+  paid-post : (F : List Repeat → Type 0) (op : Op) (q : ℕ) (old after : Shelf) (next : Step) (new : Machine) → (IsWriter op → after.seq ≡ old.seq) → OwnStep f F q after next (role_of new)
       → Post F op q old after next new
   paid-post F op q old after next new same s = record {
     left = s.left;
@@ -176,7 +176,7 @@ module _ (f : List ℕ) (S : List Placed) (x : ℕ) where
   }
 
   -- before its first COMMIT
-  unpaid-post : (F : List Repeat → Type 0) (op : Op) (q : ℕ) (old after : Shelf) (next : Next) (new : Machine) → (IsWriter op → (after.seq ≡ old.seq) ⊎ (30 ≤ q)) → Elsewhere x S
+  unpaid-post : (F : List Repeat → Type 0) (op : Op) (q : ℕ) (old after : Shelf) (next : Step) (new : Machine) → (IsWriter op → (after.seq ≡ old.seq) ⊎ (30 ≤ q)) → Elsewhere x S
       → OwnStep f F 2 after next (role_of new) → Post F op q old after next new
   unpaid-post F op q old after next new same e s = record {
     left = 0;
@@ -201,7 +201,7 @@ module _ (f : List ℕ) (S : List Placed) (x : ℕ) where
   store-holds seq q back (storing state) e k = (k, e)
   store-holds seq q back (own saving) e k = absurd k
 
-  store-post : (F : List Repeat → Type 0) (op : Op) (q : ℕ) (old after : Shelf) (next : Next) (new : Machine) → 30 ≤ q → Elsewhere x S → Asks next new → StoreStep f F q old after next (role_of new)
+  store-post : (F : List Repeat → Type 0) (op : Op) (q : ℕ) (old after : Shelf) (next : Step) (new : Machine) → 30 ≤ q → Elsewhere x S → Asks next new → StoreStep f F q old after next (role_of new)
       → Post F op q old after next new
   store-post F op q old after next new some e a (stays s) = record {
     left = s.left;
@@ -219,7 +219,7 @@ module _ (f : List ℕ) (S : List Placed) (x : ℕ) where
   }
   store-post F op q old after next new some e a (over answer is) = record {
     left = 0;
-    holds = subst (λ (n : Next). Going n (Holds after.seq after.back 0 new)) (sym is) tt;
+    holds = subst (λ (n : Step). Going n (Holds after.seq after.back 0 new)) (sym is) tt;
     less = omega arith;
     adds = λ w. inr (omega (arith, some));
     made = λ call sends p fresh. done-none next answer call is sends;
@@ -302,7 +302,7 @@ module _ (f : List ℕ) (S : List Placed) (x : ℕ) where
         by (inl one) = absurd (kind-own m s is (kind ∙ one))
         by (inr three) = then_ (kind ∙ three)
 
-    pub resumes-post : (F : List Repeat → Type 0) (wsize : ℕ) (turn : Turn) (old : Shelf) (next : Next) (new : Machine) (after : Shelf) (q : ℕ) → Holds old.seq old.back q m → Asks next new
+    pub resumes-post : (F : List Repeat → Type 0) (wsize : ℕ) (turn : Turn) (old : Shelf) (next : Step) (new : Machine) (after : Shelf) (q : ℕ) → Holds old.seq old.back q m → Asks next new
         → Resumes wsize m turn old next new after → Post F op q old after next new
     resumes-post F wsize turn old next new after q k a s = by (role_of m) refl k
       where
@@ -319,7 +319,7 @@ module _ (f : List ℕ) (S : List Placed) (x : ℕ) where
             let o = all-owns f F m wsize turn old next new after q (subst (OwnLeft f q) (sym is) paid) a s in
             paid-post F op q old after next new (own-writes (after.seq ≡ old.seq) saving is o.seq) o.step
 
-    pub takes-post : (wsize : ℕ) (sent turn : Turn) (came : Result Reply Fault) (old : Shelf) (next : Next) (new : Machine) (after : Shelf) (q : ℕ) → 1 ≤ in_flight m → AllEnds f wsize sent turn came old m
+    pub takes-post : (wsize : ℕ) (sent turn : Turn) (came : Result Reply Fault) (old : Shelf) (next : Step) (new : Machine) (after : Shelf) (q : ℕ) → 1 ≤ in_flight m → AllEnds f wsize sent turn came old m
         → Holds old.seq old.back q m → Asks next new → Takes wsize m sent turn came old next new after → Post (NotAgain f sent old.repeats) op q old after next new
     takes-post wsize sent turn came old next new after q some ends k a s = by (role_of m) refl k
       where
@@ -354,7 +354,7 @@ module _ (f : List ℕ) (S : List Placed) (x : ℕ) where
   none-writes op none (asks.fill slot offset count byte is) = absurd (let e : 32 ≡ 0 = ap first_of (sym is) ∙ none in omega (arith, e))
   none-writes op none (asks.put path offset bytes is) = absurd (let e : 32 ≡ 0 = ap first_of (sym is) ∙ none in omega (arith, e))
 
-  pub starts-post : (F : List Repeat → Type 0) (mt : Mounted) (lane : ℕ) (op : Op) (wsize : ℕ) (turn : Turn) (old : Shelf) (next : Next) (new : Machine) (after : Shelf) → Elsewhere x S → Asks next new
+  pub starts-post : (F : List Repeat → Type 0) (mt : Mounted) (lane : ℕ) (op : Op) (wsize : ℕ) (turn : Turn) (old : Shelf) (next : Step) (new : Machine) (after : Shelf) → Elsewhere x S → Asks next new
       → Starts wsize (machine_of mt lane op) turn old next new after → Post F op (first_of op) old after next new
   starts-post F mt lane op wsize turn old next new after e a s = by op (all-begun f F mt lane wsize turn old next new after a op s)
     where

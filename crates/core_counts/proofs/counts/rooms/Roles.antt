@@ -1,19 +1,19 @@
 -- What each step of any operation makes of the COMMITs of a file that it may still ask for: one that writes and whose bytes aren't pending yet, and the save of its own
 -- file of a sync, a close or a put.
-use Rattle.core_counts.proofs.Prelude.{◌≡◌, ◌≤◌, inl, inr, ◌+◌, ℕ, Bool, true, false, List, [], Result, Ok, Err, refl, sym, ap, subst, ◌∙◌, arith, Pending, IsCommitOf, Answer, Fault, Call, Reply, is_first, Next, Repeat, Shelf, Turn, joined, Closing, OpeningNext, PutFile, Putting, Saving, Syncing, Writing, by-step, WalkNext, file_of, Resumes, Takes, FileMachine, Machine, Opener, PathMachine, Going}
+use Rattle.core_counts.proofs.Prelude.{◌≡◌, ◌≤◌, inl, inr, ◌+◌, ℕ, Bool, true, false, List, [], Result, Ok, Err, refl, sym, ap, subst, ◌∙◌, arith, Pending, IsCommitOf, Answer, Fault, Call, Reply, is_first, Step, Repeat, Shelf, Turn, joined, Closing, OpeningStep, PutFile, Putting, Saving, Syncing, Writing, by-step, WalkStep, file_of, Resumes, Takes, FileMachine, Machine, Opener, PathMachine, Going}
 use Rattle.op_machines.specs.Openers.{placed}
-use Rattle.client_shelf.specs.declared.next.Next.TheVariants as nexts
+use Rattle.client_shelf.specs.declared.step.Step.TheVariants as nexts
 use Rattle.file_ops.specs.PutFile as puts
 use Rattle.file_ops.specs.Saves as saves
 use Rattle.file_ops.specs.Syncs as syncs
 use Rattle.file_ops.specs.WriteFile as writes
 use Rattle.file_ops.specs.declared.close_file.Closing.TheVariants as closing
-use Rattle.file_ops.specs.declared.opening.OpeningNext.TheVariants as openings
+use Rattle.file_ops.specs.declared.opening.OpeningStep.TheVariants as openings
 use Rattle.file_ops.specs.declared.put_file.Putting.TheVariants as putting
 use Rattle.file_ops.specs.declared.sync_file.Syncing.TheVariants as syncing
 use Rattle.file_ops.specs.declared.write_file.Writing.TheVariants as writing
 use Rattle.name_ops.specs.Walking as walking
-use Rattle.name_ops.specs.declared.walk.WalkNext.TheVariants as walks
+use Rattle.name_ops.specs.declared.walk.WalkStep.TheVariants as walks
 use Rattle.name_ops.proofs.Keeps.{walk-takes-kept}
 use Rattle.op_machines.specs.FileSteps as steps
 use Rattle.op_machines.specs.PathSteps as paths
@@ -69,16 +69,16 @@ role_of (machines.File m) = file_role m
 role_of (machines.Path m) = path_role m.arrived m.opener
 role_of (machines.Name m) = neither
 
-pub going-of : (next : Next) (P : Type 0) → IsGoing next → Going next P → P
-going-of next P (inl is) g = subst (λ (n : Next). Going n P) is g
-going-of next P (inr is) g = subst (λ (n : Next). Going n P) is.1 g
+pub going-of : (next : Step) (P : Type 0) → IsGoing next → Going next P → P
+going-of next P (inl is) g = subst (λ (n : Step). Going n P) is g
+going-of next P (inr is) g = subst (λ (n : Step). Going n P) is.1 g
 
-pub as-going : (next : Next) (P : Type 0) → P → Going next P
+pub as-going : (next : Step) (P : Type 0) → P → Going next P
 as-going (nexts.Send call) P p = p
 as-going nexts.Wait P p = p
 as-going (nexts.Done answer) P p = tt
 
-pub done-none : {X : Type 0} → (next : Next) (answer : Answer) (call : Call) → next ≡ nexts.Done answer → next ≡ nexts.Send call → X
+pub done-none : {X : Type 0} → (next : Step) (answer : Answer) (call : Call) → next ≡ nexts.Done answer → next ≡ nexts.Send call → X
 done-none next answer call is sends = absurd (let no_way : nexts.Done answer ≡ nexts.Send call = sym is ∙ sends in cc)
 
 module _ (f : List ℕ) where
@@ -93,24 +93,24 @@ module _ (f : List ℕ) where
   OwnLeft q (own saving) = left_to saving ≤ q
 
   -- a step of a save of its own file
-  pub record OwnStep (F : List Repeat → Type 0) (had : ℕ) (after : Shelf) (next : Next) (to : Role) : Type 0 where
+  pub record OwnStep (F : List Repeat → Type 0) (had : ℕ) (after : Shelf) (next : Step) (to : Role) : Type 0 where
     pub left : ℕ
     pub keeps : Going next (OwnLeft left to)
     pub less : left ≤ had
     pub asks : (call : Call) → next ≡ nexts.Send call → IsCommitOf f call → F after.repeats → left + 1 ≤ had
 
   -- A step of one that writes: it goes on; or goes on finding its file; or has its answer; or its bytes are pending, and it saves its own file.
-  pub data StoreStep (F : List Repeat → Type 0) (had : ℕ) (old after : Shelf) (next : Next) (to : Role) : Type 0 where
+  pub data StoreStep (F : List Repeat → Type 0) (had : ℕ) (old after : Shelf) (next : Step) (to : Role) : Type 0 where
     stays : Stays f F had old after next (λ q. StoreLeft after.seq after.back q to) → StoreStep F had old after next to
     early : IsGoing next → after.seq ≡ old.seq → to ≡ storing writing.Idle → Waits f after.back had → StoreStep F had old after next to
     over : (answer : Answer) → next ≡ nexts.Done answer → StoreStep F had old after next to
     settles : OwnStep F 2 after next to → StoreStep F had old after next to
 
-  pub store-to : (F : List Repeat → Type 0) (had : ℕ) (old after : Shelf) (next : Next) (to new : Role) → new ≡ to → StoreStep F had old after next to → StoreStep F had old after next new
+  pub store-to : (F : List Repeat → Type 0) (had : ℕ) (old after : Shelf) (next : Step) (to new : Role) → new ≡ to → StoreStep F had old after next to → StoreStep F had old after next new
   store-to F had old after next to new is s = subst (StoreStep F had old after next) (sym is) s
 
   -- from another shelf with the same number
-  store-from : (F : List Repeat → Type 0) (had : ℕ) (old mid after : Shelf) (next : Next) (to : Role) → mid.seq ≡ old.seq → StoreStep F had mid after next to → StoreStep F had old after next to
+  store-from : (F : List Repeat → Type 0) (had : ℕ) (old mid after : Shelf) (next : Step) (to : Role) → mid.seq ≡ old.seq → StoreStep F had mid after next to → StoreStep F had old after next to
   store-from F had old mid after next to same (stays s) =
       stays (record { going = s.going; seq = s.seq ∙ same; left = s.left; holds = s.holds; less = s.less; asks = s.asks })
   store-from F had old mid after next to same (early going seq is w_) = early going (seq ∙ same) is w_
@@ -119,7 +119,7 @@ module _ (f : List ℕ) where
 
   -- ---- the save of a put
 
-  pub put-follows : (F : List Repeat → Type 0) (gives : _) (lane : ℕ) (saved : Saving) (was : Shelf) (next : Next) (state : Putting) (after : Shelf) (write : Writing) (had : ℕ) → left_to saved ≤ had
+  pub put-follows : (F : List Repeat → Type 0) (gives : _) (lane : ℕ) (saved : Saving) (was : Shelf) (next : Step) (state : Putting) (after : Shelf) (write : Writing) (had : ℕ) → left_to saved ≤ had
       → ((call : Call) → syncs.sync_next gives ≡ nexts.Send call → IsCommitOf f call → F after.repeats → left_to saved + 1 ≤ had) → puts.Follows gives lane saved was next state after
       → OwnStep F had after next (put_role state write)
   put-follows F gives lane saved was next state after write had le asks k = by-step
@@ -129,7 +129,7 @@ module _ (f : List ℕ) where
       (λ z l. going_on (λ c sends p fresh. z c (sym l.0 ∙ sends) p fresh) l.1)
       (λ result z l. record {
         left = 0;
-        keeps = subst (λ (n : Next). Going n (OwnLeft 0 (put_role state write))) (sym l.next_is) tt;
+        keeps = subst (λ (n : Step). Going n (OwnLeft 0 (put_role state write))) (sym l.next_is) tt;
         less = omega arith;
         asks = λ call sends p fresh. done-none next _ call l.next_is sends;
       })
@@ -143,7 +143,7 @@ module _ (f : List ℕ) where
         asks = asks_;
       }
 
-  pub put-queues : (F : List Repeat → Type 0) (b : Bool) (wsize lane : ℕ) (turn : Turn) (s : Saving) (was : Shelf) (next : Next) (state : Putting) (after : Shelf) (write : Writing) (had : ℕ) → left_to s ≤ had
+  pub put-queues : (F : List Repeat → Type 0) (b : Bool) (wsize lane : ℕ) (turn : Turn) (s : Saving) (was : Shelf) (next : Step) (state : Putting) (after : Shelf) (write : Writing) (had : ℕ) → left_to s ≤ had
       → puts.QueuesIf b wsize lane turn s was next state after → OwnStep F had after next (put_role state write)
   put-queues F true wsize lane turn s was next state after write had le q =
       let spent = goes-spent f wsize turn.xid turn.room false s was.back q.gives q.saved q.gone.back q.goes in
@@ -158,17 +158,17 @@ module _ (f : List ℕ) where
   }
 
   -- its number stays
-  pub follows-seq : (gives : _) (lane : ℕ) (saved : Saving) (was : Shelf) (next : Next) (state : Putting) (after : Shelf) → puts.Follows gives lane saved was next state after → after.seq ≡ was.seq
+  pub follows-seq : (gives : _) (lane : ℕ) (saved : Saving) (was : Shelf) (next : Step) (state : Putting) (after : Shelf) → puts.Follows gives lane saved was next state after → after.seq ≡ was.seq
   follows-seq gives lane saved was next state after l = by-step (λ g. puts.Follows g lane saved was next state after → after.seq ≡ was.seq)
       (λ call k. ap (λ (z : Shelf). z.seq) k.2) (λ k. ap (λ (z : Shelf). z.seq) k.2) (λ result k. ap (λ (z : Shelf). z.seq) k.others) gives l
 
-  pub queues-seq : (b : Bool) (wsize lane : ℕ) (turn : Turn) (s : Saving) (was : Shelf) (next : Next) (state : Putting) (after : Shelf) → puts.QueuesIf b wsize lane turn s was next state after → after.seq ≡ was.seq
+  pub queues-seq : (b : Bool) (wsize lane : ℕ) (turn : Turn) (s : Saving) (was : Shelf) (next : Step) (state : Putting) (after : Shelf) → puts.QueuesIf b wsize lane turn s was next state after → after.seq ≡ was.seq
   queues-seq true wsize lane turn s was next state after q = follows-seq q.gives lane q.saved q.gone next state after q.follows ∙ ap (λ (z : Shelf). z.seq) q.others
   queues-seq false wsize lane turn s was next state after q = ap (λ (z : Shelf). z.seq) q.shelf_is
 
   -- ---- a put before it
 
-  put-wrote : (F : List Repeat → Type 0) (wsize lane : ℕ) (file : List ℕ) (turn : Turn) (old mid after : Shelf) (told next : Next) (written : Writing) (state : Putting) (q : ℕ) → WriteStep f F q old mid told written
+  put-wrote : (F : List Repeat → Type 0) (wsize lane : ℕ) (file : List ℕ) (turn : Turn) (old mid after : Shelf) (told next : Step) (written : Writing) (state : Putting) (q : ℕ) → WriteStep f F q old mid told written
       → puts.AfterWrite told wsize lane file turn mid next state after → StoreStep F q old after next (put_role state written)
   put-wrote F wsize lane file turn old mid after told next written state q (w.goes s) k = by s.going
     where
@@ -184,34 +184,34 @@ module _ (f : List ℕ) where
       })
 
       by : IsGoing told → StoreStep F q old after next (put_role state written)
-      by (inl is) = let l = subst (λ (n : Next). puts.AfterWrite n wsize lane file turn mid next state after) is k in on_ (l.0 ∙ sym is) l.1 l.2
-      by (inr is) = let l = subst (λ (n : Next). puts.AfterWrite n wsize lane file turn mid next state after) is.1 k in on_ (l.0 ∙ sym is.1) l.1 l.2
+      by (inl is) = let l = subst (λ (n : Step). puts.AfterWrite n wsize lane file turn mid next state after) is k in on_ (l.0 ∙ sym is) l.1 l.2
+      by (inr is) = let l = subst (λ (n : Step). puts.AfterWrite n wsize lane file turn mid next state after) is.1 k in on_ (l.0 ∙ sym is.1) l.1 l.2
   put-wrote F wsize lane file turn old mid after told next written state q (w.refused fault is) k =
-      let e = subst (λ (n : Next). puts.AfterWrite n wsize lane file turn mid next state after) is k in over _ e.next_is
+      let e = subst (λ (n : Step). puts.AfterWrite n wsize lane file turn mid next state after) is k in over _ e.next_is
   put-wrote F wsize lane file turn old mid after told next written state q (w.adds is) k =
       settles (put-queues F (is_first lane (joined lane file mid).order) wsize lane turn (saves.begun file mid.seq) (joined lane file mid) next state after written 2 (omega arith)
-      (subst (λ (n : Next). puts.AfterWrite n wsize lane file turn mid next state after) is k))
+      (subst (λ (n : Step). puts.AfterWrite n wsize lane file turn mid next state after) is k))
 
-  writes-on : (F : List Repeat → Type 0) (wsize : ℕ) (m : PutFile) (file : List ℕ) (turn : Turn) (told : Next) (written : Writing) (old mid : Shelf) (next : Next) (new : PutFile) (after : Shelf) (q : ℕ)
+  writes-on : (F : List Repeat → Type 0) (wsize : ℕ) (m : PutFile) (file : List ℕ) (turn : Turn) (told : Step) (written : Writing) (old mid : Shelf) (next : Step) (new : PutFile) (after : Shelf) (q : ℕ)
       → WriteStep f F q old mid told written → puts.WritesOn wsize m file turn told written mid next new after → StoreStep F q old after next (put_role new.state new.write.state)
   writes-on F wsize m file turn told written old mid next new after q s g =
       store-to F q old after next (put_role new.state written) (put_role new.state new.write.state) (ap (λ (p : PutFile). put_role new.state p.write.state) g.machine_is)
       (put-wrote F wsize m.write.lane file turn old mid after told next written new.state q s g.follows)
 
   -- it goes on finding its file
-  finds : (F : List Repeat → Type 0) (q : ℕ) (old after : Shelf) (next : Next) (to : Role) → Waits f old.back q → after.seq ≡ old.seq → after.back ≡ old.back → to ≡ storing writing.Idle
+  finds : (F : List Repeat → Type 0) (q : ℕ) (old after : Shelf) (next : Step) (to : Role) → Waits f old.back q → after.seq ≡ old.seq → after.back ≡ old.back → to ≡ storing writing.Idle
       → StoreStep F q old after next to
   finds F q old after (nexts.Send call) to k seq back is = early (inr (call, refl)) seq is (subst (λ (b : Pending). Waits f b q) (sym back) k)
   finds F q old after nexts.Wait to k seq back is = early (inl refl) seq is (subst (λ (b : Pending). Waits f b q) (sym back) k)
   finds F q old after (nexts.Done answer) to k seq back is = over answer refl
 
-  put-stays : (F : List Repeat → Type 0) (m : PutFile) (at : Putting) (old : Shelf) (next : Next) (new : PutFile) (after : Shelf) (q : ℕ) → Waits f old.back q → m.state ≡ at
+  put-stays : (F : List Repeat → Type 0) (m : PutFile) (at : Putting) (old : Shelf) (next : Step) (new : PutFile) (after : Shelf) (q : ℕ) → Waits f old.back q → m.state ≡ at
       → put_role at m.write.state ≡ storing writing.Idle → puts.Stays m old next new after → StoreStep F q old after next (put_role new.state new.write.state)
   put-stays F m at old next new after q k is idle s =
       finds F q old after next (put_role new.state new.write.state) k (ap (λ (z : Shelf). z.seq) s.shelf_is) (ap (λ (z : Shelf). z.back) s.shelf_is)
       (ap (λ (p : PutFile). put_role p.state p.write.state) s.machine_is ∙ ap (λ (p : Putting). put_role p m.write.state) is ∙ idle)
 
-  put-resumes : (F : List Repeat → Type 0) (at : Putting) (wsize : ℕ) (m : PutFile) (turn : Turn) (old : Shelf) (next : Next) (new : PutFile) (after : Shelf) (q : ℕ) → m.state ≡ at
+  put-resumes : (F : List Repeat → Type 0) (at : Putting) (wsize : ℕ) (m : PutFile) (turn : Turn) (old : Shelf) (next : Step) (new : PutFile) (after : Shelf) (q : ℕ) → m.state ≡ at
       → StoreLeft old.seq old.back q (put_role at m.write.state) → puts.Resumes at wsize m turn old next new after → StoreStep F q old after next (put_role new.state new.write.state)
   put-resumes F putting.Idle wsize m turn old next new after q is k r = put-stays F m putting.Idle old next new after q k is refl r
   put-resumes F putting.Opens wsize m turn old next new after q is k r =
@@ -228,7 +228,7 @@ module _ (f : List ℕ) where
   PutEnds wsize sent turn came old (putting.Adds file) write = RoomEnds f wsize sent turn came old write
   PutEnds wsize sent turn came old (putting.Saves s) write = Unit {0}
 
-  put-opened : (F : List Repeat → Type 0) (step : OpeningNext) (wsize : ℕ) (m : PutFile) (turn : Turn) (old : Shelf) (next : Next) (new : PutFile) (after : Shelf) (q : ℕ) → m.state ≡ putting.Opens
+  put-opened : (F : List Repeat → Type 0) (step : OpeningStep) (wsize : ℕ) (m : PutFile) (turn : Turn) (old : Shelf) (next : Step) (new : PutFile) (after : Shelf) (q : ℕ) → m.state ≡ putting.Opens
       → Waits f old.back q → puts.AfterOpening step wsize m turn old next new after → StoreStep F q old after next (put_role new.state new.write.state)
   put-opened F (openings.Send call) wsize m turn old next new after q is k a =
       finds F q old after next (put_role new.state new.write.state) k (ap (λ (z : Shelf). z.seq) a.2) (ap (λ (z : Shelf). z.back) a.2)
@@ -239,7 +239,7 @@ module _ (f : List ℕ) where
       (write-writes f F wsize m.write.lane file m.write.offset (writes.made_bytes m.write.text) turn old (puts.put_at m.write.lane file old) a.told a.written a.mid q refl k a.writes) a.goes
   put-opened F (openings.Ended (Err fault)) wsize m turn old next new after q is k a = over _ a.0
 
-  put-takes : (at : Putting) (wsize : ℕ) (m : PutFile) (sent turn : Turn) (came : Result Reply Fault) (old : Shelf) (next : Next) (new : PutFile) (after : Shelf) (q : ℕ) → m.state ≡ at
+  put-takes : (at : Putting) (wsize : ℕ) (m : PutFile) (sent turn : Turn) (came : Result Reply Fault) (old : Shelf) (next : Step) (new : PutFile) (after : Shelf) (q : ℕ) → m.state ≡ at
       → PutEnds wsize sent turn came old at m.write.state → StoreLeft old.seq old.back q (put_role at m.write.state) → puts.Takes at wsize m sent turn came old next new after
       → StoreStep (NotAgain f sent old.repeats) q old after next (put_role new.state new.write.state)
   put-takes putting.Idle wsize m sent turn came old next new after q is ends k t = put-stays (NotAgain f sent old.repeats) m putting.Idle old next new after q k is refl t
@@ -264,12 +264,12 @@ module _ (f : List ℕ) where
   close-none (closing.ToRemove removal) seq q back k = absurd k
   close-none (closing.Removing removal) seq q back k = absurd k
 
-  pub write-store : (F : List Repeat → Type 0) (q : ℕ) (old after : Shelf) (next : Next) (state : Writing) → WriteStep f F q old after next state → StoreStep F q old after next (storing state)
+  pub write-store : (F : List Repeat → Type 0) (q : ℕ) (old after : Shelf) (next : Step) (state : Writing) → WriteStep f F q old after next state → StoreStep F q old after next (storing state)
   write-store F q old after next state (w.goes s) = stays s
   write-store F q old after next state (w.refused fault is) = over _ is
   write-store F q old after next state (w.adds is) = over _ is
 
-  file-stores : (F : List Repeat → Type 0) (m : FileMachine) (wsize : ℕ) (turn : Turn) (old : Shelf) (next : Next) (new : FileMachine) (after : Shelf) (q : ℕ) → StoreLeft old.seq old.back q (file_role m)
+  file-stores : (F : List Repeat → Type 0) (m : FileMachine) (wsize : ℕ) (turn : Turn) (old : Shelf) (next : Step) (new : FileMachine) (after : Shelf) (q : ℕ) → StoreLeft old.seq old.back q (file_role m)
       → steps.Resumes wsize m turn old next new after → StoreStep F q old after next (file_role new)
   file-stores F (files.Write m) wsize turn old next new after q k s =
       store-to F q old after next (storing s.state) (file_role new) (ap file_role s.machine_is)
@@ -287,7 +287,7 @@ module _ (f : List ℕ) where
   FileEnds wsize sent turn came old (files.Put m) = PutEnds wsize sent turn came old m.state m.write.state
   FileEnds wsize sent turn came old m = Unit {0}
 
-  file-takes : (m : FileMachine) (wsize : ℕ) (sent turn : Turn) (came : Result Reply Fault) (old : Shelf) (next : Next) (new : FileMachine) (after : Shelf) (q : ℕ)
+  file-takes : (m : FileMachine) (wsize : ℕ) (sent turn : Turn) (came : Result Reply Fault) (old : Shelf) (next : Step) (new : FileMachine) (after : Shelf) (q : ℕ)
       → FileEnds wsize sent turn came old m → StoreLeft old.seq old.back q (file_role m) → steps.Takes wsize m sent turn came old next new after
       → StoreStep (NotAgain f sent old.repeats) q old after next (file_role new)
   file-takes (files.Write m) wsize sent turn came old next new after q ends k s =
@@ -314,7 +314,7 @@ module _ (f : List ℕ) where
   placed-waits dir (openers.Put m) seq q back k = (k, k, refl)
   placed-waits dir (openers.Open m) seq q back k = absurd k
 
-  path-follows : (F : List Repeat → Type 0) (step : WalkNext) (wsize : ℕ) (m : PathMachine) (turn : Turn) (old : Shelf) (next : Next) (new : PathMachine) (after : Shelf) (q : ℕ) → m.arrived ≡ false
+  path-follows : (F : List Repeat → Type 0) (step : WalkStep) (wsize : ℕ) (m : PathMachine) (turn : Turn) (old : Shelf) (next : Step) (new : PathMachine) (after : Shelf) (q : ℕ) → m.arrived ≡ false
       → StoreLeft old.seq old.back q (path_role false m.opener) → paths.Follows step wsize m turn old next new after → StoreStep F q old after next (path_role new.arrived new.opener)
   path-follows F (walks.Send call) wsize m turn old next new after q way k r =
       let p = placed-waits [] m.opener old.seq q old.back k in
@@ -327,7 +327,7 @@ module _ (f : List ℕ) where
       (file-stores F (file_of (placed dir m.opener)) wsize turn old next (file_of r.opener) after q (placed-waits dir m.opener old.seq q old.back k).0 r.step)
   path-follows F (walks.Refused fault) wsize m turn old next new after q way k r = over _ r.0
 
-  pub path-stores : (F : List Repeat → Type 0) (b : Bool) (wsize : ℕ) (m : PathMachine) (turn : Turn) (old : Shelf) (next : Next) (new : PathMachine) (after : Shelf) (q : ℕ) → m.arrived ≡ b
+  pub path-stores : (F : List Repeat → Type 0) (b : Bool) (wsize : ℕ) (m : PathMachine) (turn : Turn) (old : Shelf) (next : Step) (new : PathMachine) (after : Shelf) (q : ℕ) → m.arrived ≡ b
       → StoreLeft old.seq old.back q (path_role b m.opener) → paths.PathResumes b wsize m turn old next new after → StoreStep F q old after next (path_role new.arrived new.opener)
   path-stores F true wsize m turn old next new after q is k r =
       store-to F q old after next (file_role (file_of r.opener)) (path_role new.arrived new.opener) (path-as m r.opener new is r.machine_is)
@@ -340,7 +340,7 @@ module _ (f : List ℕ) where
   PathEnds true wsize sent turn came old opener = FileEnds wsize sent turn came old (file_of opener)
   PathEnds false wsize sent turn came old opener = Unit {0}
 
-  path-takes : (b : Bool) (wsize : ℕ) (m : PathMachine) (sent turn : Turn) (came : Result Reply Fault) (old : Shelf) (next : Next) (new : PathMachine) (after : Shelf) (q : ℕ) → m.arrived ≡ b
+  path-takes : (b : Bool) (wsize : ℕ) (m : PathMachine) (sent turn : Turn) (came : Result Reply Fault) (old : Shelf) (next : Step) (new : PathMachine) (after : Shelf) (q : ℕ) → m.arrived ≡ b
       → PathEnds b wsize sent turn came old m.opener → StoreLeft old.seq old.back q (path_role b m.opener) → paths.PathTakes b wsize m sent turn came old next new after
       → StoreStep (NotAgain f sent old.repeats) q old after next (path_role new.arrived new.opener)
   path-takes true wsize m sent turn came old next new after q is ends k r =
@@ -356,7 +356,7 @@ module _ (f : List ℕ) where
 
   -- ---- any operation that writes
 
-  pub all-stores : (F : List Repeat → Type 0) (m : Machine) (wsize : ℕ) (turn : Turn) (old : Shelf) (next : Next) (new : Machine) (after : Shelf) (q : ℕ) → StoreLeft old.seq old.back q (role_of m)
+  pub all-stores : (F : List Repeat → Type 0) (m : Machine) (wsize : ℕ) (turn : Turn) (old : Shelf) (next : Step) (new : Machine) (after : Shelf) (q : ℕ) → StoreLeft old.seq old.back q (role_of m)
       → Resumes wsize m turn old next new after → StoreStep F q old after next (role_of new)
   all-stores F (machines.File m) wsize turn old next new after q k s =
       store-to F q old after next (file_role s.machine) (role_of new) (ap role_of s.machine_is) (file-stores F m wsize turn old next s.machine after q k s.step)
@@ -369,7 +369,7 @@ module _ (f : List ℕ) where
   AllEnds wsize sent turn came old (machines.Path m) = PathEnds m.arrived wsize sent turn came old m.opener
   AllEnds wsize sent turn came old (machines.Name m) = Unit {0}
 
-  pub all-takes : (m : Machine) (wsize : ℕ) (sent turn : Turn) (came : Result Reply Fault) (old : Shelf) (next : Next) (new : Machine) (after : Shelf) (q : ℕ) → AllEnds wsize sent turn came old m
+  pub all-takes : (m : Machine) (wsize : ℕ) (sent turn : Turn) (came : Result Reply Fault) (old : Shelf) (next : Step) (new : Machine) (after : Shelf) (q : ℕ) → AllEnds wsize sent turn came old m
       → StoreLeft old.seq old.back q (role_of m) → Takes wsize m sent turn came old next new after → StoreStep (NotAgain f sent old.repeats) q old after next (role_of new)
   all-takes (machines.File m) wsize sent turn came old next new after q ends k s =
       store-to (NotAgain f sent old.repeats) q old after next (file_role s.machine) (role_of new) (ap role_of s.machine_is) (file-takes m wsize sent turn came old next s.machine after q ends k s.step)

@@ -1,5 +1,5 @@
 -- A lane goes on, or its operation begins: what the session may still make of the COMMITs of the file after it.
-use Rattle.core_counts.proofs.Prelude.{◌≡◌, ◌<◌, ◌≤◌, ◌*◌, inl, inr, ℕ, false, List, [], ◌∷◌, ◌++◌, length, refl, sym, subst, ◌∙◌, arith, Entry, Began, Sent, Call, Op, Placed, IsBusy, Terms, length_last, Next, Send, Wait, Done, Repeat, Mounted, Machine, machine_of, Fits, Busy, Setup, IsIdle, with_state, Stirs, counted, StartsLane, View, turn_at, in_flight, Counts, KnowsRoot, Reaches, GoesWith, counts-calls, begins-unbegun, Known, Runs, LanesKnown, number_of, lanes-under-way, lanes-begin, at-set, at-push, to-map, LaneLive, keeps-placed, Rows, same-rows, silent-grow, stirs-stay, starts-stay, Asks, AreAsked, calls-laws, Elsewhere, keeps-wholly, starts-wholly, story-turns, Turns}
+use Rattle.core_counts.proofs.Prelude.{◌≡◌, ◌<◌, ◌≤◌, ◌*◌, inl, inr, ℕ, false, List, [], ◌∷◌, ◌++◌, length, refl, sym, subst, ◌∙◌, arith, Entry, Began, Sent, Call, Op, Placed, IsBusy, Terms, length_last, Step, Send, Wait, Done, Repeat, Mounted, Machine, machine_of, Fits, Busy, Setup, IsIdle, with_state, Stirs, counted, StartsLane, View, turn_at, in_flight, Counts, KnowsRoot, Reaches, GoesWith, counts-calls, begins-unbegun, Known, Runs, LanesKnown, number_of, lanes-under-way, lanes-begin, at-set, at-push, to-map, LaneLive, keeps-placed, Rows, same-rows, silent-grow, stirs-stay, starts-stay, Asks, AreAsked, calls-laws, Elsewhere, keeps-wholly, starts-wholly, story-turns, Turns}
 use Rattle.core_facts.proofs.Walks.{Stays}
 use Rattle.core_answers.proofs.writes.AllFits.{all-resumes, all-starts}
 use Rattle.core_session.proofs.room.Writers.{elsewhere-by}
@@ -27,7 +27,7 @@ some-stays = record {
   sets = λ old at number was state shelf there p. p;
 }
 
-pub some-in-flight : (others : ℕ) (machine : Machine) (next : Next) → Counts next others machine → (call : Call) → next ≡ Send call → 1 ≤ in_flight machine
+pub some-in-flight : (others : ℕ) (machine : Machine) (next : Step) → Counts next others machine → (call : Call) → next ≡ Send call → 1 ≤ in_flight machine
 some-in-flight others machine (Send c) k call same = let one = k.0 in omega (arith, one)
 some-in-flight others machine Wait k call same = absurd (cc)
 some-in-flight others machine (Done answer) k call same = absurd (cc)

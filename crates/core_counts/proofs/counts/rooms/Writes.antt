@@ -1,11 +1,11 @@
 -- What each step of a write makes of the COMMITs of a file that it may still ask for: those of the save by which it makes room now, and two for each further save.
-use Rattle.core_counts.proofs.Prelude.{◌≡◌, ◌≢◌, ◌≤◌, ◌<◌, ◌⊎◌, inl, inr, ◌+◌, ◌*◌, ◌-◌, ℕ, Bool, true, false, List, Result, Ok, Err, refl, sym, ap, subst, ◌∙◌, arith, Pending, of_file, same-or, IsCommitOf, commit, Fault, Call, Reply, ended, is_first, Next, Repeat, Shelf, Turn, is_full, file_to_write, joined, Saving, WriteFile, Writing, by-step, ends_as, Saves, IsEmpty}
+use Rattle.core_counts.proofs.Prelude.{◌≡◌, ◌≢◌, ◌≤◌, ◌<◌, ◌⊎◌, inl, inr, ◌+◌, ◌*◌, ◌-◌, ℕ, Bool, true, false, List, Result, Ok, Err, refl, sym, ap, subst, ◌∙◌, arith, Pending, of_file, same-or, IsCommitOf, commit, Fault, Call, Reply, ended, is_first, Step, Repeat, Shelf, Turn, is_full, file_to_write, joined, Saving, WriteFile, Writing, by-step, ends_as, Saves, IsEmpty}
 use Rattle.core_answers.proofs.asks.SavedCalls.{goes-on, takes-on}
 use Rattle.core_session.proofs.asked.Empty.{oldest-some}
 use Rattle.world_model.specs.declared.answer.Answer.TheVariants as answers
 use Rattle.world_model.specs.declared.answer.Value.TheVariants as values
 use Rattle.client_shelf.specs.LaneFiles.{left as left_order}
-use Rattle.client_shelf.specs.declared.next.Next.TheVariants as nexts
+use Rattle.client_shelf.specs.declared.step.Step.TheVariants as nexts
 use Rattle.file_ops.specs.Saves as saves
 use Rattle.file_ops.specs.Syncs as syncs
 use Rattle.file_ops.specs.WriteFile as writes
@@ -20,13 +20,13 @@ use Rattle.core_counts.proofs.counts.commits.Saves.{left_to, Took, again, on, go
 use Rattle.core_counts.proofs.counts.engine.Steps.{one-longer}
 
 -- it asks for such a call
-abbrev pub AsksSuch : Next → (Call → Type 0) → Type 0
+abbrev pub AsksSuch : Step → (Call → Type 0) → Type 0
 AsksSuch next P = (call : Call) → next ≡ nexts.Send call → P call
 
 same-call : (a b : Call) → nexts.Send a ≡ nexts.Send b → a ≡ b
 same-call a b e = cc
 
-pub wait-none : {X : Type 0} → (next : Next) (call : Call) → next ≡ nexts.Wait → next ≡ nexts.Send call → X
+pub wait-none : {X : Type 0} → (next : Step) (call : Call) → next ≡ nexts.Wait → next ≡ nexts.Send call → X
 wait-none next call is sends = absurd (let no_way : nexts.Wait ≡ nexts.Send call = sym is ∙ sends in cc)
 
 module _ (f : List ℕ) where
@@ -46,7 +46,7 @@ module _ (f : List ℕ) where
   WriteLeft seq back q (writing.Room file s) = RoomLeft seq back q s
 
   -- It goes on, and adds no bytes. F: of the table of repeats where a call isn't made again.
-  pub record Stays (F : List Repeat → Type 0) (had : ℕ) (old after : Shelf) (next : Next) (Holds : ℕ → Type 0) : Type 0 where
+  pub record Stays (F : List Repeat → Type 0) (had : ℕ) (old after : Shelf) (next : Step) (Holds : ℕ → Type 0) : Type 0 where
     pub going : IsGoing next
     pub seq : after.seq ≡ old.seq
     pub left : ℕ
@@ -54,7 +54,7 @@ module _ (f : List ℕ) where
     pub less : left ≤ had
     pub asks : (call : Call) → next ≡ nexts.Send call → IsCommitOf f call → F after.repeats → left + 1 ≤ had
 
-  pub data WriteStep (F : List Repeat → Type 0) (had : ℕ) (old after : Shelf) (next : Next) (new : Writing) : Type 0 where
+  pub data WriteStep (F : List Repeat → Type 0) (had : ℕ) (old after : Shelf) (next : Step) (new : Writing) : Type 0 where
     goes : Stays F had old after next (λ q. WriteLeft after.seq after.back q new) → WriteStep F had old after next new
     refused : (fault : Fault) → next ≡ nexts.Done (answers.Refused fault) → WriteStep F had old after next new
     adds : next ≡ nexts.Done (answers.Done values.Nothing) → WriteStep F had old after next new
@@ -70,13 +70,13 @@ module _ (f : List ℕ) where
   other-save file call apart (inl k) (commit offset count is) = absurd (let no_way = sym k.1 ∙ is in cc)
   other-save file call apart (inr k) (commit offset count is) = absurd (apart (let same = sym k ∙ is in cc))
 
-  sent-such : (next : Next) (P : Call → Type 0) → Sends next P → AsksSuch next P
+  sent-such : (next : Step) (P : Call → Type 0) → Sends next P → AsksSuch next P
   sent-such (nexts.Send call) P s other is = subst P (same-call call other is) s
   sent-such nexts.Wait P s other is = wait-none nexts.Wait other refl is
   sent-such (nexts.Done answer) P s other is = absurd (cc)
 
   -- what it leaves
-  record Saved (F : Type 0) (seq : ℕ) (back : Pending) (had : ℕ) (next : Next) (new : Saving) : Type 0 where
+  record Saved (F : Type 0) (seq : ℕ) (back : Pending) (had : ℕ) (next : Step) (new : Saving) : Type 0 where
     left : ℕ
     holds : RoomLeft seq back left new
     less : left ≤ had
@@ -114,7 +114,7 @@ module _ (f : List ℕ) where
           }
 
   -- as the write sees it
-  stays-as : (F : List Repeat → Type 0) (had : ℕ) (old shelf after : Shelf) (told : Next) (file : List ℕ) (new : Saving) (next : Next) (state : Writing) → IsGoing told → next ≡ told
+  stays-as : (F : List Repeat → Type 0) (had : ℕ) (old shelf after : Shelf) (told : Step) (file : List ℕ) (new : Saving) (next : Step) (state : Writing) → IsGoing told → next ≡ told
       → state ≡ writing.Room file new → after ≡ shelf → shelf.seq ≡ old.seq → Saved (F shelf.repeats) shelf.seq shelf.back had told new → WriteStep F had old after next state
   stays-as F had old shelf after told file new next state going is state_is same seq s = goes (record {
     going = subst IsGoing (sym is) going;
@@ -125,7 +125,7 @@ module _ (f : List ℕ) where
     asks = λ call sends p fresh. s.asks call (sym is ∙ sends) p (subst (λ (z : Shelf). F z.repeats) same fresh);
   })
 
-  room-led : (F : List Repeat → Type 0) (had lane : ℕ) (old shelf after : Shelf) (file : List ℕ) (new : Saving) (next : Next) (state : Writing) (told : _) → shelf.seq ≡ old.seq
+  room-led : (F : List Repeat → Type 0) (had lane : ℕ) (old shelf after : Shelf) (file : List ℕ) (new : Saving) (next : Step) (state : Writing) (told : _) → shelf.seq ≡ old.seq
       → writes.Leads (writes.room_next told) (writes.room_state told file new) (writes.room_shelf told lane shelf) next state after → EndsSo ⊥ (syncs.sync_next told)
       → Saved (F shelf.repeats) shelf.seq shelf.back had (syncs.sync_next told) new → WriteStep F had old after next state
   room-led F had lane old shelf after file new next state told seq l up s = by-step
@@ -141,7 +141,7 @@ module _ (f : List ℕ) where
       done (Ok nothing) l up s = absurd up
       done (Err fault) l up s = refused fault l.gives_next
 
-  saves-room : (F : List Repeat → Type 0) (b : Bool) (wsize lane : ℕ) (file : List ℕ) (s : Saving) (turn : Turn) (old shelf : Shelf) (next : Next) (state : Writing) (after : Shelf) (q : ℕ)
+  saves-room : (F : List Repeat → Type 0) (b : Bool) (wsize lane : ℕ) (file : List ℕ) (s : Saving) (turn : Turn) (old shelf : Shelf) (next : Step) (state : Writing) (after : Shelf) (q : ℕ)
       → shelf.seq ≡ old.seq → RoomLeft shelf.seq shelf.back q s → writes.SavesIf b wsize lane file s turn shelf next state after → WriteStep F q old after next state
   saves-room F false wsize lane file s turn old shelf next state after q seq l k =
       stays-as F q old shelf after nexts.Wait file s next state (inl refl) k.gives_next k.keeps k.shelf_is seq
@@ -153,7 +153,7 @@ module _ (f : List ℕ) where
 
   -- ---- its bytes become pending, or room is made
 
-  pub write-writes : (F : List Repeat → Type 0) (wsize lane : ℕ) (file : List ℕ) (offset : ℕ) (bytes : List ℕ) (turn : Turn) (old shelf : Shelf) (next : Next) (state : Writing) (after : Shelf) (q : ℕ)
+  pub write-writes : (F : List Repeat → Type 0) (wsize lane : ℕ) (file : List ℕ) (offset : ℕ) (bytes : List ℕ) (turn : Turn) (old shelf : Shelf) (next : Step) (state : Writing) (after : Shelf) (q : ℕ)
       → shelf.seq ≡ old.seq → Waits shelf.back q → writes.Writes wsize lane file offset bytes turn shelf next state after → WriteStep F q old after next state
   write-writes F wsize lane file offset bytes turn old shelf next state after q seq w k = by (is_full bytes shelf.back) k
     where
@@ -175,7 +175,7 @@ module _ (f : List ℕ) where
 
   -- ---- a write's steps
 
-  pub write-starts : (F : List Repeat → Type 0) (wsize : ℕ) (m : WriteFile) (turn : Turn) (old : Shelf) (next : Next) (new : WriteFile) (after : Shelf) (q : ℕ) → Waits old.back q
+  pub write-starts : (F : List Repeat → Type 0) (wsize : ℕ) (m : WriteFile) (turn : Turn) (old : Shelf) (next : Step) (new : WriteFile) (after : Shelf) (q : ℕ) → Waits old.back q
       → writes.Starts wsize m turn old next new after → WriteStep F q old after next new.state
   write-starts F wsize m turn old next new after q w s = by (file_to_write m.lane m.slot old.opens) s
     where
@@ -185,7 +185,7 @@ module _ (f : List ℕ) where
       by (Ok file) (inr k) = refused _ k.refuses.gives_next
 
   -- it rests
-  idle-rests : (F : List Repeat → Type 0) (old after : Shelf) (next : Next) (state : Writing) (q : ℕ) → Waits old.back q → writes.Leads nexts.Wait writing.Idle old next state after
+  idle-rests : (F : List Repeat → Type 0) (old after : Shelf) (next : Step) (state : Writing) (q : ℕ) → Waits old.back q → writes.Leads nexts.Wait writing.Idle old next state after
       → WriteStep F q old after next state
   idle-rests F old after next state q w k = goes (record {
     going = inl k.gives_next;
@@ -196,7 +196,7 @@ module _ (f : List ℕ) where
     asks = λ call sends p fresh. wait-none next call k.gives_next sends;
   })
 
-  pub write-resumes : (F : List Repeat → Type 0) (at : Writing) (wsize lane : ℕ) (turn : Turn) (old : Shelf) (next : Next) (state : Writing) (after : Shelf) (q : ℕ) → WriteLeft old.seq old.back q at
+  pub write-resumes : (F : List Repeat → Type 0) (at : Writing) (wsize lane : ℕ) (turn : Turn) (old : Shelf) (next : Step) (state : Writing) (after : Shelf) (q : ℕ) → WriteLeft old.seq old.back q at
       → writes.ResumesIn at wsize lane turn old next state after → WriteStep F q old after next state
   write-resumes F writing.Idle wsize lane turn old next state after q w k = idle-rests F old after next state q w k
   write-resumes F (writing.Room file s) wsize lane turn old next state after q l k = saves-room F (is_first lane old.order) wsize lane file s turn old old next state after q refl l k
@@ -247,13 +247,13 @@ module _ (f : List ℕ) where
             asks = λ call sends p fresh. let one = spent.asks call sends p in omega (arith, one, few);
           }
 
-  module _ (wsize : ℕ) (m : WriteFile) (sent turn : Turn) (came : Result Reply Fault) (old : Shelf) (next : Next) (state : Writing) (after : Shelf) (q : ℕ) (file : List ℕ) (s : Saving)
+  module _ (wsize : ℕ) (m : WriteFile) (sent turn : Turn) (came : Result Reply Fault) (old : Shelf) (next : Step) (state : Writing) (after : Shelf) (q : ℕ) (file : List ℕ) (s : Saving)
       (ends : f ≡ s.file → EndsAbove wsize sent turn came old s) (l : RoomLeft old.seq old.back q s) (t : writes.TakesSave wsize m sent turn came file s old next state after) where
     abbrev shelf : Shelf
     shelf = record old { attrs = t.attrs; pages = saves.pages_after sent.xid (turn.moment - 1) came s old.back old.pages; back = t.back; repeats = t.repeats }
 
-    abbrev Step : Type 0
-    Step = WriteStep (NotAgain sent old.repeats) q old after next state
+    abbrev StepIs : Type 0
+    StepIs = WriteStep (NotAgain sent old.repeats) q old after next state
 
     waits : saves.Takes wsize sent turn came old.repeats s old.back (ends_as (Ok tt)) t.saved t.back t.repeats → RoomLeft old.seq old.back q s → Waits t.back q
     waits k (elsewhere apart w) = framed old.back t.back q (takes-frame f wsize sent turn came old.repeats s old.back (ends_as (Ok tt)) t.saved t.back t.repeats apart k) w
@@ -264,21 +264,21 @@ module _ (f : List ℕ) where
         by (inr past) = inl (omega (arith, past, low))
 
     done : (result : Result (Unit {0}) Fault) → saves.Takes wsize sent turn came old.repeats s old.back (ends_as result) t.saved t.back t.repeats
-        → writes.Follows (ends_as result) wsize m file t.saved turn shelf next state after → Step
+        → writes.Follows (ends_as result) wsize m file t.saved turn shelf next state after → StepIs
     done (Ok nothing) k f_ =
         write-writes (NotAgain sent old.repeats) wsize m.lane file m.offset (writes.made_bytes m.text) turn old (record shelf { order = left_order m.lane shelf.order }) next state after q refl (waits k l) f_
     done (Err fault) k f_ = refused fault f_.gives_next
 
-    follows : (told : _) → saves.Takes wsize sent turn came old.repeats s old.back told t.saved t.back t.repeats → writes.Follows told wsize m file t.saved turn shelf next state after → Step
+    follows : (told : _) → saves.Takes wsize sent turn came old.repeats s old.back told t.saved t.back t.repeats → writes.Follows told wsize m file t.saved turn shelf next state after → StepIs
     follows told k f_ = by-step
-        (λ g. saves.Takes wsize sent turn came old.repeats s old.back g t.saved t.back t.repeats → writes.Follows g wsize m file t.saved turn shelf next state after → Step)
+        (λ g. saves.Takes wsize sent turn came old.repeats s old.back g t.saved t.back t.repeats → writes.Follows g wsize m file t.saved turn shelf next state after → StepIs)
         (λ call k f_. stays-as (NotAgain sent old.repeats) q old shelf after (nexts.Send call) file t.saved next state (inr (call, refl)) f_.gives_next f_.keeps f_.shelf_is refl
         (takes-saved wsize sent turn came old.repeats s old.seq old.back _ t.saved t.back t.repeats q k l))
         (λ k f_. stays-as (NotAgain sent old.repeats) q old shelf after nexts.Wait file t.saved next state (inl refl) f_.gives_next f_.keeps f_.shelf_is refl
         (takes-saved wsize sent turn came old.repeats s old.seq old.back _ t.saved t.back t.repeats q k l))
         done told k f_
 
-  pub write-takes : (at : Writing) (wsize : ℕ) (m : WriteFile) (sent turn : Turn) (came : Result Reply Fault) (old : Shelf) (next : Next) (state : Writing) (after : Shelf) (q : ℕ)
+  pub write-takes : (at : Writing) (wsize : ℕ) (m : WriteFile) (sent turn : Turn) (came : Result Reply Fault) (old : Shelf) (next : Step) (state : Writing) (after : Shelf) (q : ℕ)
       → RoomEnds wsize sent turn came old at → WriteLeft old.seq old.back q at → writes.TakesIn at wsize m sent turn came old next state after
       → WriteStep (NotAgain sent old.repeats) q old after next state
   write-takes writing.Idle wsize m sent turn came old next state after q ends w k = idle-rests (NotAgain sent old.repeats) old after next state q w k

@@ -1,11 +1,11 @@
 -- What a step of an operation on names leaves of the number of the next hidden name: it stays, but where a remove looks for such a name.
-use Rattle.core_counts.proofs.Prelude.{◌≡◌, ℕ, Bool, true, false, List, Option, Some, None, Result, Ok, Err, inl, inr, refl, sym, ap, subst, ◌∙◌, ◌<◌, ◌+◌, arith, if◌then◌else◌, Attr, Fault, Value, Call, Reply, Next, Shelf, Turn, ListDir, Stat, SymLink, Visit, Walk, WalkNext, found_by, look_again, text_call, TakesText, TakesShow, sym_link_call, TakesSymLink, Link, Pair, PairNext, Deed, Look, Seek, Move, Remove, RemoveFile, Rename, access_call, deed_call, TakesLink, TakesRename, NameMachine}
+use Rattle.core_counts.proofs.Prelude.{◌≡◌, ℕ, Bool, true, false, List, Option, Some, None, Result, Ok, Err, inl, inr, refl, sym, ap, subst, ◌∙◌, ◌<◌, ◌+◌, arith, if◌then◌else◌, Attr, Fault, Value, Call, Reply, Step, Shelf, Turn, ListDir, Stat, SymLink, Visit, Walk, WalkStep, found_by, look_again, text_call, TakesText, TakesShow, sym_link_call, TakesSymLink, Link, Pair, PairStep, Deed, Look, Seek, Move, Remove, RemoveFile, Rename, access_call, deed_call, TakesLink, TakesRename, NameMachine}
 use Rattle.name_ops.specs.SymLink.{sym_linked_told, ChangesByCopy}
 use Rattle.name_ops.specs.Access.{access_attr, access_told}
 use Rattle.name_ops.specs.DirChange.{deed_told}
 use Rattle.silly_rename.specs.Plans.{silly_name}
 use Rattle.name_ops.specs.declared.told.Told.{Told}
-use Rattle.name_ops.specs.declared.walk.WalkNext.TheVariants as walks
+use Rattle.name_ops.specs.declared.walk.WalkStep.TheVariants as walks
 use Rattle.name_ops.specs.Changing as changing
 use Rattle.name_ops.specs.ListDir as listing
 use Rattle.name_ops.specs.Stat as stats
@@ -29,7 +29,7 @@ followed-counter : (busy : Bool) (told : Result (List ℕ) Fault) (w : Walk) (tu
 followed-counter true told w turn shelf = refl
 followed-counter false told w turn shelf = told-counter told w turn shelf
 
-pub walk-counter : (name : Option (List ℕ)) (w : Walk) (sent turn : Turn) (came : Result Reply Fault) (old : Shelf) (step : WalkNext) (new : Walk) (after : Shelf)
+pub walk-counter : (name : Option (List ℕ)) (w : Walk) (sent turn : Turn) (came : Result Reply Fault) (old : Shelf) (step : WalkStep) (new : Walk) (after : Shelf)
     → walking.Takes name w sent turn came old step new after → after.counter ≡ old.counter
 walk-counter None w sent turn came old step new after t = ap (λ (k : Shelf). k.counter) t.shelf_is
 walk-counter (Some name) w sent turn came old step new after t =
@@ -42,27 +42,27 @@ if-counter false one other old f g = g
 visit-counter : (v : Visit) (turn : Turn) (old after : Shelf) → after ≡ visiting.visit_shelf v turn old → after.counter ≡ old.counter
 visit-counter v turn old after is = ap (λ (k : Shelf). k.counter) is ∙ if-counter v.asked old (walking.go_shelf v.walk turn old) old refl refl
 
-walks-counter : (call : List ℕ → Call) (v : Visit) (sent turn : Turn) (came : Result Reply Fault) (old : Shelf) (next : Next) (new : Visit) (after : Shelf)
+walks-counter : (call : List ℕ → Call) (v : Visit) (sent turn : Turn) (came : Result Reply Fault) (old : Shelf) (next : Step) (new : Visit) (after : Shelf)
     → visiting.Walks call v sent turn came old next new after → after.counter ≡ old.counter
 walks-counter call v sent turn came old next new after w =
     walk-counter (walking.waiting_name v.walk) v.walk sent turn came old w.takes.step w.takes.walked.walk after w.takes.takes
 
-change-counter : (asked : Bool) (call : List ℕ → Call) (told : Told) (v : Visit) (sent turn : Turn) (came : Result Reply Fault) (old : Shelf) (next : Next) (new : Visit) (after : Shelf)
+change-counter : (asked : Bool) (call : List ℕ → Call) (told : Told) (v : Visit) (sent turn : Turn) (came : Result Reply Fault) (old : Shelf) (next : Step) (new : Visit) (after : Shelf)
     → changing.TakesChange asked call told v sent turn came old next new after → after.counter ≡ old.counter
 change-counter true call told v sent turn came old next new after t = ap (λ (k : Shelf). k.counter) t.1.others
 change-counter false call told v sent turn came old next new after t = walks-counter call v sent turn came old next new after t
 
-show-counter : (asked : Bool) (call : List ℕ → Call) (attr : Option Attr) (told : Result Value Fault) (v : Visit) (sent turn : Turn) (came : Result Reply Fault) (old : Shelf) (next : Next)
+show-counter : (asked : Bool) (call : List ℕ → Call) (attr : Option Attr) (told : Result Value Fault) (v : Visit) (sent turn : Turn) (came : Result Reply Fault) (old : Shelf) (next : Step)
     (new : Visit) (after : Shelf) → TakesShow asked call attr told v sent turn came old next new after → after.counter ≡ old.counter
 show-counter true call attr told v sent turn came old next new after t = ap (λ (k : Shelf). k.counter) t.1.others
 show-counter false call attr told v sent turn came old next new after t = walks-counter call v sent turn came old next new after t
 
-text-counter : (asked : Bool) (v : Visit) (sent turn : Turn) (came : Result Reply Fault) (old : Shelf) (next : Next) (new : Visit) (after : Shelf)
+text-counter : (asked : Bool) (v : Visit) (sent turn : Turn) (came : Result Reply Fault) (old : Shelf) (next : Step) (new : Visit) (after : Shelf)
     → TakesText asked v sent turn came old next new after → after.counter ≡ old.counter
 text-counter true v sent turn came old next new after t = ap (λ (k : Shelf). k.counter) t.1.shows.others
 text-counter false v sent turn came old next new after t = walks-counter text_call v sent turn came old next new after t
 
-sym-counter : (asked : Bool) (m : SymLink) (sent turn : Turn) (came : Result Reply Fault) (old : Shelf) (next : Next) (new : Visit) (after : Shelf)
+sym-counter : (asked : Bool) (m : SymLink) (sent turn : Turn) (came : Result Reply Fault) (old : Shelf) (next : Step) (new : Visit) (after : Shelf)
     → TakesSymLink asked m sent turn came old next new after → after.counter ≡ old.counter
 sym-counter true m sent turn came old next new after t = by t.1
   where
@@ -72,19 +72,19 @@ sym-counter true m sent turn came old next new after t = by t.1
 sym-counter false m sent turn came old next new after t =
     walk-counter (walking.waiting_name m.visit.walk) m.visit.walk sent turn came old t.takes.step t.takes.walked.walk after t.takes.takes
 
-stat-counter : (asked : Bool) (m : Stat) (sent turn : Turn) (came : Result Reply Fault) (old : Shelf) (next : Next) (new : Stat) (after : Shelf)
+stat-counter : (asked : Bool) (m : Stat) (sent turn : Turn) (came : Result Reply Fault) (old : Shelf) (next : Step) (new : Stat) (after : Shelf)
     → stats.StatTakes asked m sent turn came old next new after → after.counter ≡ old.counter
 stat-counter true m sent turn came old next new after t = ap (λ (k : Shelf). k.counter) t.1.others
 stat-counter false m sent turn came old next new after t = walk-counter (walking.waiting_name m.walk) m.walk sent turn came old t.step t.walked.walk after t.takes
 
-list-counter : (asked : Bool) (m : ListDir) (sent turn : Turn) (came : Result Reply Fault) (old : Shelf) (next : Next) (new : ListDir) (after : Shelf)
+list-counter : (asked : Bool) (m : ListDir) (sent turn : Turn) (came : Result Reply Fault) (old : Shelf) (next : Step) (new : ListDir) (after : Shelf)
     → listing.TakesList asked m sent turn came old next new after → after.counter ≡ old.counter
 list-counter true m sent turn came old next new after t = ap (λ (k : Shelf). k.counter) t.others
 list-counter false m sent turn came old next new after t = walks-counter (listing.page_call m.place) m.visit sent turn came old next t.visit after t.walks
 
 -- ---- two walks
 
-first-counter : (step : WalkNext) (p : Pair) (turn : Turn) (shelf : Shelf) → (pairs.first_shelf step p turn shelf).counter ≡ shelf.counter
+first-counter : (step : WalkStep) (p : Pair) (turn : Turn) (shelf : Shelf) → (pairs.first_shelf step p turn shelf).counter ≡ shelf.counter
 first-counter (walks.Send call) p turn shelf = refl
 first-counter walks.Wait p turn shelf = refl
 first-counter (walks.At first) p turn shelf = refl
@@ -94,18 +94,18 @@ pair-counter : (p : Pair) (turn : Turn) (old after : Shelf) → after ≡ pairs.
 pair-counter p turn old after is = ap (λ (k : Shelf). k.counter) is
     ∙ if-counter (pairs.waits p) old (pairs.on_shelf p turn old) old refl (first-counter (walking.go_next p.first turn old) (pairs.walked_first p turn old) turn (walking.go_shelf p.first turn old))
 
-pair-took : (b : Bool) (p : Pair) (sent turn : Turn) (came : Result Reply Fault) (old : Shelf) (next : PairNext) (new : Pair) (after : Shelf)
+pair-took : (b : Bool) (p : Pair) (sent turn : Turn) (came : Result Reply Fault) (old : Shelf) (next : PairStep) (new : Pair) (after : Shelf)
     → pairs.PairTakes b p sent turn came old next new after → after.counter ≡ old.counter
 pair-took true p sent turn came old next new after t =
     ap (λ (k : Shelf). k.counter) t.shelf_is ∙ first-counter t.step t.walked turn t.heard ∙ walk-counter (walking.waiting_name p.first) p.first sent turn came old t.step t.walked.first t.heard t.takes
 pair-took false p sent turn came old next new after t = walk-counter (walking.waiting_name p.second) p.second sent turn came old t.step t.walked.second after t.takes
 
-rename-counter : (asked : Bool) (m : Rename) (sent turn : Turn) (came : Result Reply Fault) (old : Shelf) (next : Next) (new : Pair) (after : Shelf)
+rename-counter : (asked : Bool) (m : Rename) (sent turn : Turn) (came : Result Reply Fault) (old : Shelf) (next : Step) (new : Pair) (after : Shelf)
     → TakesRename asked m sent turn came old next new after → after.counter ≡ old.counter
 rename-counter true m sent turn came old next new after t = ap (λ (k : Shelf). k.counter) t.1.others
 rename-counter false m sent turn came old next new after t = pair-took m.pair.first.asked m.pair sent turn came old t.step new after t.takes
 
-link-counter : (asked : Bool) (m : Link) (sent turn : Turn) (came : Result Reply Fault) (old : Shelf) (next : Next) (new : Pair) (after : Shelf)
+link-counter : (asked : Bool) (m : Link) (sent turn : Turn) (came : Result Reply Fault) (old : Shelf) (next : Step) (new : Pair) (after : Shelf)
     → TakesLink asked m sent turn came old next new after → after.counter ≡ old.counter
 link-counter true m sent turn came old next new after t = ap (λ (k : Shelf). k.counter) t.1.others
 link-counter false m sent turn came old next new after t = pair-took m.pair.first.asked m.pair sent turn came old t.step new after t.takes
@@ -140,7 +140,7 @@ first-below : (any : Bool) (n : ℕ) → DeedBelow n (Some (removals.first_deed 
 first-below true n = tt
 first-below false n = tt
 
-follows-below : (step : WalkNext) (room : Bool) (m : RemoveFile) (opens : _) (next : Next) (new : RemoveFile) → removals.Follows step room m opens next new → (n : ℕ) → Below m n → Below new n
+follows-below : (step : WalkStep) (room : Bool) (m : RemoveFile) (opens : _) (next : Step) (new : RemoveFile) → removals.Follows step room m opens next new → (n : ℕ) → Below m n → Below new n
 follows-below (walks.Send call) room m opens next new f n k = below-as m new f.1 n k
 follows-below walks.Wait room m opens next new f n k = below-as m new f.1 n k
 follows-below (walks.At dir) room m opens next new f n k = below-as (removals.asked_after m (removals.first_deed f.any) room) new f.machine_is n (first-below f.any n)
@@ -151,7 +151,7 @@ pub record Goes (old after : Shelf) (Was Now : ℕ → Type 0) : Type 0 where
   pub counter : after.counter ≡ old.counter
   pub below : (n : ℕ) → Was n → Now n
 
-removal-goes : (asked : Bool) (m : RemoveFile) (turn : Turn) (old : Shelf) (next : Next) (new : RemoveFile) (after : Shelf) → removals.Resumes asked m turn old next new after
+removal-goes : (asked : Bool) (m : RemoveFile) (turn : Turn) (old : Shelf) (next : Step) (new : RemoveFile) (after : Shelf) → removals.Resumes asked m turn old next new after
     → Goes old after (Below m) (Below new)
 removal-goes true m turn old next new after r = record { counter = ap (λ (k : Shelf). k.counter) r.shelf_is; below = λ n k. below-as m new r.machine_is n k }
 removal-goes false m turn old next new after r = by m.deed refl r
@@ -180,7 +180,7 @@ RemovalTook m came old new after = Took came old after (Below m) (Below new)
 same-took : (m : RemoveFile) (came : Result Reply Fault) (old : Shelf) (new : RemoveFile) (after : Shelf) → after.counter ≡ old.counter → new ≡ m → RemovalTook m came old new after
 same-took m came old new after counter is = stays counter (λ n k. below-as m new is n k)
 
-plans-took : (is_open : Bool) (file found : List ℕ) (m : RemoveFile) (came : Result Reply Fault) (room : Bool) (old heard : Shelf) (next : Next) (new : RemoveFile) (after : Shelf) → heard.counter ≡ old.counter
+plans-took : (is_open : Bool) (file found : List ℕ) (m : RemoveFile) (came : Result Reply Fault) (room : Bool) (old heard : Shelf) (next : Step) (new : RemoveFile) (after : Shelf) → heard.counter ≡ old.counter
     → found_by came ≡ Ok found → removals.Plans is_open file m room heard next new after → RemovalTook m came old new after
 plans-took false file found m came room old heard next new after same told p =
     stays (ap (λ (k : Shelf). k.counter) p.shelf_is ∙ same) (λ n k. below-as (removals.asked_after m Remove room) new p.machine_is n tt)
@@ -189,13 +189,13 @@ plans-took true file found m came room old heard next new after same told p =
     looks r.0 r.1 (ap (λ (k : Shelf). k.counter) p.shelf_is ∙ ap removals.next_number same)
     (below-as (removals.asked_after m (Seek file (silly_name heard.counter)) room) new p.machine_is (old.counter + 1) (record { number = old.counter; is = ap silly_name same; low = omega arith }))
 
-look-took : (again : Bool) (told : Result (List ℕ) Fault) (m : RemoveFile) (came : Result Reply Fault) (room : Bool) (old heard : Shelf) (next : Next) (new : RemoveFile) (after : Shelf)
+look-took : (again : Bool) (told : Result (List ℕ) Fault) (m : RemoveFile) (came : Result Reply Fault) (room : Bool) (old heard : Shelf) (next : Step) (new : RemoveFile) (after : Shelf)
     → heard.counter ≡ old.counter → found_by came ≡ told → removals.FollowsLook again told m room heard next new after → RemovalTook m came old new after
 look-took true told m came room old heard next new after same found f = same-took m came old new after (ap (λ (k : Shelf). k.counter) f.shelf_is ∙ same) f.machine_is
 look-took false (Ok file) m came room old heard next new after same found f = plans-took f.is_open file file m came room old heard next new after same found f.plans
 look-took false (Err fault) m came room old heard next new after same found f = same-took m came old new after (ap (λ (k : Shelf). k.counter) f.shelf_is ∙ same) f.machine_is
 
-seek-took : (again : Bool) (told : Result (List ℕ) Fault) (file to : List ℕ) (m : RemoveFile) (came : Result Reply Fault) (room : Bool) (old heard : Shelf) (next : Next) (new : RemoveFile) (after : Shelf)
+seek-took : (again : Bool) (told : Result (List ℕ) Fault) (file to : List ℕ) (m : RemoveFile) (came : Result Reply Fault) (room : Bool) (old heard : Shelf) (next : Step) (new : RemoveFile) (after : Shelf)
     → heard.counter ≡ old.counter → found_by came ≡ told → removals.FollowsSeek again told file to m room heard next new after → RemovalTook m came old new after
 seek-took true told file to m came room old heard next new after same found f = same-took m came old new after (ap (λ (k : Shelf). k.counter) f.shelf_is ∙ same) f.machine_is
 seek-took false (Ok there) file to m came room old heard next new after same found f = plans-took true file there m came room old heard next new after same found f
@@ -208,7 +208,7 @@ seek-took false (Err fault) file to m came room old heard next new after same fo
     by true is = stays counter (λ n k. below-as (removals.asked_after m (Move file to) room) new is n tt)
     by false is = stays counter (λ n k. below-as m new is n k)
 
-deed-took : (deed : Deed) (m : RemoveFile) (sent turn : Turn) (came : Result Reply Fault) (old : Shelf) (next : Next) (new : RemoveFile) (after : Shelf)
+deed-took : (deed : Deed) (m : RemoveFile) (sent turn : Turn) (came : Result Reply Fault) (old : Shelf) (next : Step) (new : RemoveFile) (after : Shelf)
     → removals.TakesDeed deed m sent turn came old next new after → RemovalTook m came old new after
 deed-took Look m sent turn came old next new after t =
     look-took (look_again sent turn came old) (found_by came) m came turn.room old t.heard next new after (ap (λ (k : Shelf). k.counter) t.hears.others) refl t.follows
@@ -217,7 +217,7 @@ deed-took (Seek file to) m sent turn came old next new after t =
 deed-took (Move file to) m sent turn came old next new after t = same-took m came old new after (ap (λ (k : Shelf). k.counter) t.1.others) t.0
 deed-took Remove m sent turn came old next new after t = same-took m came old new after (ap (λ (k : Shelf). k.counter) t.1.others) t.0
 
-removal-took : (deed : Option Deed) (m : RemoveFile) (sent turn : Turn) (came : Result Reply Fault) (old : Shelf) (next : Next) (new : RemoveFile) (after : Shelf)
+removal-took : (deed : Option Deed) (m : RemoveFile) (sent turn : Turn) (came : Result Reply Fault) (old : Shelf) (next : Step) (new : RemoveFile) (after : Shelf)
     → removals.Takes deed m sent turn came old next new after → RemovalTook m came old new after
 removal-took (Some deed) m sent turn came old next new after t = by m.asked t
   where
@@ -244,7 +244,7 @@ NameBelow (machines.List m) counter = Unit {0}
 name-as : (to new : NameMachine) → new ≡ to → (n : ℕ) → NameBelow to n → NameBelow new n
 name-as to new is n k = subst (λ (m : NameMachine). NameBelow m n) (sym is) k
 
-pub name-goes : (m : NameMachine) (turn : Turn) (old : Shelf) (next : Next) (new : NameMachine) (after : Shelf) → steps.NameGoes m turn old next new after → Goes old after (NameBelow m) (NameBelow new)
+pub name-goes : (m : NameMachine) (turn : Turn) (old : Shelf) (next : Step) (new : NameMachine) (after : Shelf) → steps.NameGoes m turn old next new after → Goes old after (NameBelow m) (NameBelow new)
 name-goes (machines.Change m) turn old next new after g = record { counter = visit-counter m.visit turn old after g.shelf_is; below = λ n k. name-as _ new g.machine_is n tt }
 name-goes (machines.Stat m) turn old next new after g =
     record { counter = ap (λ (k : Shelf). k.counter) g.shelf_is ∙ if-counter m.asked old (walking.go_shelf m.walk turn old) old refl refl; below = λ n k. name-as _ new g.machine_is n tt }
@@ -260,7 +260,7 @@ name-goes (machines.List m) turn old next new after g = record { counter = visit
 took-as : (m to new : NameMachine) (came : Result Reply Fault) (old after : Shelf) → new ≡ to → Took came old after (NameBelow m) (NameBelow to) → Took came old after (NameBelow m) (NameBelow new)
 took-as m to new came old after is t = subst (λ (k : NameMachine). Took came old after (NameBelow m) (NameBelow k)) (sym is) t
 
-pub name-takes : (m : NameMachine) (sent turn : Turn) (came : Result Reply Fault) (old : Shelf) (next : Next) (new : NameMachine) (after : Shelf)
+pub name-takes : (m : NameMachine) (sent turn : Turn) (came : Result Reply Fault) (old : Shelf) (next : Step) (new : NameMachine) (after : Shelf)
     → steps.NameTakes m sent turn came old next new after → Took came old after (NameBelow m) (NameBelow new)
 name-takes (machines.Change m) sent turn came old next new after t =
     took-as (machines.Change m) _ new came old after t.machine_is

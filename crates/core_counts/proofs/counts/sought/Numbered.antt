@@ -1,5 +1,5 @@
 -- The number of the next hidden name never passes the number of calls that were made, so it never begins anew; and the names that removes look for have lower ones.
-use Rattle.core_counts.proofs.Prelude.{◌≡◌, ◌<◌, ◌≤◌, ◌+◌, ◌-◌, ◌^◌, ◌⊎◌, ◌==◌, inl, inr, ℕ, zero, suc, nat_eq, cond, List, [], ◌∷◌, ◌++◌, length, map, Bool, true, false, Option, Some, None, MatchOption, position, slice_get, slice_set, Result, Ok, Err, refl, sym, ap, subst, ◌∙◌, length-append, arith, if◌then◌else◌, eqb-true, Waiting, failed_after, waiting_at, without, Fault, Entry, Began, Answered, Dialed, Sent, Executed, Foreign, Flushed, Reboot, Delivered, Failed, Clock, Reply, Op, said_of, Next, Send, Wait, Done, Shelf, Turn, Deed, Look, Seek, Move, Remove, Mounted, Machine, NameMachine, machine_of, Lane, Purpose, State, Busy, Over, Setup, IsFresh, is_busy, with_state, IsRefused, Leads, Stirs, moves_none, moves_more, counted, StartsLane, BeginsIf, TakesAt, View, turn_at, StepsTo, Reaches, begins, goes, loses, last_reading, dropped, replied, sent_now, FailedNow, goes_on, gives_up, failed_now, answered_now, taken_one, get-push, get-remove, skip}
+use Rattle.core_counts.proofs.Prelude.{◌≡◌, ◌<◌, ◌≤◌, ◌+◌, ◌-◌, ◌^◌, ◌⊎◌, ◌==◌, inl, inr, ℕ, zero, suc, nat_eq, cond, List, [], ◌∷◌, ◌++◌, length, map, Bool, true, false, Option, Some, None, MatchOption, position, slice_get, slice_set, Result, Ok, Err, refl, sym, ap, subst, ◌∙◌, length-append, arith, if◌then◌else◌, eqb-true, Waiting, failed_after, waiting_at, without, Fault, Entry, Began, Answered, Dialed, Sent, Executed, Foreign, Flushed, Reboot, Delivered, Failed, Clock, Reply, Op, said_of, Step, Send, Wait, Done, Shelf, Turn, Deed, Look, Seek, Move, Remove, Mounted, Machine, NameMachine, machine_of, Lane, Purpose, State, Busy, Over, Setup, IsFresh, is_busy, with_state, IsRefused, Leads, Stirs, moves_none, moves_more, counted, StartsLane, BeginsIf, TakesAt, View, turn_at, StepsTo, Reaches, begins, goes, loses, last_reading, dropped, replied, sent_now, FailedNow, goes_on, gives_up, failed_now, answered_now, taken_one, get-push, get-remove, skip}
 use Rattle.std.proofs.Common.{remove}
 use Rattle.rpc_retry.specs.Waiting.{sent, first_given_up}
 use Rattle.client_core.specs.Lanes.{lost_lane, lost_state}
@@ -104,7 +104,7 @@ state-as : (to state : State) (n : ℕ) → state ≡ to → StateBelow to n →
 state-as to state n is b = subst (λ (s : State). StateBelow s n) (sym is) b
 
 -- what a refusal in place of a call leaves
-refused-below : (next : Next) (after : Machine) (state : State) (n : ℕ) → IsRefused after next state → SeeksBelow after n → StateBelow state n
+refused-below : (next : Step) (after : Machine) (state : State) (n : ℕ) → IsRefused after next state → SeeksBelow after n → StateBelow state n
 refused-below Wait after state n is b = state-as (Busy after) state n is b
 refused-below (Done answer) after state n is b = state-as (Over answer) state n is tt
 refused-below (Send call) after state n is b = absurd is
@@ -116,7 +116,7 @@ few-more counter made es e few = let more = length-append es (e ∷ []) in omega
 err-ok : (fault : Fault) (reply : Reply) → ◌≡◌ {A = Result Reply Fault} (Err fault) (Ok reply) → ⊥
 err-ok fault reply e = let no_way = e in cc
 
-leads-numbered : (w new : View) (at number : ℕ) (after : Machine) (next : Next) → Numbered w → SeeksBelow after w.shelf.counter → Leads w at number after next new → Numbered new
+leads-numbered : (w new : View) (at number : ℕ) (after : Machine) (next : Step) → Numbered w → SeeksBelow after w.shelf.counter → Leads w at number after next new → Numbered new
 leads-numbered w new at number after (Send call) n own (inl made) =
     numbered-as _ new made.is (record { few = few-more w.shelf.counter w.calls.made w.calls.calls _ n.few; below = n.below })
 leads-numbered w new at number after (Send call) n own (inr refused) =

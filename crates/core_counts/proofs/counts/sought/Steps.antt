@@ -1,9 +1,9 @@
 -- What a step of any operation leaves of the number of the next hidden name, and that the names that removes look for have lower numbers.
-use Rattle.core_counts.proofs.Prelude.{◌≡◌, ◌-◌, ℕ, Bool, true, false, List, Result, Ok, Err, refl, sym, ap, subst, ◌∙◌, Fault, Reply, Op, Next, Shelf, Turn, file_to_write, file_at, WalkNext, Mounted, FileMachine, Machine, NameMachine, PathMachine, machine_of, file_of, begun_at, slot_taken, Starts, Resumes, Takes}
+use Rattle.core_counts.proofs.Prelude.{◌≡◌, ◌-◌, ℕ, Bool, true, false, List, Result, Ok, Err, refl, sym, ap, subst, ◌∙◌, Fault, Reply, Op, Step, Shelf, Turn, file_to_write, file_at, WalkStep, Mounted, FileMachine, Machine, NameMachine, PathMachine, machine_of, file_of, begun_at, slot_taken, Starts, Resumes, Takes}
 use Rattle.op_machines.specs.Openers.{placed}
 use Rattle.world_model.specs.declared.op.Op.TheVariants as ops
 use Rattle.file_ops.specs.TruncateFile as truncates
-use Rattle.name_ops.specs.declared.walk.WalkNext.TheVariants as walks
+use Rattle.name_ops.specs.declared.walk.WalkStep.TheVariants as walks
 use Rattle.name_ops.specs.Walking as walking
 use Rattle.op_machines.specs.declared.file_machine.FileMachine.TheVariants as files
 use Rattle.op_machines.specs.declared.machine.Machine.TheVariants as machines
@@ -20,7 +20,7 @@ truncate-begins : (found : Result (List ℕ) Fault) (m : _) (old : Shelf) → (t
 truncate-begins (Ok file) m old = refl
 truncate-begins (Err fault) m old = refl
 
-file-starts : (wsize : ℕ) (m : FileMachine) (turn : Turn) (old : Shelf) (next : Next) (new : FileMachine) (after : Shelf) → steps.Starts wsize m turn old next new after → after.counter ≡ old.counter
+file-starts : (wsize : ℕ) (m : FileMachine) (turn : Turn) (old : Shelf) (next : Step) (new : FileMachine) (after : Shelf) → steps.Starts wsize m turn old next new after → after.counter ≡ old.counter
 file-starts wsize (files.Open m) turn old next new after s = ap (λ (k : Shelf). k.counter) s.shelf_is
 file-starts wsize (files.Read m) turn old next new after s = ap (λ (k : Shelf). k.counter) s.others
 file-starts wsize (files.Write m) turn old next new after s = on_files.write-starts (file_to_write m.lane m.slot old.opens) wsize m turn old next s.machine after s.step
@@ -29,7 +29,7 @@ file-starts wsize (files.Close m) turn old next new after s = on_closes.close-st
 file-starts wsize (files.Truncate m) turn old next new after s = ap (λ (k : Shelf). k.counter) s.shelf_is ∙ truncate-begins (truncates.found_file m old) m old
 file-starts wsize (files.Put m) turn old next new after s = ap (λ (k : Shelf). k.counter) s.shelf_is
 
-file-resumes : (wsize : ℕ) (m : FileMachine) (turn : Turn) (old : Shelf) (next : Next) (new : FileMachine) (after : Shelf) → steps.Resumes wsize m turn old next new after → after.counter ≡ old.counter
+file-resumes : (wsize : ℕ) (m : FileMachine) (turn : Turn) (old : Shelf) (next : Step) (new : FileMachine) (after : Shelf) → steps.Resumes wsize m turn old next new after → after.counter ≡ old.counter
 file-resumes wsize (files.Open m) turn old next new after s = ap (λ (k : Shelf). k.counter) s.shelf_is
 file-resumes wsize (files.Read m) turn old next new after s = ap (λ (k : Shelf). k.counter) s.others
 file-resumes wsize (files.Write m) turn old next new after s = on_files.write-resumes m.state wsize m.lane turn old next s.state after s.step
@@ -38,7 +38,7 @@ file-resumes wsize (files.Close m) turn old next new after s = on_closes.close-r
 file-resumes wsize (files.Truncate m) turn old next new after s = ap (λ (k : Shelf). k.counter) s.shelf_is
 file-resumes wsize (files.Put m) turn old next new after s = on_files.put-resumes m.state wsize m turn old next s.machine after s.step
 
-file-takes : (wsize : ℕ) (m : FileMachine) (sent turn : Turn) (came : Result Reply Fault) (old : Shelf) (next : Next) (new : FileMachine) (after : Shelf)
+file-takes : (wsize : ℕ) (m : FileMachine) (sent turn : Turn) (came : Result Reply Fault) (old : Shelf) (next : Step) (new : FileMachine) (after : Shelf)
     → steps.Takes wsize m sent turn came old next new after → after.counter ≡ old.counter
 file-takes wsize (files.Open m) sent turn came old next new after s = ap (λ (k : Shelf). k.counter) s.others
 file-takes wsize (files.Read m) sent turn came old next new after s = ap (λ (k : Shelf). k.counter) s.others
@@ -50,25 +50,25 @@ file-takes wsize (files.Put m) sent turn came old next new after s = on_files.pu
 
 -- ---- opens and puts on their paths
 
-follows-path : (step : WalkNext) (wsize : ℕ) (m : PathMachine) (turn : Turn) (old : Shelf) (next : Next) (new : PathMachine) (after : Shelf) → paths.Follows step wsize m turn old next new after
+follows-path : (step : WalkStep) (wsize : ℕ) (m : PathMachine) (turn : Turn) (old : Shelf) (next : Step) (new : PathMachine) (after : Shelf) → paths.Follows step wsize m turn old next new after
     → after.counter ≡ old.counter
 follows-path (walks.Send call) wsize m turn old next new after f = ap (λ (k : Shelf). k.counter) f.2
 follows-path walks.Wait wsize m turn old next new after f = ap (λ (k : Shelf). k.counter) f.2
 follows-path (walks.At dir) wsize m turn old next new after f = file-resumes wsize (file_of (placed dir m.opener)) turn old next (file_of f.opener) after f.step
 follows-path (walks.Refused fault) wsize m turn old next new after f = ap (λ (k : Shelf). k.counter) f.2
 
-path-resumes : (b : Bool) (wsize : ℕ) (m : PathMachine) (turn : Turn) (old : Shelf) (next : Next) (new : PathMachine) (after : Shelf) → paths.PathResumes b wsize m turn old next new after
+path-resumes : (b : Bool) (wsize : ℕ) (m : PathMachine) (turn : Turn) (old : Shelf) (next : Step) (new : PathMachine) (after : Shelf) → paths.PathResumes b wsize m turn old next new after
     → after.counter ≡ old.counter
 path-resumes true wsize m turn old next new after r = file-resumes wsize (file_of m.opener) turn old next (file_of r.opener) after r.step
 path-resumes false wsize m turn old next new after r =
     follows-path (walking.go_next m.walk turn old) wsize (record m { walk = walking.go_after m.walk turn old }) turn (walking.go_shelf m.walk turn old) next new after r
 
-path-starts : (taken : Bool) (wsize : ℕ) (m : PathMachine) (turn : Turn) (old : Shelf) (next : Next) (new : PathMachine) (after : Shelf) → paths.StartsIf taken wsize m turn old next new after
+path-starts : (taken : Bool) (wsize : ℕ) (m : PathMachine) (turn : Turn) (old : Shelf) (next : Step) (new : PathMachine) (after : Shelf) → paths.StartsIf taken wsize m turn old next new after
     → after.counter ≡ old.counter
 path-starts true wsize m turn old next new after s = ap (λ (k : Shelf). k.counter) s.2
 path-starts false wsize m turn old next new after s = path-resumes m.arrived wsize (record m { opener = begun_at (turn.moment - 1) m.opener }) turn old next new after s
 
-path-takes : (b : Bool) (wsize : ℕ) (m : PathMachine) (sent turn : Turn) (came : Result Reply Fault) (old : Shelf) (next : Next) (new : PathMachine) (after : Shelf)
+path-takes : (b : Bool) (wsize : ℕ) (m : PathMachine) (sent turn : Turn) (came : Result Reply Fault) (old : Shelf) (next : Step) (new : PathMachine) (after : Shelf)
     → paths.PathTakes b wsize m sent turn came old next new after → after.counter ≡ old.counter
 path-takes true wsize m sent turn came old next new after t = file-takes wsize (file_of m.opener) sent turn came old next (file_of t.opener) after t.step
 path-takes false wsize m sent turn came old next new after t =
@@ -88,18 +88,18 @@ machine-as to new is n k = subst (λ (m : Machine). SeeksBelow m n) (sym is) k
 abbrev pub GoesOn : Machine → Shelf → Machine → Shelf → Type 0
 GoesOn m old new after = Goes old after (SeeksBelow m) (SeeksBelow new)
 
-name-goes-on : (m : NameMachine) (turn : Turn) (old : Shelf) (next : Next) (to : NameMachine) (new : Machine) (after : Shelf) → new ≡ machines.Name to
+name-goes-on : (m : NameMachine) (turn : Turn) (old : Shelf) (next : Step) (to : NameMachine) (new : Machine) (after : Shelf) → new ≡ machines.Name to
     → Goes old after (NameBelow m) (NameBelow to) → GoesOn (machines.Name m) old new after
 name-goes-on m turn old next to new after is g = record { counter = g.counter; below = λ n k. machine-as (machines.Name to) new is n (g.below n k) }
 
-pub starts-on : (wsize : ℕ) (m : Machine) (turn : Turn) (old : Shelf) (next : Next) (new : Machine) (after : Shelf) → Starts wsize m turn old next new after → GoesOn m old new after
+pub starts-on : (wsize : ℕ) (m : Machine) (turn : Turn) (old : Shelf) (next : Step) (new : Machine) (after : Shelf) → Starts wsize m turn old next new after → GoesOn m old new after
 starts-on wsize (machines.File m) turn old next new after s =
     record { counter = file-starts wsize m turn old next s.machine after s.step; below = λ n k. machine-as (machines.File s.machine) new s.machine_is n tt }
 starts-on wsize (machines.Path m) turn old next new after s =
     record { counter = path-starts (slot_taken m.opener old.opens) wsize m turn old next s.machine after s.step; below = λ n k. machine-as (machines.Path s.machine) new s.machine_is n tt }
 starts-on wsize (machines.Name m) turn old next new after s = name-goes-on m turn old next s.machine new after s.machine_is (on_names.name-goes m turn old next s.machine after s.step)
 
-pub resumes-on : (wsize : ℕ) (m : Machine) (turn : Turn) (old : Shelf) (next : Next) (new : Machine) (after : Shelf) → Resumes wsize m turn old next new after → GoesOn m old new after
+pub resumes-on : (wsize : ℕ) (m : Machine) (turn : Turn) (old : Shelf) (next : Step) (new : Machine) (after : Shelf) → Resumes wsize m turn old next new after → GoesOn m old new after
 resumes-on wsize (machines.File m) turn old next new after s =
     record { counter = file-resumes wsize m turn old next s.machine after s.step; below = λ n k. machine-as (machines.File s.machine) new s.machine_is n tt }
 resumes-on wsize (machines.Path m) turn old next new after s =
@@ -109,7 +109,7 @@ resumes-on wsize (machines.Name m) turn old next new after s = name-goes-on m tu
 abbrev pub TookOn : Result Reply Fault → Machine → Shelf → Machine → Shelf → Type 0
 TookOn came m old new after = Took came old after (SeeksBelow m) (SeeksBelow new)
 
-pub takes-on : (wsize : ℕ) (m : Machine) (sent turn : Turn) (came : Result Reply Fault) (old : Shelf) (next : Next) (new : Machine) (after : Shelf) → Takes wsize m sent turn came old next new after
+pub takes-on : (wsize : ℕ) (m : Machine) (sent turn : Turn) (came : Result Reply Fault) (old : Shelf) (next : Step) (new : Machine) (after : Shelf) → Takes wsize m sent turn came old next new after
     → TookOn came m old new after
 takes-on wsize (machines.File m) sent turn came old next new after t =
     stays (file-takes wsize m sent turn came old next t.machine after t.step) (λ n k. machine-as (machines.File t.machine) new t.machine_is n tt)

@@ -1,5 +1,5 @@
 -- Before a step: what is due, and who wrote.
-use Rattle.core_counts.proofs.Prelude.{◌≡◌, ◌<◌, ◌+◌, ◌-◌, inl, inr, ℕ, true, List, [], ◌∷◌, length, Some, refl, sym, subst, arith, slice_index, Entry, Began, Call, Op, CoversPlace, At, Modes, UnderWay, At-below, At-one, Pending, of_file, IsNewest, rest_at, covers, Next, Opens, IsUnused, Mounted, Machine, Setup, View, IsNfs, StartsHas, EachSound}
+use Rattle.core_counts.proofs.Prelude.{◌≡◌, ◌<◌, ◌+◌, ◌-◌, inl, inr, ℕ, true, List, [], ◌∷◌, length, Some, refl, sym, subst, arith, slice_index, Entry, Began, Call, Op, CoversPlace, At, Modes, UnderWay, At-below, At-one, Pending, of_file, IsNewest, rest_at, covers, Step, Opens, IsUnused, Mounted, Machine, Setup, View, IsNfs, StartsHas, EachSound}
 use Rattle.core_session.proofs.order.Adds.{EndsWell}
 use Rattle.op_machines.specs.declared.file_machine.FileMachine.TheVariants as file_machines
 use Rattle.op_machines.specs.declared.machine.Machine.TheVariants as machines
@@ -26,7 +26,7 @@ held-before f i y s E back sound free newest =
     }
 
 -- what is known of the bytes with which a write begins
-pub starts-with : (A B C : List ℕ → ℕ → List ℕ → Type 0) (m : Machine) (slots : Opens) (next : Next) → ((f : List ℕ) (o : ℕ) (b : List ℕ) → EndsWell next → A f o b → B f o b → C f o b)
+pub starts-with : (A B C : List ℕ → ℕ → List ℕ → Type 0) (m : Machine) (slots : Opens) (next : Step) → ((f : List ℕ) (o : ℕ) (b : List ℕ) → EndsWell next → A f o b → B f o b → C f o b)
     → StartsHas A m slots next → StartsHas B m slots next → StartsHas C m slots next
 starts-with A B C (machines.File (file_machines.Open m)) slots next all a b = tt
 starts-with A B C (machines.File (file_machines.Read m)) slots next all a b = tt

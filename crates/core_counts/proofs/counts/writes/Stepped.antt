@@ -1,12 +1,12 @@
 -- What a step of any operation makes of how often a place may still be sent.
-use Rattle.core_counts.proofs.Prelude.{◌≡◌, ◌≢◌, ◌≤◌, ◌<◌, ◌+◌, ◌⊎◌, inl, inr, ℕ, Bool, true, false, List, length, Result, Err, refl, sym, ap, subst, ◌∙◌, arith, leb-true, Fault, Call, Reply, Pending, of_file, with_bytes, IsNewest, OnFile, with_cut, FilePending, nothing, rest_at, fly_at, PutsBytes, covers, puts-with, same-or, Next, Repeat, Shelf, Turn, Saving, IsUnused, Machine, Starts, Resumes, Takes, After, TakesHas, StartsHas, NearAs, unmade-has, EachSound}
+use Rattle.core_counts.proofs.Prelude.{◌≡◌, ◌≢◌, ◌≤◌, ◌<◌, ◌+◌, ◌⊎◌, inl, inr, ℕ, Bool, true, false, List, length, Result, Err, refl, sym, ap, subst, ◌∙◌, arith, leb-true, Fault, Call, Reply, Pending, of_file, with_bytes, IsNewest, OnFile, with_cut, FilePending, nothing, rest_at, fly_at, PutsBytes, covers, puts-with, same-or, Step, Repeat, Shelf, Turn, Saving, IsUnused, Machine, Starts, Resumes, Takes, After, TakesHas, StartsHas, NearAs, unmade-has, EachSound}
 use Rattle.std.proofs.lemmas.Bool.{false_from_ne_true}
 use Rattle.core_answers.proofs.writes.Backs.{CarriesReply}
 use Rattle.core_session.proofs.order.Adds.{Bears, all-starts, all-resumes, all-takes}
 use Rattle.core_session.proofs.order.Sounds.{Sounds, SoundsFirst, SoundCall, bears-sounds, replies-sounds}
 use Rattle.std.specs.Prelude.{nat_le}
 use Rattle.write_back.proofs.Adding.{cuts-so}
-use Rattle.client_shelf.specs.declared.next.Next.TheVariants as nexts
+use Rattle.client_shelf.specs.declared.step.Step.TheVariants as nexts
 use Rattle.file_ops.specs.Saves as saves
 use Rattle.file_ops.specs.Syncs as syncs
 use Rattle.core_answers.proofs.writes.AllBacks.{Saves}
@@ -19,7 +19,7 @@ low-not : (s : ℕ) → low s (s + 1) ≡ false
 low-not s = false_from_ne_true (nat_le (s + 1) s) (λ is. let less = leb-true (s + 1) s is in absurd (omega (arith, less)))
 
 -- two facts of what a step leads to
-both-after : (A C : Pending → Type 0) (B D : Call → Pending → Type 0) (next : Next) (back : Pending) → After A B next back → After C D next back
+both-after : (A C : Pending → Type 0) (B D : Call → Pending → Type 0) (next : Step) (back : Pending) → After A B next back → After C D next back
     → After (λ k. A k × C k) (λ call k. B call k × D call k) next back
 both-after A C B D (nexts.Send call) back a c = (a, c)
 both-after A C B D nexts.Wait back a c = (a, c)
@@ -37,7 +37,7 @@ module _ (f : List ℕ) (i y s n : ℕ) (E : Type 0) where
       let a = less (low s) in let b = less (high s) in let few = k.few in let one = k.one in
       record { few = omega (arith, a, few); one = omega (arith, b, one); why = λ some. k.why (omega (arith, b, some)) }
 
-  pub held-after : (next : Next) (back : Pending) → Held back → After Held (λ call. Held) next back
+  pub held-after : (next : Step) (back : Pending) → Held back → After Held (λ call. Held) next back
   held-after (nexts.Send call) back k = k
   held-after nexts.Wait back k = k
   held-after (nexts.Done answer) back k = k
@@ -106,12 +106,12 @@ module _ (f : List ℕ) (i y s n : ℕ) (E : Type 0) where
         k : Bears wsize turn (NearAs wsize turn number) (SoundsFirst wsize turn number) (Sounds wsize turn) (SoundCall wsize turn)
         k = bears-sounds wsize turn number
 
-    since-after : (next : Next) (back : Pending) → After Since WithCall next back → Held back × EachSound back
+    since-after : (next : Step) (back : Pending) → After Since WithCall next back → Held back × EachSound back
     since-after (nexts.Send call) back p = p
     since-after nexts.Wait back p = (p.0, p.1.sound)
     since-after (nexts.Done answer) back p = (p.0, p.1.sound)
 
-    pub starts-held : (m : Machine) (old : Shelf) (next : Next) (new : Machine) (after : Shelf) → number ≡ old.seq + 1
+    pub starts-held : (m : Machine) (old : Shelf) (next : Step) (new : Machine) (after : Shelf) → number ≡ old.seq + 1
         → StartsHas (λ f o b. NearAs wsize turn number f o b number × X f o b) m old.opens next → Held old.back → EachSound old.back → IsUnused turn.xid old.back → IsNewest number old.back
         → Starts wsize m turn old next new after → Held after.back × EachSound after.back
     starts-held m old next new after is has held sound free newest t =
@@ -119,7 +119,7 @@ module _ (f : List ℕ) (i y s n : ℕ) (E : Type 0) where
         (subst (λ (k : ℕ). StartsHas (λ f o b. NearAs wsize turn number f o b k × X f o b) m old.opens next) is has)
         (held, record { sounds = record { sound = sound; free = free }; newest = newest }) t)
 
-    pub resumes-held : (m : Machine) (old : Shelf) (next : Next) (new : Machine) (after : Shelf) → Held old.back → EachSound old.back → IsUnused turn.xid old.back
+    pub resumes-held : (m : Machine) (old : Shelf) (next : Step) (new : Machine) (after : Shelf) → Held old.back → EachSound old.back → IsUnused turn.xid old.back
         → Resumes wsize m turn old next new after → Held after.back × EachSound after.back
     resumes-held m old next new after held sound free t =
         since-after next after.back (all-resumes wsize turn Since WithCall bears-held.then_ m old next new after (held, record { sound = sound; free = free }) t)
@@ -135,7 +135,7 @@ module _ (f : List ℕ) (i y s n : ℕ) (E : Type 0) where
             ((replies-sounds wsize turn sent came number).takes repeats sv back next new after later t tt p.1);
       }
 
-      pub takes-held : (m : Machine) (old : Shelf) (next : Next) (new : Machine) (after : Shelf) (t : Takes wsize m sent turn came old next new after) → number ≡ old.seq + 1
+      pub takes-held : (m : Machine) (old : Shelf) (next : Step) (new : Machine) (after : Shelf) (t : Takes wsize m sent turn came old next new after) → number ≡ old.seq + 1
           → TakesHas (λ f o b. NearAs wsize turn number f o b number × X f o b) wsize m sent turn came old next new after t → Saves (λ sv. N sv old.back) m
           → Held old.back → EachSound old.back → IsUnused turn.xid old.back → IsNewest number old.back → Held after.back × EachSound after.back
       takes-held m old next new after t is has now held sound free newest =
@@ -189,7 +189,7 @@ pub never-adds : (f : List ℕ) (i y s n : ℕ) (E : Type 0) (number : ℕ) (fil
 never-adds f i y s n E number file offset bytes old new never sound newest on k = absurd never
 
 -- The call for which the step asked isn't made: what took off for it comes back.
-pub unmade-held : (f : List ℕ) (i y s n : ℕ) (E : Type 0) (wsize : ℕ) (sent turn : Turn) (fault : Fault) → sent.xid ≡ y → (m : Machine) (old : Shelf) (next : Next) (new : Machine)
+pub unmade-held : (f : List ℕ) (i y s n : ℕ) (E : Type 0) (wsize : ℕ) (sent turn : Turn) (fault : Fault) → sent.xid ≡ y → (m : Machine) (old : Shelf) (next : Step) (new : Machine)
     (after : Shelf) → Takes wsize m sent turn (Err fault) old next new after → Held f i y s n E old.back → EachSound old.back → IsUnused turn.xid old.back → IsNewest (old.seq + 1) old.back
     → Held f i y s n E after.back
 unmade-held f i y s n E wsize sent turn fault own m old next new after t held sound free newest =

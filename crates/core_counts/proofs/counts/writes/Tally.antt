@@ -1,6 +1,6 @@
 -- What is known along a history of the WRITEs that cover a place: no more were made, and no more may still be, than operations wrote it, replies left it unwritten,
 -- and COMMITs of its file were answered.
-use Rattle.core_counts.proofs.Prelude.{◌≡◌, ◌≢◌, ◌≤◌, ◌<◌, ◌+◌, ◌⊎◌, inl, inr, ℕ, zero, suc, nat_eq, Bool, true, false, List, [], ◌∷◌, ◌++◌, length, Some, slice_get, slice_set, Err, refl, sym, ap, subst, ◌∙◌, arith, nat_lt, eqb-true, eqb-false, eq-eqb, leb-true, ltb-true, Waiting, next_xid, made_call, waiting_at, waits_early, at_made, others_made, Entry, Began, Sent, Call, Op, CoversPlace, IsCommitOf, RepliedAt, NoneBegan, At, Heard, HasXid, SpellsCall, SpellsCallBy, proc_of, Modes, UnderWay, At-below, At-cases, length_last, Pending, of_file, all_pending, flown_in, rest_at, fly_at, covers, under-own, same-or, Next, IsReady, Mounted, Machine, Lane, Purpose, State, Busy, Over, Setup, record_of, Makes, IsRefused, Leads, View, turn_at, unmade_turn, at-set, Rows, made-known, made-asked, set-other, under-back, written_file, one-call, nfs-of, After, Free, Basis, Stage, stage_of, Has, Wholly, EachSound}
+use Rattle.core_counts.proofs.Prelude.{◌≡◌, ◌≢◌, ◌≤◌, ◌<◌, ◌+◌, ◌⊎◌, inl, inr, ℕ, zero, suc, nat_eq, Bool, true, false, List, [], ◌∷◌, ◌++◌, length, Some, slice_get, slice_set, Err, refl, sym, ap, subst, ◌∙◌, arith, nat_lt, eqb-true, eqb-false, eq-eqb, leb-true, ltb-true, Waiting, next_xid, made_call, waiting_at, waits_early, at_made, others_made, Entry, Began, Sent, Call, Op, CoversPlace, IsCommitOf, RepliedAt, NoneBegan, At, Heard, HasXid, SpellsCall, SpellsCallBy, proc_of, Modes, UnderWay, At-below, At-cases, length_last, Pending, of_file, all_pending, flown_in, rest_at, fly_at, covers, under-own, same-or, Step, IsReady, Mounted, Machine, Lane, Purpose, State, Busy, Over, Setup, record_of, Makes, IsRefused, Leads, View, turn_at, unmade_turn, at-set, Rows, made-known, made-asked, set-other, under-back, written_file, one-call, nfs-of, After, Free, Basis, Stage, stage_of, Has, Wholly, EachSound}
 use Rattle.std.specs.Prelude.{◌&&◌, nat_le}
 use Rattle.std.proofs.lemmas.Bool.{and_parts}
 use Rattle.claims.specs.CallCounts.{IsPoor}
@@ -13,7 +13,7 @@ use Rattle.world_model.specs.declared.message.Call.TheVariants as calls
 use Rattle.write_back.proofs.ByPlace.{covered}
 use Rattle.write_back.proofs.Flying.{flown-some, under-whole}
 use Rattle.write_back.proofs.Xids.{fly-under}
-use Rattle.client_shelf.specs.declared.next.Next.TheVariants as nexts
+use Rattle.client_shelf.specs.declared.step.Step.TheVariants as nexts
 use Rattle.core_session.proofs.calls.GivenBytes.{IsGiven, Bytes, given-later}
 use Rattle.core_session.proofs.delays.Puts.{heard-later}
 use Rattle.core_session.proofs.room.Machines as verdicts
@@ -92,7 +92,7 @@ IsSettled (Over answer) = Unit {0}
 going-stage : (a b : Stage) → going a ≡ going b → a ≡ b
 going-stage a b e = cc
 
-outcome-gone : (next : Next) (stage : Stage) → (outcome next stage ≡ going settling) ⊎ ((answer : _) × (outcome next stage ≡ over answer)) → Gone next stage
+outcome-gone : (next : Step) (stage : Stage) → (outcome next stage ≡ going settling) ⊎ ((answer : _) × (outcome next stage ≡ over answer)) → Gone next stage
 outcome-gone (nexts.Send call) stage (inl is) = inr (going-stage stage settling is)
 outcome-gone (nexts.Send call) stage (inr is) = absurd (let no_way : going stage ≡ over is.0 = is.1 in cc)
 outcome-gone nexts.Wait stage (inl is) = inr (going-stage stage settling is)
@@ -100,7 +100,7 @@ outcome-gone nexts.Wait stage (inr is) = absurd (let no_way : going stage ≡ ov
 outcome-gone (nexts.Done answer) stage o = inl (answer, refl)
 
 -- a put whose bytes are pending stays one
-pub settled-gone : (a b : ℕ) (next : Next) (stage : Stage) → Verdict a b settling (outcome next stage) → Gone next stage
+pub settled-gone : (a b : ℕ) (next : Step) (stage : Stage) → Verdict a b settling (outcome next stage) → Gone next stage
 settled-gone a b next stage v = outcome-gone next stage (by v)
   where
     by : Verdict a b settling (outcome next stage) → (outcome next stage ≡ going settling) ⊎ ((answer : _) × (outcome next stage ≡ over answer))
@@ -232,7 +232,7 @@ module _ (m : Mounted) (modes_of : Modes) (same : m.nocto ≡ modes_of.nocto) (s
 
   -- An operation's machine made its step, and is asked for what it leads to: no more than n may still be sent but what has the number s + 1, which is the
   -- operation's own, the one at the place x.
-  pub record Owes (h : List Entry) (v : View) (number : ℕ) (machine : Machine) (next : Next) : Type 0 where
+  pub record Owes (h : List Entry) (v : View) (number : ℕ) (machine : Machine) (next : Step) : Type 0 where
     pub s : ℕ
     pub n : ℕ
     pub x : ℕ
@@ -247,7 +247,7 @@ module _ (m : Mounted) (modes_of : Modes) (same : m.nocto ≡ modes_of.nocto) (s
     pub has : After (Free (next_xid v.calls)) (Has (next_xid v.calls)) next v.shelf.back
     pub own : (z : ℕ) (op : Op) → UnderWay h number z (length h) op → In z lists.writers → Gone next (stage_of machine)
 
-  module _ (before h : List Entry) (v new : View) (at number : ℕ) (machine : Machine) (next : Next) (r : Rows setup before v) (o : Owes h v number machine next)
+  module _ (before h : List Entry) (v new : View) (at number : ℕ) (machine : Machine) (next : Step) (r : Rows setup before v) (o : Owes h v number machine next)
       (there : slice_get v.lanes at ≡ Some (record { number = number; state = Busy machine }))
       (rest : (k : ℕ) (l : Lane) → slice_get v.lanes k ≡ Some l → k ≢ at → SpentLane h o.lists.writers l)
       (apart : (k : ℕ) (l : Lane) → slice_get v.lanes k ≡ Some l → k ≢ at → (op : Op) → UnderWay h l.number o.x (length h) op → ⊥)
@@ -474,7 +474,7 @@ module _ (m : Mounted) (modes_of : Modes) (same : m.nocto ≡ modes_of.nocto) (s
       settles = settles;
     }
 
-    refused-settles : (step : Next) (after : Machine) (state : State) → IsRefused after step state → Gone step (stage_of after) → IsSettled state
+    refused-settles : (step : Step) (after : Machine) (state : State) → IsRefused after step state → Gone step (stage_of after) → IsSettled state
     refused-settles (nexts.Send call) after state is gone = absurd is
     refused-settles nexts.Wait after state is (inl done) = absurd (let no_way : nexts.Wait ≡ nexts.Done done.0 = done.1 in cc)
     refused-settles nexts.Wait after state is (inr stage) = subst IsSettled (sym is) stage
@@ -483,7 +483,7 @@ module _ (m : Mounted) (modes_of : Modes) (same : m.nocto ≡ modes_of.nocto) (s
     pub leads-tally : Leads v at number machine next new → Tally h new
     leads-tally = by next refl o.has
       where
-        by : (n : Next) → next ≡ n → After (Free y) (Has y) n v.shelf.back → Leads v at number machine n new → Tally h new
+        by : (n : Step) → next ≡ n → After (Free y) (Has y) n v.shelf.back → Leads v at number machine n new → Tally h new
         by (nexts.Send call) is has (inl mk) = made-tally call mk has is
         by (nexts.Send call) is has (inr u) =
             still

@@ -1,5 +1,5 @@
 -- Along a history: of each file, what is to be sent again has older numbers than what was never sent.
-use Rattle.core_counts.proofs.Prelude.{◌≡◌, ◌≤◌, ◌<◌, inl, inr, ◌+◌, ◌-◌, ◌^◌, ◌++◌, ℕ, nat_eq, Bool, true, false, List, [], ◌∷◌, length, Option, Some, None, position, slice_get, Result, Ok, Err, refl, sym, ap, subst, ◌∙◌, arith, eqb-true, eqb-false, Waiting, waiting_at, Answer, Fault, Entry, Began, Answered, Delivered, Reply, Op, said_of, InFlight, Acked, is_in_flight, how_of, ready_of, if-true, if-false, Ready, Unsent, Pending, of_file, HasNoPiece, OnFile, Flown, nothing, rest_of, rest_at, fly_at, Cell, cell_at, Opens, Next, Shelf, Turn, is_first, PutFile, Putting, Saving, Text, Mounted, FileMachine, Machine, PathMachine, machine_of, Fits, file_of, Takes, Lane, Purpose, State, Busy, Over, Setup, is_busy, IsIdle, Leads, Stirs, counted, StartsLane, TakesAt, AnswersAt, View, turn_at, AreApart, IsFresh, in_flight, MaySetUp, IsSetUp, Reaches, begins-unbegun, taken_one, Known, taker-one, reached-all, lanes-under-way, get-remove, skip, look-at, LaneLive, keeps-placed, Basis, stirs-basis, starts-basis, takes-basis, keeps-basis, Wholly, keeps-wholly, stirs-wholly, starts-wholly, takes-wholly, JobBegins, JobOpens, job_save, Common, job_kind, save-is, Job, Content, ContentReplies, SaveSo, Tale, Owned, bases, ButFor, EachSound, IsUnderWay}
+use Rattle.core_counts.proofs.Prelude.{◌≡◌, ◌≤◌, ◌<◌, inl, inr, ◌+◌, ◌-◌, ◌^◌, ◌++◌, ℕ, nat_eq, Bool, true, false, List, [], ◌∷◌, length, Option, Some, None, position, slice_get, Result, Ok, Err, refl, sym, ap, subst, ◌∙◌, arith, eqb-true, eqb-false, Waiting, waiting_at, Answer, Fault, Entry, Began, Answered, Delivered, Reply, Op, said_of, InFlight, Acked, is_in_flight, how_of, ready_of, if-true, if-false, Ready, Unsent, Pending, of_file, HasNoPiece, OnFile, Flown, nothing, rest_of, rest_at, fly_at, Cell, cell_at, Opens, Step, Shelf, Turn, is_first, PutFile, Putting, Saving, Text, Mounted, FileMachine, Machine, PathMachine, machine_of, Fits, file_of, Takes, Lane, Purpose, State, Busy, Over, Setup, is_busy, IsIdle, Leads, Stirs, counted, StartsLane, TakesAt, AnswersAt, View, turn_at, AreApart, IsFresh, in_flight, MaySetUp, IsSetUp, Reaches, begins-unbegun, taken_one, Known, taker-one, reached-all, lanes-under-way, get-remove, skip, look-at, LaneLive, keeps-placed, Basis, stirs-basis, starts-basis, takes-basis, keeps-basis, Wholly, keeps-wholly, stirs-wholly, starts-wholly, takes-wholly, JobBegins, JobOpens, job_save, Common, job_kind, save-is, Job, Content, ContentReplies, SaveSo, Tale, Owned, bases, ButFor, EachSound, IsUnderWay}
 use Rattle.write_back.specs.declared.state.Ready.TheVariants.{Again, Refused}
 use Rattle.core_facts.specs.InFlight.{of_saving}
 use Rattle.core_facts.proofs.Placing.{Placed, seat_state, seat_in}
@@ -12,7 +12,7 @@ use Rattle.core_session.proofs.syncs.Passing.{job-in, Shown}
 use Rattle.core_session.proofs.syncs.Seen.{free, sees}
 use Rattle.write_back.specs.declared.state.State.{State as Kept}
 use Rattle.write_back.specs.declared.state.State.TheVariants.{Waiting as Waits}
-use Rattle.client_shelf.specs.declared.next.Next.TheVariants as nexts
+use Rattle.client_shelf.specs.declared.step.Step.TheVariants as nexts
 use Rattle.file_ops.specs.declared.put_file.Putting.TheVariants as putting
 use Rattle.file_ops.specs.declared.write_file.Text.TheVariants as texts
 use Rattle.file_ops.specs.PutFile as puts
@@ -48,7 +48,7 @@ abbrev pub its : Tale
 its = record { T = λ n. Unit {0}; X = Unit {0}; A = Near; B = λ file. Unit {0}; Cut = λ file size upto. Unit {0} }
 
 -- as a put has opened its file, it is the first of none
-module _ (wsize : ℕ) (sent turn : Turn) (came : Result Reply Fault) (old : Shelf) (next : Next) (lane : ℕ) where
+module _ (wsize : ℕ) (sent turn : Turn) (came : Result Reply Fault) (old : Shelf) (next : Step) (lane : ℕ) where
   put-opens : (at : Putting) (m : PutFile) (new : PutFile) (after : Shelf) (t : puts.Takes at wsize m sent turn came old next new after) → FileFits (files.Put m) → m.state ≡ at → m.write.lane ≡ lane
       → (seat_put m.state m.write.state ≡ None → is_first lane old.order ≡ false) → PutOpens Near at wsize m sent turn came old next new after t
   put-opens putting.Idle m new after t fits is same none = tt
@@ -219,7 +219,7 @@ module _ (m : Mounted) (setup : Setup) (f : List ℕ) where
   was : (v : View) → Of f 0 v.shelf.seq v.shelf.back → Of f v.shelf.seq v.shelf.seq v.shelf.back
   was v c = (record { sound = c.0.sound; upto = c.0.upto; since = omega arith }, c.1)
 
-  pub leads-size : (v new : View) (at number : ℕ) (machine : Machine) (nx : Next) → Leads v at number machine nx new → new.wsize ≡ v.wsize
+  pub leads-size : (v new : View) (at number : ℕ) (machine : Machine) (nx : Step) → Leads v at number machine nx new → new.wsize ≡ v.wsize
   leads-size v new at number machine (nexts.Send call) (inl made) = ap (λ (w : View). w.wsize) made.is
   leads-size v new at number machine (nexts.Send call) (inr r) = ap (λ (w : View). w.wsize) r.is
   leads-size v new at number machine nexts.Wait is = ap (λ (w : View). w.wsize) is

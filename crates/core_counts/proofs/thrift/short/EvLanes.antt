@@ -1,5 +1,5 @@
 -- What a lane's whole step leads to: its machine's step, and the one at a call that isn't made.
-use Rattle.core_counts.proofs.Prelude.{◌≡◌, ◌≢◌, ◌≤◌, inl, inr, ℕ, Bool, true, false, nat_eq, List, Option, Some, None, option_map, Err, slice_get, refl, sym, ap, subst, ◌∙◌, arith, eqb-true, eqb-false, Waiting, next_xid, waiting_at, Fault, Entry, Call, Pending, Turn, Next, Saving, IsUnused, FileMachine, Machine, Opener, file_of, Takes, Lane, Purpose, State, Busy, Over, Setup, Leads, View, turn_at, unmade_turn, in_flight, AreApart, flies_of, Flies, sender, look_at, purpose_at, at-set, look-at, SitsWith, Rows, set-other, After, Free, waits-late, SameUnder, IsSent, Has, save-is, job_kind, take-kind, Owner, ContentReplies, Tale, Shelf}
+use Rattle.core_counts.proofs.Prelude.{◌≡◌, ◌≢◌, ◌≤◌, inl, inr, ℕ, Bool, true, false, nat_eq, List, Option, Some, None, option_map, Err, slice_get, refl, sym, ap, subst, ◌∙◌, arith, eqb-true, eqb-false, Waiting, next_xid, waiting_at, Fault, Entry, Call, Pending, Turn, Step, Saving, IsUnused, FileMachine, Machine, Opener, file_of, Takes, Lane, Purpose, State, Busy, Over, Setup, Leads, View, turn_at, unmade_turn, in_flight, AreApart, flies_of, Flies, sender, look_at, purpose_at, at-set, look-at, SitsWith, Rows, set-other, After, Free, waits-late, SameUnder, IsSent, Has, save-is, job_kind, take-kind, Owner, ContentReplies, Tale, Shelf}
 use Rattle.write_back.specs.Files.{IsFree}
 use Rattle.core_facts.proofs.Flown.{Flown}
 use Rattle.core_facts.proofs.Orders.{Sits, seat_with, seat-own, seat-other, same-sits}
@@ -7,7 +7,7 @@ use Rattle.core_session.proofs.syncs.Fates.{file_kind, live-lane}
 use Rattle.core_session.proofs.syncs.Levels.{SaveNow}
 use Rattle.world_model.specs.declared.answer.Answer.TheVariants as answers
 use Rattle.world_model.specs.declared.answer.Value.TheVariants.{Nothing}
-use Rattle.client_shelf.specs.declared.next.Next.TheVariants as nexts
+use Rattle.client_shelf.specs.declared.step.Step.TheVariants as nexts
 use Rattle.op_machines.specs.declared.file_machine.FileMachine.TheVariants as files
 use Rattle.op_machines.specs.declared.opener.Opener.TheVariants as openers
 use Rattle.op_machines.specs.declared.machine.Machine.TheVariants as machines
@@ -21,15 +21,15 @@ use Rattle.core_session.proofs.syncs.UnmadeOpens.{unmade-opens}
 use Rattle.core_counts.proofs.thrift.short.EvWorking.{Moves, GivesPut, Alone, job-laws, job-replies}
 
 -- how the end of a write is known
-abbrev pub EndKnown : ℕ → Next → Type 0
+abbrev pub EndKnown : ℕ → Step → Type 0
 EndKnown kind next = kind ≡ 1 → next ≡ nexts.Done (answers.Done Nothing)
 
 -- a close or a put; where it is refused, the shelf is this one
-abbrev pub GivesBy : Shelf → ℕ → Next → Bool → Shelf → Type 0
+abbrev pub GivesBy : Shelf → ℕ → Step → Bool → Shelf → Type 0
 GivesBy tables kind next true slots = (kind ≡ 5) × ((fault : Fault) → next ≡ nexts.Done (answers.Refused fault) → slots ≡ tables)
 GivesBy tables kind next false slots = (kind ≡ 3) × ((fault : Fault) → next ≡ nexts.Done (answers.Refused fault) → slots ≡ tables)
 
-pub end-known : (m : Machine) (next : Next) (tables slots : Shelf) → ((fault : Fault) → next ≡ nexts.Done (answers.Refused fault) → slots ≡ tables)
+pub end-known : (m : Machine) (next : Step) (tables slots : Shelf) → ((fault : Fault) → next ≡ nexts.Done (answers.Refused fault) → slots ≡ tables)
     → JobKnown (EndKnown (job_kind m) next) (GivesBy tables (job_kind m) next) m next slots
 end-known (machines.File m) next tables slots same = by m
   where
@@ -49,7 +49,7 @@ end-known (machines.Path m) next tables slots same = of m.opener
 end-known (machines.Name m) next tables slots same = λ is. absurd (omega (arith, is))
 
 -- where it ends, the shelf is that of the step
-pub leads-opens : (v new : View) (at number : ℕ) (machine : Machine) (next : Next) → Leads v at number machine next new → (answer : _) → next ≡ nexts.Done answer
+pub leads-opens : (v new : View) (at number : ℕ) (machine : Machine) (next : Step) → Leads v at number machine next new → (answer : _) → next ≡ nexts.Done answer
     → v.shelf ≡ new.shelf
 leads-opens v new at number machine (nexts.Send call) l answer is = absurd (cc)
 leads-opens v new at number machine nexts.Wait l answer is = absurd (cc)
@@ -72,7 +72,7 @@ pub free-after : (old new : Pending) → SameUnder 0 old new → IsUnused 0 old 
 free-after old new same free file = same file ∙ free file
 
 -- the piece of a WRITE that is asked for
-pub asked-piece : (xid : ℕ) (next : Next) (machine : Machine) (back : Pending) → After (Free xid) (Has xid) next back → fitting.Asks next machine → (call : Call) → next ≡ nexts.Send call → (f : List ℕ)
+pub asked-piece : (xid : ℕ) (next : Step) (machine : Machine) (back : Pending) → After (Free xid) (Has xid) next back → fitting.Asks next machine → (call : Call) → next ≡ nexts.Send call → (f : List ℕ)
     → flies_of machine ≡ Some f → IsSent xid f back
 asked-piece xid (nexts.Send call) machine back a asks other is f flies = let i = a f (asks.sends f flies) in record { piece = i.piece; there = i.there }
 asked-piece xid nexts.Wait machine back a asks other is f flies = absurd (cc)
@@ -111,14 +111,14 @@ module _ (f : List ℕ) (wsize : ℕ) (some : 1 ≤ wsize) (number : ℕ) (least
   -- and of the step where it isn't made
   pub record Unmade (tables : Shelf) (v : View) (kind : ℕ) : Type 1 where
     pub ways : Ways f wsize (unmade_turn v) C D E t
-    pub moves : (next : Next) → Moves C D E t.A (EndKnown kind next) (GivesBy tables kind next) t.Cut t.B next
-    pub puts : (next : Next) → GivesPut f E t.B (GivesBy tables kind next) next (Alone f number base owner)
+    pub moves : (next : Step) → Moves C D E t.A (EndKnown kind next) (GivesBy tables kind next) t.Cut t.B next
+    pub puts : (next : Step) → GivesPut f E t.B (GivesBy tables kind next) next (Alone f number base owner)
     pub M : Fault → Saving → Pending → Type 0
     pub any : (fault : Fault) (s : Saving) (b : Pending) → M fault s b
     pub replies : (fault : Fault) → ContentReplies wsize (turn_at v) (unmade_turn v) (Err fault) (M fault) C
     pub more : (fault : Fault) → ContentReplies wsize (turn_at v) (unmade_turn v) (Err fault) (M fault) D
 
-  pub leads : (v new : View) (at : ℕ) (machine : Machine) (next : Next) (turn : Turn) (w : Ways f wsize turn C D E t) (tables : Shelf) (tables_are : tables ≡ new.shelf) (u : Unmade tables v (job_kind machine)) → v.wsize ≡ wsize
+  pub leads : (v new : View) (at : ℕ) (machine : Machine) (next : Step) (turn : Turn) (w : Ways f wsize turn C D E t) (tables : Shelf) (tables_are : tables ≡ new.shelf) (u : Unmade tables v (job_kind machine)) → v.wsize ≡ wsize
       → slice_get v.lanes at ≡ Some (record { number = number; state = Busy machine }) → Free 0 v.shelf.back → ((call : Call) → next ≡ nexts.Send call → IsAsked v machine)
       → JobFin (job-in f wsize some number least most base owner C D E t turn w) next machine v.shelf.seq v.shelf.back v.shelf.order → Leads v at number machine next new
       → Landed v.lanes at (job_kind machine) new

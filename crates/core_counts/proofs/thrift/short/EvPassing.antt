@@ -1,12 +1,12 @@
 -- A lane's whole step: its machine's, and that at a call which can't be made.
-use Rattle.core_counts.proofs.Prelude.{Bool, true, false, arith, ◌≡◌, ◌≢◌, ◌≤◌, ◌⊎◌, inl, inr, ℕ, List, Option, Some, None, refl, sym, subst, Answer, Fault, Value, Pending, of_file, LaneFile, Turn, Next, Saving, PutFile, Putting, Writing, FileMachine, Machine, Opener, file_of, State, Busy, Over, IsRefused, SitsWith, Free, JobHas, job_save, job_kind, Job, Owner, Content, SaveSo, own_save, Tale, told}
+use Rattle.core_counts.proofs.Prelude.{Bool, true, false, arith, ◌≡◌, ◌≢◌, ◌≤◌, ◌⊎◌, inl, inr, ℕ, List, Option, Some, None, refl, sym, subst, Answer, Fault, Value, Pending, of_file, LaneFile, Turn, Step, Saving, PutFile, Putting, Writing, FileMachine, Machine, Opener, file_of, State, Busy, Over, IsRefused, SitsWith, Free, JobHas, job_save, job_kind, Job, Owner, Content, SaveSo, own_save, Tale, told}
 use Rattle.core_session.proofs.syncs.AllJobs.{PathHas, JobGood, JobBad, JobFin}
 use Rattle.core_session.proofs.syncs.Fates.{file_kind, job-says, Part, none, room, own, job-part, good-write, good-save, good-path, good-any, bad-write, bad-any, WritePart, before, in_room, write-part}
 use Rattle.core_session.proofs.syncs.Jobs.{ended, RoomHas, PutHas, FileHas}
 use Rattle.core_session.proofs.syncs.Levels.{Before, BesideSo}
 use Rattle.core_session.proofs.syncs.PutGoes.{put_own, file_own, path_own, own-has}
 use Rattle.world_model.specs.declared.answer.Answer.TheVariants as answers
-use Rattle.client_shelf.specs.declared.next.Next.TheVariants as nexts
+use Rattle.client_shelf.specs.declared.step.Step.TheVariants as nexts
 use Rattle.file_ops.specs.declared.put_file.Putting.TheVariants as putting
 use Rattle.file_ops.specs.declared.write_file.Writing.TheVariants as writing
 use Rattle.file_ops.specs.WriteFile as writes
@@ -178,7 +178,7 @@ module _ (f : List ℕ) (wsize : ℕ) (some : 1 ≤ wsize) (number : ℕ) (least
         }
 
     -- where it waits or has its answer
-    pub shown : (next : Next) (m : Machine) (q : ℕ) (b : Pending) (o : List LaneFile) (state : State) → JobFin own-job next m q b o → IsRefused m next state → Shown (job_kind m) state q b o
+    pub shown : (next : Step) (m : Machine) (q : ℕ) (b : Pending) (o : List LaneFile) (state : State) → JobFin own-job next m q b o → IsRefused m next state → Shown (job_kind m) state q b o
     shown (nexts.Send call) m q b o state h is = absurd is
     shown nexts.Wait m q b o state h is = subst (λ (s : State). Shown (job_kind m) s q b o) (sym is) (refl, goes-on m q b o h)
     shown (nexts.Done (answers.Done value)) m q b o state h is = subst (λ (s : State). Shown (job_kind m) s q b o) (sym is) (good-shown value m q b o h)

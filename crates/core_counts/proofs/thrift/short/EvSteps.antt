@@ -1,5 +1,5 @@
 -- Each step of a lane, in the view: where an operation begins, goes on, or takes what came of a call.
-use Rattle.core_counts.proofs.Prelude.{◌≡◌, ◌≤◌, ◌+◌, ◌-◌, ◌⊎◌, inl, inr, ℕ, Bool, true, false, nat_eq, List, [], ◌∷◌, ◌++◌, length, Option, Some, None, option_map, position, Result, refl, sym, ap, subst, ◌∙◌, arith, Waiting, next_xid, waiting_at, Fault, Entry, Call, Reply, Op, said_of, Pending, LaneFile, Turn, Next, Saving, IsUnused, Mounted, Machine, machine_of, Purpose, Busy, Setup, is_busy, IsIdle, with_state, Stirs, counted, StartsLane, TakesAt, View, turn_at, in_flight, Counts, AreApart, counts-calls, begins-unbegun, Reaches, taken_one, flies_of, eqb-true, eqb-false, Known, taker-is, taker-one, lanes-under-way, at-set, at-push, SitsWith, LaneLive, set-other, unused-next, waits-late, IsSent, Wholly, starts-has, resumes-has, takes-has, sent-piece, JobHas, JobBegins, JobOpens, job_save, save-is, job_kind, take-kind, Job, Owner, Content, SaveSo, ContentReplies, Tale, told, bases, Shelf}
+use Rattle.core_counts.proofs.Prelude.{◌≡◌, ◌≤◌, ◌+◌, ◌-◌, ◌⊎◌, inl, inr, ℕ, Bool, true, false, nat_eq, List, [], ◌∷◌, ◌++◌, length, Option, Some, None, option_map, position, Result, refl, sym, ap, subst, ◌∙◌, arith, Waiting, next_xid, waiting_at, Fault, Entry, Call, Reply, Op, said_of, Pending, LaneFile, Turn, Step, Saving, IsUnused, Mounted, Machine, machine_of, Purpose, Busy, Setup, is_busy, IsIdle, with_state, Stirs, counted, StartsLane, TakesAt, View, turn_at, in_flight, Counts, AreApart, counts-calls, begins-unbegun, Reaches, taken_one, flies_of, eqb-true, eqb-false, Known, taker-is, taker-one, lanes-under-way, at-set, at-push, SitsWith, LaneLive, set-other, unused-next, waits-late, IsSent, Wholly, starts-has, resumes-has, takes-has, sent-piece, JobHas, JobBegins, JobOpens, job_save, save-is, job_kind, take-kind, Job, Owner, Content, SaveSo, ContentReplies, Tale, told, bases, Shelf}
 use Rattle.core_facts.proofs.Orders.{seat_with, seat-own, seat-other, same-sits, leaves, joins}
 use Rattle.core_facts.proofs.Placing.{Placed, seat_state, seat_in}
 use Rattle.core_answers.proofs.writes.PiecesCarried.{starts-under, resumes-under, takes-under}
@@ -8,7 +8,7 @@ use Rattle.core_session.proofs.syncs.Fates.{start-kind, resume-kind, live-lane, 
 use Rattle.core_session.proofs.syncs.Jobs.{JobLaws}
 use Rattle.core_session.proofs.syncs.Levels.{Before, BesideSo, SaveNow}
 use Rattle.world_model.specs.declared.answer.Answer.TheVariants as answers
-use Rattle.client_shelf.specs.declared.next.Next.TheVariants as nexts
+use Rattle.client_shelf.specs.declared.step.Step.TheVariants as nexts
 use Rattle.op_machines.specs.declared.file_machine.FileMachine.TheVariants as files
 use Rattle.op_machines.specs.declared.machine.Machine.TheVariants as machines
 use Rattle.core_facts.proofs.AllSeats.{seat_of, IsLive, IsFreshFor, OfMachine, begins-fresh}
@@ -21,13 +21,13 @@ use Rattle.core_counts.proofs.thrift.short.EvWorking.{Moves, job-laws, job-repli
 
 -- ---- what is read off the engines below
 
-sends-live : (lane : ℕ) (base : ℕ → Option (List ℕ)) (least : 1 ≤ lane) (most : lane ≤ 16) (next : Next) (m : Machine) (order : List LaneFile)
+sends-live : (lane : ℕ) (base : ℕ → Option (List ℕ)) (least : 1 ≤ lane) (most : lane ≤ 16) (next : Step) (m : Machine) (order : List LaneFile)
     → OfMachine lane (SitsWith lane base) (leaves lane base) (joins lane base least most) next m order → (call : Call) → next ≡ nexts.Send call → IsLive lane m
 sends-live lane base least most (nexts.Send other) m order s call is = s.0
 sends-live lane base least most nexts.Wait m order s call is = absurd (cc)
 sends-live lane base least most (nexts.Done answer) m order s call is = absurd (cc)
 
-sends-count : (next : Next) (before : ℕ) (m : Machine) → Counts next before m → (call : Call) → next ≡ nexts.Send call → 1 ≤ in_flight m
+sends-count : (next : Step) (before : ℕ) (m : Machine) → Counts next before m → (call : Call) → next ≡ nexts.Send call → 1 ≤ in_flight m
 sends-count (nexts.Send other) before m c call is = let more = c.0 in omega (arith, more)
 sends-count nexts.Wait before m c call is = absurd (cc)
 sends-count (nexts.Done answer) before m c call is = absurd (cc)
@@ -64,7 +64,7 @@ module _ (m : Mounted) (setup : Setup) (h : List Entry) (old : View) (k : Known 
       seated = own-seat old.lanes old.shelf.order at s.number s.machine apart s.there placed.sits
 
       pub stirs-landed : (owner : Option (Owner f s.number (bases f old.lanes))) (tables : Shelf) (tables_are : tables ≡ new.shelf) (w : Ways f old.wsize (turn_at old) C D E t)
-          → ((next : Next) → Moves C D E t.A (EndKnown (job_kind s.machine) next) (GivesBy tables (job_kind s.machine) next) t.Cut t.B next)
+          → ((next : Step) → Moves C D E t.A (EndKnown (job_kind s.machine) next) (GivesBy tables (job_kind s.machine) next) t.Cut t.B next)
           → Unmade f old.wsize some s.number live.least live.most (bases f old.lanes) owner C D E t tables stirred (job_kind s.machine) → (Whole : Type 0)
           → (Whole → C old.shelf.seq old.shelf.back → D old.shelf.seq old.shelf.back) → C old.shelf.seq old.shelf.back
           → (job_save s.machine ≡ None → BesideSo f s.number (bases f old.lanes) owner old.shelf.seq old.shelf.back old.shelf.order)
@@ -142,7 +142,7 @@ module _ (m : Mounted) (setup : Setup) (h : List Entry) (old : View) (k : Known 
       pieces = sent-piece m setup h old r found xid call waits at s.number s.machine s.there taker wholly
 
       pub takes-landed : (owner : Option (Owner f s.number (bases f old.lanes))) (tables : Shelf) (tables_are : tables ≡ new.shelf) (w : Ways f old.wsize turn C D E t)
-          → ((next : Next) → Moves C D E t.A (EndKnown (job_kind s.machine) next) (GivesBy tables (job_kind s.machine) next) t.Cut t.B next)
+          → ((next : Step) → Moves C D E t.A (EndKnown (job_kind s.machine) next) (GivesBy tables (job_kind s.machine) next) t.Cut t.B next)
           → Unmade f old.wsize some s.number lively.least lively.most (bases f old.lanes) owner C D E t tables took (job_kind s.machine) → (M : Saving → Pending → Type 0)
           → ContentReplies old.wsize call.purpose.sent turn (said_of call.purpose.proc rec) M C → ContentReplies old.wsize call.purpose.sent turn (said_of call.purpose.proc rec) M D
           → ((z : Saving) → job_save s.machine ≡ Some z → M z old.shelf.back)
@@ -246,7 +246,7 @@ module _ (m : Mounted) (setup : Setup) (h : List Entry) (old : View) (k : Known 
       enters-new owner w (machines.Name o) p pa = p
 
       pub starts-landed : (owner : Option (Owner f lane (bases f old.lanes))) (tables : Shelf) (tables_are : tables ≡ new.shelf) (w : Ways f old.wsize (turn_at (counted old now)) C D E t)
-          → ((next : Next) → Moves C D E t.A (EndKnown (job_kind (machine_of m lane op)) next) (GivesBy tables (job_kind (machine_of m lane op)) next) t.Cut t.B next)
+          → ((next : Step) → Moves C D E t.A (EndKnown (job_kind (machine_of m lane op)) next) (GivesBy tables (job_kind (machine_of m lane op)) next) t.Cut t.B next)
           → Unmade f old.wsize some lane idle.least idle.most (bases f old.lanes) owner C D E t tables begun (job_kind (machine_of m lane op))
           → JobBegins (job-in f old.wsize some lane idle.least idle.most (bases f old.lanes) owner C D E t (turn_at (counted old now)) w) (machine_of m lane op) old.shelf.opens
           → C old.shelf.seq old.shelf.back → ((job_kind (machine_of m lane op) ≡ 2) ⊎ (job_kind (machine_of m lane op) ≡ 5) → D old.shelf.seq old.shelf.back)

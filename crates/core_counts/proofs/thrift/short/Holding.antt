@@ -1,11 +1,11 @@
 -- A save under way, before whose next byte no shorter piece ends: so through each of its steps.
-use Rattle.core_counts.proofs.Prelude.{◌≡◌, ◌<◌, ◌≤◌, ◌⊎◌, inl, inr, ◌+◌, ℕ, Bool, true, false, List, [], ◌∷◌, length, Option, Some, None, Result, Err, refl, sym, ap, subst, ◌∙◌, arith, nat_lt, Verf, Fault, Memory, Reply, Next, Repeat, Turn, goes_again, Change, InFlight, Acked, fate, chosen, IsAnswer, Pending, of_file, OnFile, acked_by, at_piece, at_xid, landed, landed_part, with_xid, FilePending, Flown, rest_at, fly_at, fly_in, flown_in, piece_under, Cell, Segments, covers, is_ready, is_in_flight, how_of, ready_of, answer-acked, answer-return, under-own, renumbers-so, Sending, Committing, Resending, CommittingAgain, Saving, EachSound, IsUnderWay, IsAwaited}
+use Rattle.core_counts.proofs.Prelude.{◌≡◌, ◌<◌, ◌≤◌, ◌⊎◌, inl, inr, ◌+◌, ℕ, Bool, true, false, List, [], ◌∷◌, length, Option, Some, None, Result, Err, refl, sym, ap, subst, ◌∙◌, arith, nat_lt, Verf, Fault, Memory, Reply, Step, Repeat, Turn, goes_again, Change, InFlight, Acked, fate, chosen, IsAnswer, Pending, of_file, OnFile, acked_by, at_piece, at_xid, landed, landed_part, with_xid, FilePending, Flown, rest_at, fly_at, fly_in, flown_in, piece_under, Cell, Segments, covers, is_ready, is_in_flight, how_of, ready_of, answer-acked, answer-return, under-own, renumbers-so, Sending, Committing, Resending, CommittingAgain, Saving, EachSound, IsUnderWay, IsAwaited}
 use Rattle.write_back.specs.declared.state.State.TheVariants.{Waiting}
 use Rattle.write_back.specs.Pieces.{Sent}
 use Rattle.write_back.proofs.Landings.{lands-one, lands-part}
 use Rattle.write_back.proofs.Xids.{fly-under}
 use Rattle.step_saves.specs.Saves.{IsHeld, PhaseHas, PhaseCounts, Leaves}
-use Rattle.client_shelf.specs.declared.next.Next.TheVariants as nexts
+use Rattle.client_shelf.specs.declared.step.Step.TheVariants as nexts
 use Rattle.write_back.specs.declared.change.Change.TheVariants as by_change
 use Rattle.write_back.specs.declared.state.Ready.TheVariants.{Refused}
 use Rattle.write_back.specs.declared.state.State.{State}
@@ -58,12 +58,12 @@ module _ (before next wsize : ℕ) (is_next : next ≡ before + 1) (some : 1 ≤
   Early to file b = Each (λ q. q.xid < to) (of_file file b).pieces
 
   -- the same save, after a step
-  abbrev pub HoldsOn : Next → Saving → Saving → Pending → Type 0
+  abbrev pub HoldsOn : Step → Saving → Saving → Pending → Type 0
   HoldsOn (nexts.Send call) s new after = (new.file ≡ s.file) × Hold new after
   HoldsOn nexts.Wait s new after = (new.file ≡ s.file) × Hold new after
   HoldsOn (nexts.Done answer) s new after = Unit {0}
 
-  holds-on : (n : Next) (s new : Saving) (after : Pending) → Leaves n s new after → IsOpen s.upto (of_file s.file after) → HoldsOn n s new after
+  holds-on : (n : Step) (s new : Saving) (after : Pending) → Leaves n s new after → IsOpen s.upto (of_file s.file after) → HoldsOn n s new after
   holds-on (nexts.Send call) s new after l open_ =
       (l.file, record { way = l.so; open_ = subst (λ (n : ℕ). IsOpen n (of_file new.file after)) (sym l.upto) (subst (λ (g : List ℕ). IsOpen s.upto (of_file g after)) (sym l.file) open_) })
   holds-on nexts.Wait s new after l open_ =

@@ -1,5 +1,5 @@
 -- Along a history: as long as no WRITE that covers a place of a file was sent, what is pending there was never sent, but that it may be on its way for the first time.
-use Rattle.core_counts.proofs.Prelude.{◌≡◌, ◌≤◌, ◌⊎◌, inl, inr, ◌+◌, ◌++◌, ℕ, Bool, true, false, List, [], ◌∷◌, length, Option, Some, None, option_map, position, Result, Err, refl, sym, ap, subst, ◌∙◌, arith, xid_at, Waiting, next_xid, waiting_at, Fault, Entry, Began, Answered, Sent, Delivered, Call, Reply, Op, CoversPlace, SpellsCall, CoveredEarlier, At-grow, At-below, length_last, said_of, Unsent, Pending, of_file, IsNewest, rest_at, piece_under, Cell, covers, low-of, high-of, same-or, Next, Shelf, Turn, Saving, IsReady, IsUnused, Mounted, Machine, machine_of, Fits, Starts, Resumes, Takes, Purpose, Busy, Setup, is_busy, with_state, Leads, Stirs, counted, StartsLane, TakesAt, View, turn_at, unmade_turn, HearsRecord, Reaches, IsOutstanding, Tried, begins-unbegun, taken_one, Flies, flies_of, sender, look_at, was-sent, Known, taker-is, lanes-under-way, look-at, reached-rows, reached-good, written_file, one-call, CallFits, fits-laws, After, tales, unused-next, TakesHas, Basis, basis-ready, stirs-basis, starts-basis, takes-basis, keeps-basis, NearAs, unmade-has, KeepsHearing, reached-hearing, Wholly, keeps-wholly, stirs-wholly, starts-wholly, takes-wholly, EachSound}
+use Rattle.core_counts.proofs.Prelude.{◌≡◌, ◌≤◌, ◌⊎◌, inl, inr, ◌+◌, ◌++◌, ℕ, Bool, true, false, List, [], ◌∷◌, length, Option, Some, None, option_map, position, Result, Err, refl, sym, ap, subst, ◌∙◌, arith, xid_at, Waiting, next_xid, waiting_at, Fault, Entry, Began, Answered, Sent, Delivered, Call, Reply, Op, CoversPlace, SpellsCall, CoveredEarlier, At-grow, At-below, length_last, said_of, Unsent, Pending, of_file, IsNewest, rest_at, piece_under, Cell, covers, low-of, high-of, same-or, Step, Shelf, Turn, Saving, IsReady, IsUnused, Mounted, Machine, machine_of, Fits, Starts, Resumes, Takes, Purpose, Busy, Setup, is_busy, with_state, Leads, Stirs, counted, StartsLane, TakesAt, View, turn_at, unmade_turn, HearsRecord, Reaches, IsOutstanding, Tried, begins-unbegun, taken_one, Flies, flies_of, sender, look_at, was-sent, Known, taker-is, lanes-under-way, look-at, reached-rows, reached-good, written_file, one-call, CallFits, fits-laws, After, tales, unused-next, TakesHas, Basis, basis-ready, stirs-basis, starts-basis, takes-basis, keeps-basis, NearAs, unmade-has, KeepsHearing, reached-hearing, Wholly, keeps-wholly, stirs-wholly, starts-wholly, takes-wholly, EachSound}
 use Rattle.core_facts.specs.Tries.{unsent, runs, ended}
 use Rattle.core_facts.proofs.Flown.{flies_state}
 use Rattle.core_answers.proofs.writes.Backs.{CarriesReply}
@@ -8,7 +8,7 @@ use Rattle.core_session.proofs.order.Adds.{Bears, all-starts, all-resumes, all-t
 use Rattle.core_session.proofs.order.Sounds.{Sounds, SoundsFirst, SoundCall, bears-sounds, replies-sounds}
 use Rattle.write_back.specs.declared.state.State.TheVariants.{Waiting as Rests}
 use Rattle.write_back.specs.Pieces.{Sent as Piece}
-use Rattle.client_shelf.specs.declared.next.Next.TheVariants as nexts
+use Rattle.client_shelf.specs.declared.step.Step.TheVariants as nexts
 use Rattle.file_ops.specs.Saves as saves
 use Rattle.file_ops.specs.Syncs as syncs
 use Rattle.op_machines.proofs.AllLaws as laws
@@ -19,7 +19,7 @@ use Rattle.core_counts.proofs.coarse.Near.{near-has, near-starts}
 use Rattle.core_counts.proofs.coarse.OfSaves.{of-machine}
 use Rattle.core_counts.proofs.thrift.short.PlainSaves.{Plain, Apart, PlainAt, adds-plain, cuts-plain, gives-plain, goes-plain, takes-plain, unmade-plain, nothing-plain}
 
-both-after : (A C : Pending → Type 0) (B D : Call → Pending → Type 0) (next : Next) (back : Pending) → After A B next back → After C D next back
+both-after : (A C : Pending → Type 0) (B D : Call → Pending → Type 0) (next : Step) (back : Pending) → After A B next back → After C D next back
     → After (λ k. A k × C k) (λ call k. B call k × D call k) next back
 both-after A C B D (nexts.Send call) back a c = (a, c)
 both-after A C B D nexts.Wait back a c = (a, c)
@@ -31,7 +31,7 @@ some-piece a b e = cc
 -- ---- a step of any operation
 
 module _ (f : List ℕ) (i wsize : ℕ) (turn : Turn) where
-  plain-after : (next : Next) (back : Pending) → PlainAt f i back → After (PlainAt f i) (λ call. PlainAt f i) next back
+  plain-after : (next : Step) (back : Pending) → PlainAt f i back → After (PlainAt f i) (λ call. PlainAt f i) next back
   plain-after (nexts.Send call) back k = k
   plain-after nexts.Wait back k = k
   plain-after (nexts.Done answer) back k = k
@@ -70,18 +70,18 @@ module _ (f : List ℕ) (i wsize : ℕ) (turn : Turn) where
       k : Bears wsize turn (NearAs wsize turn n) (SoundsFirst wsize turn n) (Sounds wsize turn) (SoundCall wsize turn)
       k = bears-sounds wsize turn n
 
-  since-after : (next : Next) (back : Pending) → After Since WithCall next back → PlainAt f i back × EachSound back
+  since-after : (next : Step) (back : Pending) → After Since WithCall next back → PlainAt f i back × EachSound back
   since-after (nexts.Send call) back p = p
   since-after nexts.Wait back p = (p.0, p.1.sound)
   since-after (nexts.Done answer) back p = (p.0, p.1.sound)
 
-  starts-plain : (m : Machine) (old : Shelf) (next : Next) (new : Machine) (after : Shelf) → Fits m → PlainAt f i old.back → EachSound old.back → IsUnused turn.xid old.back → IsNewest (old.seq + 1) old.back
+  starts-plain : (m : Machine) (old : Shelf) (next : Step) (new : Machine) (after : Shelf) → Fits m → PlainAt f i old.back → EachSound old.back → IsUnused turn.xid old.back → IsNewest (old.seq + 1) old.back
       → Starts wsize m turn old next new after → PlainAt f i after.back × EachSound after.back
   starts-plain m old next new after fits p sound free newest t =
       since-after next after.back (all-starts wsize turn (NearAs wsize turn (old.seq + 1)) (First (old.seq + 1)) Since WithCall (bears-plain (old.seq + 1)) m old next new after
       (near-starts (old.seq + 1) wsize turn m old.opens next fits) (p, record { sounds = record { sound = sound; free = free }; newest = newest }) t)
 
-  resumes-plain : (m : Machine) (old : Shelf) (next : Next) (new : Machine) (after : Shelf) → PlainAt f i old.back → EachSound old.back → IsUnused turn.xid old.back
+  resumes-plain : (m : Machine) (old : Shelf) (next : Step) (new : Machine) (after : Shelf) → PlainAt f i old.back → EachSound old.back → IsUnused turn.xid old.back
       → Resumes wsize m turn old next new after → PlainAt f i after.back × EachSound after.back
   resumes-plain m old next new after p sound free t =
       since-after next after.back (all-resumes wsize turn Since WithCall (bears-plain 0).then_ m old next new after (p, record { sound = sound; free = free }) t)
@@ -97,21 +97,21 @@ module _ (f : List ℕ) (i wsize : ℕ) (turn : Turn) where
           ((replies-sounds wsize turn sent came n).takes repeats s back next new after later t tt p.1);
     }
 
-    all-plain : (m : Machine) (old : Shelf) (next : Next) (new : Machine) (after : Shelf) (t : Takes wsize m sent turn came old next new after)
+    all-plain : (m : Machine) (old : Shelf) (next : Step) (new : Machine) (after : Shelf) (t : Takes wsize m sent turn came old next new after)
         → TakesHas (λ file offset bytes. NearAs wsize turn (old.seq + 1) file offset bytes (old.seq + 1)) wsize m sent turn came old next new after t → Saves (λ s. N s old.back) m
         → PlainAt f i old.back → EachSound old.back → IsUnused turn.xid old.back → IsNewest (old.seq + 1) old.back → PlainAt f i after.back × EachSound after.back
     all-plain m old next new after t has now p sound free newest =
         since-after next after.back (all-takes wsize turn (NearAs wsize turn (old.seq + 1)) (First (old.seq + 1)) Since WithCall (bears-plain (old.seq + 1)) sent came N (replies-plain (old.seq + 1)) m old next new after t
         has now (p, record { sounds = record { sound = sound; free = free }; newest = newest }))
 
-none-plain : (f : List ℕ) (i wsize : ℕ) (sent turn : Turn) (fault : Fault) (m : Machine) (old : Shelf) (next : Next) (new : Machine) (after : Shelf) → Takes wsize m sent turn (Err fault) old next new after
+none-plain : (f : List ℕ) (i wsize : ℕ) (sent turn : Turn) (fault : Fault) (m : Machine) (old : Shelf) (next : Step) (new : Machine) (after : Shelf) → Takes wsize m sent turn (Err fault) old next new after
     → PlainAt f i old.back → EachSound old.back → IsUnused turn.xid old.back → IsNewest (old.seq + 1) old.back → PlainAt f i after.back
 none-plain f i wsize sent turn fault m old next new after t p sound free newest =
     (all-plain f i wsize turn sent (Err fault) (λ s back. Unit {0}) (λ repeats s back next new after later takes now k each. unmade-plain f i wsize sent turn fault repeats s back next new after later each takes k)
     m old next new after t (unmade-has (λ file offset bytes. NearAs wsize turn (old.seq + 1) file offset bytes (old.seq + 1)) wsize sent turn fault m old next new after t) (any-saves m) p sound free newest).0
 
 -- what a step leads to
-leads-plain : (f : List ℕ) (i : ℕ) (v new : View) (at number : ℕ) (machine : Machine) (next : Next) → Leads v at number machine next new → IsReady (next_xid v.calls + 1) v.shelf.seq v.shelf.back
+leads-plain : (f : List ℕ) (i : ℕ) (v new : View) (at number : ℕ) (machine : Machine) (next : Step) → Leads v at number machine next new → IsReady (next_xid v.calls + 1) v.shelf.seq v.shelf.back
     → PlainAt f i v.shelf.back × EachSound v.shelf.back → PlainAt f i new.shelf.back
 leads-plain f i v new at number machine (nexts.Send call) (inl mk) ready k = subst (λ (w : View). PlainAt f i w.shelf.back) (sym mk.is) k.0
 leads-plain f i v new at number machine (nexts.Send call) (inr u) ready k =

@@ -1,19 +1,19 @@
 -- A put whose bytes have both places, or neither: so through each of its steps, its path among them.
-use Rattle.core_counts.proofs.Prelude.{◌≡◌, ◌<◌, ◌≤◌, ◌^◌, ◌⊎◌, inl, inr, ◌+◌, ◌-◌, ℕ, Bool, true, false, List, [], ◌∷◌, length, Some, None, Result, Ok, Err, refl, sym, ap, subst, ◌∙◌, arith, slice_index, ltb-false, Fault, Reply, Next, Shelf, Turn, is_first, Unsent, Pending, of_file, all_pending, with_bytes, OnFile, HasNoPiece, IsNewest, FilePending, Flown, rest_at, fly_at, fly_in, PutsBytes, Cell, covers, how_of, ready_of, puts-with, OpeningNext, PutFile, Putting, Saving, Writing, is_full, refusal_of, joined, by-step, ends_as, WalkNext, Machine, Opener, PathMachine, file_of, slot_taken, begun_at, Starts, Resumes, Takes, EachSound, if-true, if-false, IsAwaited, TakesHas, PathHas, FileHas, PutHas, WaitsPlain, NotAsStable}
+use Rattle.core_counts.proofs.Prelude.{◌≡◌, ◌<◌, ◌≤◌, ◌^◌, ◌⊎◌, inl, inr, ◌+◌, ◌-◌, ℕ, Bool, true, false, List, [], ◌∷◌, length, Some, None, Result, Ok, Err, refl, sym, ap, subst, ◌∙◌, arith, slice_index, ltb-false, Fault, Reply, Step, Shelf, Turn, is_first, Unsent, Pending, of_file, all_pending, with_bytes, OnFile, HasNoPiece, IsNewest, FilePending, Flown, rest_at, fly_at, fly_in, PutsBytes, Cell, covers, how_of, ready_of, puts-with, OpeningStep, PutFile, Putting, Saving, Writing, is_full, refusal_of, joined, by-step, ends_as, WalkStep, Machine, Opener, PathMachine, file_of, slot_taken, begun_at, Starts, Resumes, Takes, EachSound, if-true, if-false, IsAwaited, TakesHas, PathHas, FileHas, PutHas, WaitsPlain, NotAsStable}
 use Rattle.write_back.specs.Pieces.{Sent}
 use Rattle.file_ops.specs.Closings.{closed_answer}
 use Rattle.op_machines.specs.Openers.{placed}
 use Rattle.world_model.specs.declared.answer.Answer.TheVariants as answers
-use Rattle.client_shelf.specs.declared.next.Next.TheVariants as nexts
+use Rattle.client_shelf.specs.declared.step.Step.TheVariants as nexts
 use Rattle.write_back.specs.declared.state.State.TheVariants.{Waiting}
 use Rattle.write_back.specs.Sound.{most_pending}
-use Rattle.file_ops.specs.declared.opening.OpeningNext.TheVariants as openings
+use Rattle.file_ops.specs.declared.opening.OpeningStep.TheVariants as openings
 use Rattle.file_ops.specs.declared.put_file.Putting.TheVariants as putting
 use Rattle.file_ops.specs.PutFile as puts
 use Rattle.file_ops.specs.Saves as saves
 use Rattle.file_ops.specs.Syncs.{sync_next}
 use Rattle.file_ops.specs.WriteFile as writes
-use Rattle.name_ops.specs.declared.walk.WalkNext.TheVariants as walks
+use Rattle.name_ops.specs.declared.walk.WalkStep.TheVariants as walks
 use Rattle.name_ops.specs.Walking as walking
 use Rattle.name_ops.proofs.Keeps.{walk-takes-kept}
 use Rattle.op_machines.specs.declared.machine.Machine.TheVariants as machines
@@ -64,7 +64,7 @@ module _ (before next wsize : ℕ) (is_next : next ≡ before + 1) (some : 1 ≤
     pub text : HasText p
     pub at : AtState p.state b
 
-  abbrev pub PutOn : Next → PutFile → Pending → Type 0
+  abbrev pub PutOn : Step → PutFile → Pending → Type 0
   PutOn (nexts.Send call) p b = PutIs p b
   PutOn nexts.Wait p b = PutIs p b
   PutOn (nexts.Done answer) p b = Unit {0}
@@ -76,45 +76,45 @@ module _ (before next wsize : ℕ) (is_next : next ≡ before + 1) (some : 1 ≤
     pub full : is_full bytes old.back ≡ false
     pub quiet : HasNoPiece f old.back
 
-  put-on : (nx to : Next) (new p : PutFile) (after mid : Shelf) → nx ≡ to → new ≡ p → after ≡ mid → PutOn to p mid.back → PutOn nx new after.back
+  put-on : (nx to : Step) (new p : PutFile) (after mid : Shelf) → nx ≡ to → new ≡ p → after ≡ mid → PutOn to p mid.back → PutOn nx new after.back
   put-on nx to new p after mid n m s h = rw (n, m, s) h
 
   -- ---- its save
 
-  abbrev SaveOn : Next → Saving → Pending → Type 0
+  abbrev SaveOn : Step → Saving → Pending → Type 0
   SaveOn (nexts.Send call) s b = SaveIs s b
   SaveOn nexts.Wait s b = SaveIs s b
   SaveOn (nexts.Done answer) s b = Unit {0}
 
-  save-on : (n : Next) (s new : Saving) (b : Pending) → new.file ≡ s.file → (s.file ≡ f → Cov ⊎ HoldsOn before next wsize is_next some n s new b) → SaveOn n new b
+  save-on : (n : Step) (s new : Saving) (b : Pending) → new.file ≡ s.file → (s.file ≡ f → Cov ⊎ HoldsOn before next wsize is_next some n s new b) → SaveOn n new b
   save-on (nexts.Send call) s new b file h = λ same. elim (h (sym file ∙ same)) [ inl c ↦ inl c | inr k ↦ inr k.1 ]
   save-on nexts.Wait s new b file h = λ same. elim (h (sym file ∙ same)) [ inl c ↦ inl c | inr k ↦ inr k.1 ]
   save-on (nexts.Done answer) s new b file h = tt
 
-  follows-on : (gives : _) (lane : ℕ) (saved : Saving) (p new : PutFile) (mid : Shelf) (nx : Next) (after : Shelf) → HasText p → new ≡ record p { state = new.state }
+  follows-on : (gives : _) (lane : ℕ) (saved : Saving) (p new : PutFile) (mid : Shelf) (nx : Step) (after : Shelf) → HasText p → new ≡ record p { state = new.state }
       → puts.Follows gives lane saved mid nx new.state after → SaveOn (sync_next gives) saved mid.back → PutOn nx new after.back
   follows-on gives lane saved p new mid nx after text is follows on =
       by-step (λ g. puts.Follows g lane saved mid nx new.state after → SaveOn (sync_next g) saved mid.back → PutOn nx new after.back)
       (λ call f h. going nx (nexts.Send call) f.0 f.1 f.2 (λ k. k) h)
       (λ f h. going nx nexts.Wait f.0 f.1 f.2 (λ k. k) h)
-      (λ result f h. subst (λ (n : Next). PutOn n new after.back) (sym (ended result f)) tt) gives follows on
+      (λ result f h. subst (λ (n : Step). PutOn n new after.back) (sym (ended result f)) tt) gives follows on
     where
       own : AtState new.state after.back → PutIs new after.back
       own at = record { text = record { offset_is = ap (λ (z : PutFile). z.write.offset) is ∙ text.offset_is; text_is = ap (λ (z : PutFile). writes.made_bytes z.write.text) is ∙ text.text_is }; at = at }
 
-      going : (n to : Next) → n ≡ to → new.state ≡ putting.Saves saved → after ≡ mid → (PutIs new after.back → PutOn to new after.back) → SaveIs saved mid.back → PutOn n new after.back
+      going : (n to : Step) → n ≡ to → new.state ≡ putting.Saves saved → after ≡ mid → (PutIs new after.back → PutOn to new after.back) → SaveIs saved mid.back → PutOn n new after.back
       going n to is_ state shelf on_ h =
-          subst (λ (z : Next). PutOn z new after.back) (sym is_)
+          subst (λ (z : Step). PutOn z new after.back) (sym is_)
           (on_ (own (subst (λ (s : Putting). AtState s after.back) (sym state) (subst (λ (z : Shelf). SaveIs saved z.back) (sym shelf) h))))
 
       ended : (result : Result (Unit {0}) Fault) → puts.Follows (ends_as result) lane saved mid nx new.state after → nx ≡ nexts.Done (closed_answer (refusal_of result))
       ended result f = f.next_is
 
   module _ (turn : Turn) (old : Shelf) (sound : EachSound old.back) where
-    queues-on : (b : Bool) (lane : ℕ) (s : Saving) (p new : PutFile) (nx : Next) (after : Shelf) → (s.file ≡ f → Soon turn.xid s.file old.back) → HasText p → new ≡ record p { state = new.state }
+    queues-on : (b : Bool) (lane : ℕ) (s : Saving) (p new : PutFile) (nx : Step) (after : Shelf) → (s.file ≡ f → Soon turn.xid s.file old.back) → HasText p → new ≡ record p { state = new.state }
         → puts.QueuesIf b wsize lane turn s old nx new.state after → SaveIs s old.back → PutOn nx new after.back
     queues-on false lane s p new nx after early text is q h =
-        subst (λ (n : Next). PutOn n new after.back) (sym q.next_is)
+        subst (λ (n : Step). PutOn n new after.back) (sym q.next_is)
         (record {
           text = record { offset_is = ap (λ (z : PutFile). z.write.offset) is ∙ text.offset_is; text_is = ap (λ (z : PutFile). writes.made_bytes z.write.text) is ∙ text.text_is };
           at = subst (λ (z : Putting). AtState z after.back) (sym q.state_is) (subst (λ (z : Shelf). SaveIs s z.back) (sym q.shelf_is) h);
@@ -185,19 +185,19 @@ module _ (before next wsize : ℕ) (is_next : next ≡ before + 1) (some : 1 ≤
               };
             })
 
-    refused-on : (told : Next) (fault : Fault) (lane : ℕ) (mid : Shelf) (nx : Next) (new : PutFile) (after : Shelf) → told ≡ nexts.Done (answers.Refused fault)
+    refused-on : (told : Step) (fault : Fault) (lane : ℕ) (mid : Shelf) (nx : Step) (new : PutFile) (after : Shelf) → told ≡ nexts.Done (answers.Refused fault)
         → puts.AfterWrite told wsize lane file turn mid nx new.state after → PutOn nx new after.back
     refused-on told fault lane mid nx new after is f =
-        let ends = subst (λ (z : Next). puts.AfterWrite z wsize lane file turn mid nx new.state after) is f in
-        subst (λ (z : Next). PutOn z new after.back) (sym ends.next_is) tt
+        let ends = subst (λ (z : Step). puts.AfterWrite z wsize lane file turn mid nx new.state after) is f in
+        subst (λ (z : Step). PutOn z new after.back) (sym ends.next_is) tt
 
-    comes-in : (b : Bool) (lane : ℕ) (told : Next) (written : Writing) (mid : Shelf) (p new : PutFile) (nx : Next) (after : Shelf) → is_full bytes old.back ≡ b → Awaits side old.back → HasText p
+    comes-in : (b : Bool) (lane : ℕ) (told : Step) (written : Writing) (mid : Shelf) (p new : PutFile) (nx : Step) (after : Shelf) → is_full bytes old.back ≡ b → Awaits side old.back → HasText p
         → new ≡ record p { write = record p.write { state = written }; state = new.state }
         → writes.WritesIf b wsize lane file offset bytes turn (puts.put_at lane file old) told written mid → puts.AfterWrite told wsize lane file turn mid nx new.state after → PutOn nx new after.back
     comes-in true lane told written mid p new nx after full awaits text is w f = absurd (let full_ = may.full in let no_way : true ≡ false = sym full ∙ full_ in cc)
     comes-in false lane told written mid p new nx after full awaits text is (inr refused) f = refused-on told _ lane mid nx new after refused.gives_next f
     comes-in false lane told written mid p new nx after full awaits text is (inl adds) wrote =
-        let follows = subst (λ (z : Next). puts.AfterWrite z wsize lane file turn mid nx new.state after) adds.leads.gives_next wrote in
+        let follows = subst (λ (z : Step). puts.AfterWrite z wsize lane file turn mid nx new.state after) adds.leads.gives_next wrote in
         let seq : mid.seq ≡ old.seq + 1 = ap (λ (z : Shelf). z.seq) adds.leads.shelf_is in
         let room : all_pending old.back + length bytes ≤ most_pending = ltb-false most_pending (all_pending old.back + length bytes) full in
         let fine : EachSound mid.back = sound-in old.back mid.back file offset (old.seq + 1) bytes sound may.newest may.last room adds.adds in
@@ -222,11 +222,11 @@ module _ (before next wsize : ℕ) (is_next : next ≡ before + 1) (some : 1 ≤
       IsAwaited s sent.xid b
       × (Soon turn.xid s.file b × ((flown : Flown) → s.file ≡ f → fly_at (of_file s.file b) next ≡ Some flown → Cov) ⊎ ((fault : Fault) × (came ≡ Err fault) × (s.file ≡ f → Each (λ q. q.xid ≤ sent.xid) (of_file s.file b).pieces)))
 
-  opened-on : (turn : Turn) (old : Shelf) (sound : EachSound old.back) (step : OpeningNext) (p new : PutFile) (nx : Next) (after : Shelf) → HasText p → p.state ≡ putting.Opens → Awaits side old.back
+  opened-on : (turn : Turn) (old : Shelf) (sound : EachSound old.back) (step : OpeningStep) (p new : PutFile) (nx : Step) (after : Shelf) → HasText p → p.state ≡ putting.Opens → Awaits side old.back
       → puts.AfterOpening step wsize p turn old nx new after → ((file : List ℕ) → step ≡ openings.Ended (Ok file) → MayAdd old) → PutOn nx new after.back
   opened-on turn old sound (openings.Send call) p new nx after text opens awaits f may = put-on nx (nexts.Send call) new p after old f.0 f.1 f.2 (record { text = text; at = rw opens awaits })
   opened-on turn old sound openings.Wait p new nx after text opens awaits f may = put-on nx nexts.Wait new p after old f.next_is f.machine_is f.shelf_is (record { text = text; at = rw opens awaits })
-  opened-on turn old sound (openings.Ended (Err fault)) p new nx after text opens awaits f may = subst (λ (z : Next). PutOn z new after.back) (sym f.0) tt
+  opened-on turn old sound (openings.Ended (Err fault)) p new nx after text opens awaits f may = subst (λ (z : Step). PutOn z new after.back) (sym f.0) tt
   opened-on turn old sound (openings.Ended (Ok file)) p new nx after text opens awaits f may =
       comes-in turn old sound (may file refl) file (is_full bytes old.back) p.write.lane f.told f.written f.mid p new nx after refl awaits text f.goes.machine_is
       (subst (λ (bs : List ℕ). writes.Writes wsize p.write.lane file offset bs turn (puts.put_at p.write.lane file old) f.told f.written f.mid) text.text_is
@@ -241,7 +241,7 @@ module _ (before next wsize : ℕ) (is_next : next ≡ before + 1) (some : 1 ≤
   }
 
   module _ (turn : Turn) (old : Shelf) (sound : EachSound old.back) where
-    put-resumes : (state : Putting) (p new : PutFile) (nx : Next) (after : Shelf) → p.state ≡ state → HasText p → AtState state old.back → ((s : Saving) → state ≡ putting.Saves s → Soon turn.xid s.file old.back) → puts.Resumes state wsize p turn old nx new after → PutOn nx new after.back
+    put-resumes : (state : Putting) (p new : PutFile) (nx : Step) (after : Shelf) → p.state ≡ state → HasText p → AtState state old.back → ((s : Saving) → state ≡ putting.Saves s → Soon turn.xid s.file old.back) → puts.Resumes state wsize p turn old nx new after → PutOn nx new after.back
     put-resumes putting.Idle p new nx after is text at early r = put-on nx nexts.Wait new p after old r.next_is r.machine_is r.shelf_is (record { text = text; at = rw is at })
     put-resumes putting.Opens p new nx after is text at early r = by nx
       where
@@ -251,7 +251,7 @@ module _ (before next wsize : ℕ) (is_next : next ≡ before + 1) (some : 1 ≤
           at = subst (λ (s : Putting). AtState s after.back) (sym (ap (λ (z : PutFile). z.state) r.1 ∙ is)) (subst (λ (z : Shelf). Awaits side z.back) (sym r.2) at);
         }
 
-        by : (n : Next) → PutOn n new after.back
+        by : (n : Step) → PutOn n new after.back
         by (nexts.Send call) = own
         by nexts.Wait = own
         by (nexts.Done answer) = tt
@@ -259,7 +259,7 @@ module _ (before next wsize : ℕ) (is_next : next ≡ before + 1) (some : 1 ≤
     put-resumes (putting.Saves s) p new nx after is text at early r =
         queues-on turn old sound (is_first p.write.lane old.order) p.write.lane s p new nx after (λ same. early s refl) text r.1 r.0 at
 
-    put-takes : (state : Putting) (sent : Turn) (came : Result Reply Fault) (p new : PutFile) (nx : Next) (after : Shelf) → p.state ≡ state → HasText p → AtState state old.back → HeardBy sent turn came state old.back
+    put-takes : (state : Putting) (sent : Turn) (came : Result Reply Fault) (p new : PutFile) (nx : Step) (after : Shelf) → p.state ≡ state → HasText p → AtState state old.back → HeardBy sent turn came state old.back
         → (t : puts.Takes state wsize p sent turn came old nx new after) → PutHas (λ file. MayAdd old) state wsize p sent turn came old nx new after t → PutOn nx new after.back
     put-takes putting.Idle sent came p new nx after is text at heard t has = put-on nx nexts.Wait new p after old t.next_is t.machine_is t.shelf_is (record { text = text; at = rw is at })
     put-takes putting.Opens sent came p new nx after is text at heard t has =
@@ -307,27 +307,27 @@ module _ (before next wsize : ℕ) (is_next : next ≡ before + 1) (some : 1 ≤
   Runs (machines.File m) b = ⊥
   Runs (machines.Name m) b = ⊥
 
-  abbrev pub RunsOn : Next → Machine → Pending → Type 0
+  abbrev pub RunsOn : Step → Machine → Pending → Type 0
   RunsOn (nexts.Send call) m b = Runs m b
   RunsOn nexts.Wait m b = Runs m b
   RunsOn (nexts.Done answer) m b = Unit {0}
 
-  abbrev ThereOn : Next → Opener → Pending → Type 0
+  abbrev ThereOn : Step → Opener → Pending → Type 0
   ThereOn (nexts.Send call) o b = ThereRuns o b
   ThereOn nexts.Wait o b = ThereRuns o b
   ThereOn (nexts.Done answer) o b = Unit {0}
 
-  there-of : (n : Next) (q : PutFile) (b : Pending) → PutOn n q b → ThereOn n (openers.Put q) b
+  there-of : (n : Step) (q : PutFile) (b : Pending) → PutOn n q b → ThereOn n (openers.Put q) b
   there-of (nexts.Send call) q b h = h
   there-of nexts.Wait q b h = h
   there-of (nexts.Done answer) q b h = tt
 
-  path-of : (n : Next) (m new : PathMachine) (k : Opener) (b : Pending) → m.arrived ≡ true → new ≡ record m { opener = k } → ThereOn n k b → RunsOn n (machines.Path new) b
+  path-of : (n : Step) (m new : PathMachine) (k : Opener) (b : Pending) → m.arrived ≡ true → new ≡ record m { opener = k } → ThereOn n k b → RunsOn n (machines.Path new) b
   path-of (nexts.Send call) m new k b there is h = subst (λ (z : PathMachine). OpenerRuns z.arrived z.opener b) (sym is) (subst (λ (c : Bool). OpenerRuns c k b) (sym there) h)
   path-of nexts.Wait m new k b there is h = subst (λ (z : PathMachine). OpenerRuns z.arrived z.opener b) (sym is) (subst (λ (c : Bool). OpenerRuns c k b) (sym there) h)
   path-of (nexts.Done answer) m new k b there is h = tt
 
-  machine-of : (n : Next) (to new : Machine) (b : Pending) → new ≡ to → RunsOn n to b → RunsOn n new b
+  machine-of : (n : Step) (to new : Machine) (b : Pending) → new ≡ to → RunsOn n to b → RunsOn n new b
   machine-of n to new b is h = subst (λ (z : Machine). RunsOn n z b) (sym is) h
 
   placed-runs : (dir : List ℕ) (o : Opener) (b : Pending) → WayRuns o b → ThereRuns (placed dir o) b
@@ -350,7 +350,7 @@ module _ (before next wsize : ℕ) (is_next : next ≡ before + 1) (some : 1 ≤
   early-placed to dir (openers.Put p) b = λ s is. absurd (let no_way : putting.Opens ≡ putting.Saves s = is in cc)
   early-placed to dir (openers.Open o) b = tt
 
-  module _ (turn : Turn) (old : Shelf) (sound : EachSound old.back) (nx : Next) (after : Shelf) where
+  module _ (turn : Turn) (old : Shelf) (sound : EachSound old.back) (nx : Step) (after : Shelf) where
     then-resumes : (o k : Opener) → ThereRuns o old.back → EarlyOf turn.xid o old.back → steps.Resumes wsize (file_of o) turn old nx (file_of k) after → ThereOn nx k after.back
     then-resumes (openers.Open o) k runs early r = absurd runs
     then-resumes (openers.Put p) (openers.Open o) runs early r = absurd (no-open o r.machine r.machine_is)
@@ -358,38 +358,38 @@ module _ (before next wsize : ℕ) (is_next : next ≡ before + 1) (some : 1 ≤
         there-of nx q after.back (subst (λ (z : PutFile). PutOn nx z after.back) (some-put q r.machine r.machine_is)
         (put-resumes turn old sound p.state p r.machine nx after refl runs.text runs.at early r.step))
 
-    follows-way : (step : WalkNext) (m new : PathMachine) → m.arrived ≡ false → WayRuns m.opener old.back → paths.Follows step wsize m turn old nx new after → RunsOn nx (machines.Path new) after.back
+    follows-way : (step : WalkStep) (m new : PathMachine) → m.arrived ≡ false → WayRuns m.opener old.back → paths.Follows step wsize m turn old nx new after → RunsOn nx (machines.Path new) after.back
     follows-way (walks.Send call) m new way runs f =
-        subst (λ (n : Next). RunsOn n (machines.Path new) after.back) (sym f.0)
+        subst (λ (n : Step). RunsOn n (machines.Path new) after.back) (sym f.0)
         (subst (λ (z : PathMachine). OpenerRuns z.arrived z.opener after.back) (sym f.1) (subst (λ (c : Bool). OpenerRuns c m.opener after.back) (sym way) (subst (λ (z : Shelf). WayRuns m.opener z.back) (sym f.2) runs)))
     follows-way walks.Wait m new way runs f =
-        subst (λ (n : Next). RunsOn n (machines.Path new) after.back) (sym f.0)
+        subst (λ (n : Step). RunsOn n (machines.Path new) after.back) (sym f.0)
         (subst (λ (z : PathMachine). OpenerRuns z.arrived z.opener after.back) (sym f.1) (subst (λ (c : Bool). OpenerRuns c m.opener after.back) (sym way) (subst (λ (z : Shelf). WayRuns m.opener z.back) (sym f.2) runs)))
-    follows-way (walks.Refused fault) m new way runs f = subst (λ (n : Next). RunsOn n (machines.Path new) after.back) (sym f.0) tt
+    follows-way (walks.Refused fault) m new way runs f = subst (λ (n : Step). RunsOn n (machines.Path new) after.back) (sym f.0) tt
     follows-way (walks.At dir) m new way runs f =
         path-of nx (record m { opener = placed dir m.opener; arrived = true }) new f.opener after.back refl f.machine_is
         (then-resumes (placed dir m.opener) f.opener (placed-runs dir m.opener old.back runs) (early-placed turn.xid dir m.opener old.back) f.step)
 
-  path-resumes : (b : Bool) (turn : Turn) (old : Shelf) → EachSound old.back → ((file : List ℕ) → Soon turn.xid file old.back) → (nx : Next) (after : Shelf) (m new : PathMachine) → m.arrived ≡ b
+  path-resumes : (b : Bool) (turn : Turn) (old : Shelf) → EachSound old.back → ((file : List ℕ) → Soon turn.xid file old.back) → (nx : Step) (after : Shelf) (m new : PathMachine) → m.arrived ≡ b
       → OpenerRuns b m.opener old.back → paths.PathResumes b wsize m turn old nx new after → RunsOn nx (machines.Path new) after.back
   path-resumes true turn old sound early nx after m new is runs r = path-of nx m new r.opener after.back is r.machine_is (then-resumes turn old sound nx after m.opener r.opener runs (early-any turn.xid m.opener old.back early) r.step)
   path-resumes false turn old sound early nx after m new is runs r =
       follows-way turn (walking.go_shelf m.walk turn old) sound nx after (walking.go_next m.walk turn old) (record m { walk = walking.go_after m.walk turn old }) new is runs r
 
-  pub runs-resumes : (turn : Turn) (old : Shelf) → EachSound old.back → ((file : List ℕ) → Soon turn.xid file old.back) → (nx : Next) (after : Shelf) (m new : Machine) → Runs m old.back
+  pub runs-resumes : (turn : Turn) (old : Shelf) → EachSound old.back → ((file : List ℕ) → Soon turn.xid file old.back) → (nx : Step) (after : Shelf) (m new : Machine) → Runs m old.back
       → Resumes wsize m turn old nx new after → RunsOn nx new after.back
   runs-resumes turn old sound early nx after (machines.File m) new runs r = absurd runs
   runs-resumes turn old sound early nx after (machines.Name m) new runs r = absurd runs
   runs-resumes turn old sound early nx after (machines.Path m) new runs r =
       machine-of nx (machines.Path r.machine) new after.back r.machine_is (path-resumes m.arrived turn old sound early nx after m r.machine refl runs r.step)
 
-  pub runs-starts : (turn : Turn) (old : Shelf) → EachSound old.back → ((file : List ℕ) → Soon turn.xid file old.back) → (nx : Next) (after : Shelf) (m : PathMachine) (new : Machine) → m.arrived ≡ false → WayRuns m.opener old.back
+  pub runs-starts : (turn : Turn) (old : Shelf) → EachSound old.back → ((file : List ℕ) → Soon turn.xid file old.back) → (nx : Step) (after : Shelf) (m : PathMachine) (new : Machine) → m.arrived ≡ false → WayRuns m.opener old.back
       → Starts wsize (machines.Path m) turn old nx new after → RunsOn nx new after.back
   runs-starts turn old sound early nx after m new way runs s =
       machine-of nx (machines.Path s.machine) new after.back s.machine_is (by (slot_taken m.opener old.opens) s.step)
     where
       by : (b : Bool) → paths.StartsIf b wsize m turn old nx s.machine after → RunsOn nx (machines.Path s.machine) after.back
-      by true k = subst (λ (n : Next). RunsOn n (machines.Path s.machine) after.back) (sym k.0) tt
+      by true k = subst (λ (n : Step). RunsOn n (machines.Path s.machine) after.back) (sym k.0) tt
       by false k =
           path-resumes m.arrived turn old sound early nx after (record m { opener = begun_at (turn.moment - 1) m.opener }) s.machine refl
           (subst (λ (c : Bool). OpenerRuns c (begun_at (turn.moment - 1) m.opener) old.back) (sym way) (begun-runs (turn.moment - 1) m.opener old.back runs)) k
@@ -405,7 +405,7 @@ module _ (before next wsize : ℕ) (is_next : next ≡ before + 1) (some : 1 ≤
   Hears sent turn came (machines.File m) b = Unit {0}
   Hears sent turn came (machines.Name m) b = Unit {0}
 
-  module _ (sent turn : Turn) (came : Result Reply Fault) (old : Shelf) (sound : EachSound old.back) (nx : Next) (after : Shelf) where
+  module _ (sent turn : Turn) (came : Result Reply Fault) (old : Shelf) (sound : EachSound old.back) (nx : Step) (after : Shelf) where
     abbrev Has_ : List ℕ → ℕ → List ℕ → Type 0
     Has_ g o bs = MayAdd old
 

@@ -1,5 +1,5 @@
 -- Where all operations are of one lane and find room: as a write or fill was answered, its bytes wait, under the last number.
-use Rattle.core_counts.proofs.Prelude.{◌≡◌, ◌≢◌, ◌<◌, ◌≤◌, ◌⊎◌, inl, inr, ◌+◌, ◌-◌, ◌++◌, nat_eq, ℕ, Bool, true, false, List, [], ◌∷◌, length, Option, Some, None, Result, Ok, Err, slice_get, slice_set, refl, sym, ap, subst, ◌∙◌, arith, append_assoc, slice_index, eqb-true, eqb-false, le-leb, lt-ltb, Mode, Answer, Fault, Value, Entry, Began, Answered, Delivered, Op, Placed, count_of, most_pending, WriterAt, At, AnsweredBefore, UnderWay, OneLane, NeverFull, At-grow, At-back, At-below, At-cases, At-last, At-one, length_last, Unsent, of_file, all_pending, rest_at, PutsBytes, Cell, covers, puts-with, Opened, Next, Shelf, Turn, WriteFile, is_full, file_to_write, Mounted, Machine, machine_of, Starts, Lane, Busy, Over, Setup, numbers_of, IsIdle, with_state, Leads, counted, StartsLane, AnswersAt, View, turn_at, Reaches, begins-unbegun, Known, lanes-under-way, idle-numbers, number_of, at-set, at-push, get-push, get-remove, skip, to-map, answered-grow, set-other, under-back, EachSound, if-true, Basis, stirs-basis, starts-basis, takes-basis, keeps-basis, Entered, Room, reached-room, Elsewhere, counts-cons, each-map, all-each, different-apart, KeepsHearing, reached-hearing, IsOf, Given, is-given, Terms, GoesWith}
+use Rattle.core_counts.proofs.Prelude.{◌≡◌, ◌≢◌, ◌<◌, ◌≤◌, ◌⊎◌, inl, inr, ◌+◌, ◌-◌, ◌++◌, nat_eq, ℕ, Bool, true, false, List, [], ◌∷◌, length, Option, Some, None, Result, Ok, Err, slice_get, slice_set, refl, sym, ap, subst, ◌∙◌, arith, append_assoc, slice_index, eqb-true, eqb-false, le-leb, lt-ltb, Mode, Answer, Fault, Value, Entry, Began, Answered, Delivered, Op, Placed, count_of, most_pending, WriterAt, At, AnsweredBefore, UnderWay, OneLane, NeverFull, At-grow, At-back, At-below, At-cases, At-last, At-one, length_last, Unsent, of_file, all_pending, rest_at, PutsBytes, Cell, covers, puts-with, Opened, Step, Shelf, Turn, WriteFile, is_full, file_to_write, Mounted, Machine, machine_of, Starts, Lane, Busy, Over, Setup, numbers_of, IsIdle, with_state, Leads, counted, StartsLane, AnswersAt, View, turn_at, Reaches, begins-unbegun, Known, lanes-under-way, idle-numbers, number_of, at-set, at-push, get-push, get-remove, skip, to-map, answered-grow, set-other, under-back, EachSound, if-true, Basis, stirs-basis, starts-basis, takes-basis, keeps-basis, Entered, Room, reached-room, Elsewhere, counts-cons, each-map, all-each, different-apart, KeepsHearing, reached-hearing, IsOf, Given, is-given, Terms, GoesWith}
 use Rattle.std.proofs.Common.{remove}
 use Rattle.std.specs.Prelude.{replicate}
 use Rattle.world_model.specs.Operations.{Ended}
@@ -15,7 +15,7 @@ use Rattle.world_model.specs.declared.answer.Value.TheVariants.{Nothing}
 use Rattle.world_model.specs.declared.op.Op.TheVariants as ops
 use Rattle.claims.specs.Asks as asks
 use Rattle.write_back.specs.declared.state.State.TheVariants.{Waiting as Waits}
-use Rattle.client_shelf.specs.declared.next.Next.TheVariants as nexts
+use Rattle.client_shelf.specs.declared.step.Step.TheVariants as nexts
 use Rattle.file_ops.specs.declared.write_file.Writing.TheVariants as writing
 use Rattle.file_ops.specs.declared.write_file.Text.TheVariants as texts
 use Rattle.file_ops.specs.WriteFile as writes
@@ -50,20 +50,20 @@ finds-to-write op (Some o) file same is =
 -- ---- one write
 
 -- it ends in the step in which it begins
-record WriteDone (k : WriteFile) (old : Shelf) (nx : Next) (after : Shelf) : Type 0 where
+record WriteDone (k : WriteFile) (old : Shelf) (nx : Step) (after : Shelf) : Type 0 where
   answer : Answer
   done : nx ≡ nexts.Done answer
   own : (value : Value) → answer ≡ answers.Done value → (file : List ℕ) × (file_to_write k.lane k.slot old.opens ≡ Ok file)
       × ((place : ℕ) → covers k.offset (length (writes.text_bytes k.text)) place ≡ true → (byte : ℕ) × (rest_at (of_file file after.back) place ≡ Some (cell_of byte after.seq (Waits Unsent))))
 
-refused-done : (k : WriteFile) (old : Shelf) (nx : Next) (after : Shelf) (fault : Fault) → nx ≡ nexts.Done (answers.Refused fault) → WriteDone k old nx after
+refused-done : (k : WriteFile) (old : Shelf) (nx : Step) (after : Shelf) (fault : Fault) → nx ≡ nexts.Done (answers.Refused fault) → WriteDone k old nx after
 refused-done k old nx after fault n = record {
   answer = answers.Refused fault;
   done = n;
   own = λ value is. absurd (let no_way : answers.Refused fault ≡ answers.Done value = is in cc);
 }
 
-write-starts : (wsize : ℕ) (turn : Turn) (k : WriteFile) (old : Shelf) (nx : Next) (new : WriteFile) (after : Shelf) → EachSound old.back → is_full (writes.text_bytes k.text) old.back ≡ false
+write-starts : (wsize : ℕ) (turn : Turn) (k : WriteFile) (old : Shelf) (nx : Step) (new : WriteFile) (after : Shelf) → EachSound old.back → is_full (writes.text_bytes k.text) old.back ≡ false
     → writes.Starts wsize k turn old nx new after → WriteDone k old nx after
 write-starts wsize turn k old nx new after sound full s = by (file_to_write k.lane k.slot old.opens) refl s
   where
@@ -190,14 +190,14 @@ module _ (m : Mounted) (terms : Terms) (setup : Setup) (H : List Entry) (V : Vie
         (subst (λ (n : ℕ). IsOf terms.modes H n op file) (sym here) (subst (λ (o : Op). IsOf terms.modes H (length h) o file) same
         (slot-file slot2 file works (finds-to-write op2 (finite.get old.shelf.opens (lane2, slot2)) file right at)))) of
 
-    module _ (nx : Next) (after : Machine) (shelf : Shelf) (s : Starts old.wsize (machine_of m lane2 op2) (turn_at (counted old now)) old.shelf nx after shelf) (here : w ≡ length h) (same : op2 ≡ op) where
-      record Step : Type 0 where
+    module _ (nx : Step) (after : Machine) (shelf : Shelf) (s : Starts old.wsize (machine_of m lane2 op2) (turn_at (counted old now)) old.shelf nx after shelf) (here : w ≡ length h) (same : op2 ≡ op) where
+      record StepIs : Type 0 where
         answer : Answer
         done : nx ≡ nexts.Done answer
         own : (value : Value) → answer ≡ answers.Done value → Two shelf
 
       step-of : (slot2 offset : ℕ) (text : _) (kk : WriteDone (record { lane = lane2; slot = slot2; offset = offset; text = text; state = writing.Idle }) old.shelf nx shelf) → slot_of op2 ≡ Some slot2
-          → ((mode : Mode) → may op2 mode ≡ can_write mode) → (covers offset (length (writes.text_bytes text)) end ≡ true) × (covers offset (length (writes.text_bytes text)) (end + 1) ≡ true) → Step
+          → ((mode : Mode) → may op2 mode ≡ can_write mode) → (covers offset (length (writes.text_bytes text)) end ≡ true) × (covers offset (length (writes.text_bytes text)) (end + 1) ≡ true) → StepIs
       step-of slot2 offset text kk works right inside = record {
         answer = kk.answer;
         done = kk.done;
@@ -216,7 +216,7 @@ module _ (m : Mounted) (terms : Terms) (setup : Setup) (H : List Entry) (V : Vie
       within : (offset size place : ℕ) → offset ≤ place → place < offset + size → covers offset size place ≡ true
       within offset size place low high = rw (le-leb offset place low, lt-ltb place (offset + size) high) refl
 
-      step : WritesBoth op slot end → Step
+      step : WritesBoth op slot end → StepIs
       step (write offset2 bytes2 its low high) =
           let is2 : op2 ≡ ops.Write slot offset2 bytes2 = same ∙ its in
           let begun = subst (λ (o : Op). Starts old.wsize (machine_of m lane2 o) (turn_at (counted old now)) old.shelf nx after shelf) is2 s in
@@ -270,8 +270,8 @@ module _ (m : Mounted) (terms : Terms) (setup : Setup) (H : List Entry) (V : Vie
       noted = λ value d long. absurd (not-noted h (Began lane2 line2 op2) (λ l line a e. cc) value d long);
     }
       where
-        leads : (nx : Next) (answer : Answer) → nx ≡ nexts.Done answer → Leads (begun_view t.after t.shelf) (length old.lanes) lane2 t.after nx new → new ≡ with_state (begun_view t.after t.shelf) (length old.lanes) lane2 (Over answer) t.shelf
-        leads nx answer is_ l = subst (λ (n : Next). Leads (begun_view t.after t.shelf) (length old.lanes) lane2 t.after n new) is_ l
+        leads : (nx : Step) (answer : Answer) → nx ≡ nexts.Done answer → Leads (begun_view t.after t.shelf) (length old.lanes) lane2 t.after nx new → new ≡ with_state (begun_view t.after t.shelf) (length old.lanes) lane2 (Over answer) t.shelf
+        leads nx answer is_ l = subst (λ (n : Step). Leads (begun_view t.after t.shelf) (length old.lanes) lane2 t.after n new) is_ l
 
         busy-over : (number number2 : ℕ) (machine : Machine) (answer : Answer) → ◌≡◌ {A = Lane} (record { number = number; state = Over answer }) (record { number = number2; state = Busy machine }) → ⊥
         busy-over number number2 machine answer e = let k : Over answer ≡ Busy machine = ap (λ (l : Lane). l.state) e in cc

@@ -1,10 +1,10 @@
 -- Where all operations are of one lane: a sync or close of a file with two places next to each other, along a history.
-use Rattle.core_counts.proofs.Prelude.{◌≡◌, ◌<◌, ◌≤◌, ◌⊎◌, inl, inr, ◌+◌, ◌-◌, ◌++◌, nat_eq, ℕ, Bool, true, false, List, [], ◌∷◌, length, get_or, Option, Some, None, option_map, Result, Err, position, slice_get, slice_set, refl, sym, ap, subst, ◌∙◌, arith, append_assoc, eqb-true, eqb-false, position-Some, slice_get-get_or, xid_at, Waiting, next_xid, waiting_at, Fault, Entry, Began, Answered, Sent, Delivered, Call, Reply, Op, At, UnderWay, OneLane, CoveredEarlier, At-grow, At-cases, At-last, length_last, Pending, of_file, IsNewest, fly_at, fly_in, FilePending, rest_at, Cell, said_of, Next, Shelf, Turn, file_at, IsUnused, Mounted, Machine, machine_of, Fits, Starts, Resumes, Takes, Lane, Purpose, State, Busy, Over, Setup, is_busy, numbers_of, IsIdle, with_state, IsRefused, Leads, Stirs, counted, StartsLane, TakesAt, View, turn_at, unmade_turn, in_flight, HearsRecord, Reaches, begins-unbegun, taken_one, none-busy, Flies, flies_of, flies_if, sender, look_at, was-sent, Known, taker-is, taker-one, lanes-under-way, idle-numbers, number_of, at-set, at-push, get-push, get-remove, skip, to-map, answered-grow, set-other, under-back, CallFits, fits-laws, unused-next, EachSound, Basis, basis-ready, stirs-basis, starts-basis, takes-basis, keeps-basis, KeepsHearing, reached-hearing, sent-piece, IsSent, Wholly, keeps-wholly, stirs-wholly, starts-wholly, takes-wholly, starts-has, resumes-has, takes-has, is_ready, how_of, ready_of, WaitsPlain, NotAsStable, BeganOtherwise}
+use Rattle.core_counts.proofs.Prelude.{◌≡◌, ◌<◌, ◌≤◌, ◌⊎◌, inl, inr, ◌+◌, ◌-◌, ◌++◌, nat_eq, ℕ, Bool, true, false, List, [], ◌∷◌, length, get_or, Option, Some, None, option_map, Result, Err, position, slice_get, slice_set, refl, sym, ap, subst, ◌∙◌, arith, append_assoc, eqb-true, eqb-false, position-Some, slice_get-get_or, xid_at, Waiting, next_xid, waiting_at, Fault, Entry, Began, Answered, Sent, Delivered, Call, Reply, Op, At, UnderWay, OneLane, CoveredEarlier, At-grow, At-cases, At-last, length_last, Pending, of_file, IsNewest, fly_at, fly_in, FilePending, rest_at, Cell, said_of, Step, Shelf, Turn, file_at, IsUnused, Mounted, Machine, machine_of, Fits, Starts, Resumes, Takes, Lane, Purpose, State, Busy, Over, Setup, is_busy, numbers_of, IsIdle, with_state, IsRefused, Leads, Stirs, counted, StartsLane, TakesAt, View, turn_at, unmade_turn, in_flight, HearsRecord, Reaches, begins-unbegun, taken_one, none-busy, Flies, flies_of, flies_if, sender, look_at, was-sent, Known, taker-is, taker-one, lanes-under-way, idle-numbers, number_of, at-set, at-push, get-push, get-remove, skip, to-map, answered-grow, set-other, under-back, CallFits, fits-laws, unused-next, EachSound, Basis, basis-ready, stirs-basis, starts-basis, takes-basis, keeps-basis, KeepsHearing, reached-hearing, sent-piece, IsSent, Wholly, keeps-wholly, stirs-wholly, starts-wholly, takes-wholly, starts-has, resumes-has, takes-has, is_ready, how_of, ready_of, WaitsPlain, NotAsStable, BeganOtherwise}
 use Rattle.claims.specs.Thrifty.{IsSync, sync, close}
 use Rattle.core_session.proofs.order.Basis.{unused-idle}
 use Rattle.core_counts.specs.thrift.Writes.{OfSlot}
 use Rattle.write_back.specs.Pieces.{Sent as Piece, Flown as InAir}
-use Rattle.client_shelf.specs.declared.next.Next.TheVariants as nexts
+use Rattle.client_shelf.specs.declared.step.Step.TheVariants as nexts
 use Rattle.file_ops.specs.Saves as saves
 use Rattle.op_machines.proofs.AllLaws as laws
 use Rattle.core_answers.proofs.writes.AllFits as fitting
@@ -76,7 +76,7 @@ module _ (m : Mounted) (setup : Setup) (f : List ℕ) (before next : ℕ) (is_ne
   abbrev pub Running : List Entry → Machine → Pending → Type 0
   Running h machine b = Runs before next setup.wsize is_next some f (Cov h) machine b
 
-  abbrev RunningOn : List Entry → Next → Machine → Pending → Type 0
+  abbrev RunningOn : List Entry → Step → Machine → Pending → Type 0
   RunningOn h nx machine b = RunsOn before next setup.wsize is_next some f (Cov h) nx machine b
 
   abbrev pub StateRuns : List Entry → Pending → State → Type 0
@@ -143,7 +143,7 @@ module _ (m : Mounted) (setup : Setup) (f : List ℕ) (before next : ℕ) (is_ne
       is-some None = false
       is-some (Some q) = true
 
-  module _ (h : List Entry) (v new : View) (at number : ℕ) (machine : Machine) (nx : Next) (there : slice_get v.lanes at ≡ Some (record { number = number; state = Busy machine }))
+  module _ (h : List Entry) (v new : View) (at number : ℕ) (machine : Machine) (nx : Step) (there : slice_get v.lanes at ≡ Some (record { number = number; state = Busy machine }))
       (others : (k : ℕ) (lane : Lane) → slice_get v.lanes k ≡ Some lane → k ≡ at) (size : v.wsize ≡ setup.wsize) (sound : EachSound v.shelf.back)
       (last : (file : List ℕ) → Each (λ q. q.xid ≤ next_xid v.calls) (of_file file v.shelf.back).pieces)
       (it : (call : Call) → nx ≡ nexts.Send call → (g : List ℕ) → flies_of machine ≡ Some g → IsSent (next_xid v.calls) g v.shelf.back)
@@ -169,11 +169,11 @@ module _ (m : Mounted) (setup : Setup) (f : List ℕ) (before next : ℕ) (is_ne
     same-run : (UnderWay h number x (length h) saver → Running h machine v.shelf.back) → AllRun h v
     same-run own k lane here = subst (λ (l : Lane). UnderWay h l.number x (length h) saver → StateRuns h v.shelf.back l.state) (own-lane k lane here) own
 
-    leads-if : (n : Next) → nx ≡ n → Leads v at number machine n new → AllRun h new
-    leads-if nexts.Wait is l = subst (AllRun h) (sym l) (same-run (λ u. subst (λ (z : Next). RunningOn h z machine v.shelf.back) is (on u)))
+    leads-if : (n : Step) → nx ≡ n → Leads v at number machine n new → AllRun h new
+    leads-if nexts.Wait is l = subst (AllRun h) (sym l) (same-run (λ u. subst (λ (z : Step). RunningOn h z machine v.shelf.back) is (on u)))
     leads-if (nexts.Done answer) is l = subst (AllRun h) (sym l) (set-run (Over answer) v.shelf (λ u. tt))
     leads-if (nexts.Send call) is (inl made) =
-        subst (AllRun h) (sym made.is) (same-run (λ u. subst (λ (z : Next). RunningOn h z machine v.shelf.back) is (on u)))
+        subst (AllRun h) (sym made.is) (same-run (λ u. subst (λ (z : Step). RunningOn h z machine v.shelf.back) is (on u)))
     leads-if (nexts.Send call) is (inr r) = subst (AllRun h) (sym r.is) (set-run r.state r.left (λ u. by r.next refl r.leads (left u)))
       where
         takes : Takes setup.wsize machine (turn_at v) (unmade_turn v) (Err r.fault) v.shelf r.next r.after r.left
@@ -182,11 +182,11 @@ module _ (m : Mounted) (setup : Setup) (f : List ℕ) (before next : ℕ) (is_ne
         left : UnderWay h number x (length h) saver → RunningOn h r.next r.after r.left.back
         left u =
             runs-takes before next setup.wsize is_next some f (Cov h) (turn_at v) (unmade_turn v) (Err r.fault) v.shelf sound r.next r.left machine r.after
-            (subst (λ (z : Next). RunningOn h z machine v.shelf.back) is (on u)) (unmade-hears v r.fault machine h (it call is) last) takes
+            (subst (λ (z : Step). RunningOn h z machine v.shelf.back) is (on u)) (unmade-hears v r.fault machine h (it call is) last) takes
 
-        by : (n : Next) → r.next ≡ n → IsRefused r.after n r.state → RunningOn h r.next r.after r.left.back → StateRuns h r.left.back r.state
+        by : (n : Step) → r.next ≡ n → IsRefused r.after n r.state → RunningOn h r.next r.after r.left.back → StateRuns h r.left.back r.state
         by (nexts.Send again) same st runs_ = absurd st
-        by nexts.Wait same st runs_ = subst (StateRuns h r.left.back) (sym st) (subst (λ (z : Next). RunningOn h z r.after r.left.back) same runs_)
+        by nexts.Wait same st runs_ = subst (StateRuns h r.left.back) (sym st) (subst (λ (z : Step). RunningOn h z r.after r.left.back) same runs_)
         by (nexts.Done answer) same st runs_ = subst (StateRuns h r.left.back) (sym st) tt
 
     pub leads-run : Leads v at number machine nx new → AllRun h new
@@ -475,7 +475,7 @@ module _ (m : Mounted) (setup : Setup) (f : List ℕ) (before next : ℕ) (is_ne
     };
   }
     where
-      leads-size : (v new : View) (at number : ℕ) (machine : Machine) (nx : Next) → Leads v at number machine nx new → new.wsize ≡ v.wsize
+      leads-size : (v new : View) (at number : ℕ) (machine : Machine) (nx : Step) → Leads v at number machine nx new → new.wsize ≡ v.wsize
       leads-size v new at number machine (nexts.Send call) (inl made) = ap (λ (w : View). w.wsize) made.is
       leads-size v new at number machine (nexts.Send call) (inr r) = ap (λ (w : View). w.wsize) r.is
       leads-size v new at number machine nexts.Wait is = ap (λ (w : View). w.wsize) is

@@ -1,7 +1,7 @@
 -- A sync or close of a file with two places next to each other: so through each of its steps.
-use Rattle.core_counts.proofs.Prelude.{◌≡◌, ◌≤◌, ◌⊎◌, inl, inr, ◌+◌, ℕ, Bool, true, false, List, Option, Some, None, Result, Ok, Err, refl, sym, ap, subst, ◌∙◌, Fault, Reply, LaneFile, Next, Repeat, Shelf, Turn, is_first, goes_again, Pending, of_file, Flown, fly_at, last_end, CloseFile, Closing, Removal, Saving, SyncFile, Syncing, remove_busy, file_at, joined, by-step, ends_as, FileMachine, Machine, Starts, Resumes, Takes, EachSound, IsAwaited, flies_of, flies_if}
+use Rattle.core_counts.proofs.Prelude.{◌≡◌, ◌≤◌, ◌⊎◌, inl, inr, ◌+◌, ℕ, Bool, true, false, List, Option, Some, None, Result, Ok, Err, refl, sym, ap, subst, ◌∙◌, Fault, Reply, LaneFile, Step, Repeat, Shelf, Turn, is_first, goes_again, Pending, of_file, Flown, fly_at, last_end, CloseFile, Closing, Removal, Saving, SyncFile, Syncing, remove_busy, file_at, joined, by-step, ends_as, FileMachine, Machine, Starts, Resumes, Takes, EachSound, IsAwaited, flies_of, flies_if}
 use Rattle.core_facts.proofs.Flights.{flies_sync, flies_close}
-use Rattle.client_shelf.specs.declared.next.Next.TheVariants as nexts
+use Rattle.client_shelf.specs.declared.step.Step.TheVariants as nexts
 use Rattle.file_ops.specs.declared.close_file.Closing.TheVariants as closing
 use Rattle.file_ops.specs.declared.sync_file.Syncing.TheVariants as syncing
 use Rattle.file_ops.specs.Closes as closes
@@ -22,12 +22,12 @@ module _ (before next wsize : ℕ) (is_next : next ≡ before + 1) (some : 1 ≤
   abbrev pub Soon : ℕ → List ℕ → Pending → Type 0
   Soon to file b = Early before next wsize is_next some to file b
 
-  abbrev SaveOn : Next → Saving → Pending → Type 0
+  abbrev SaveOn : Step → Saving → Pending → Type 0
   SaveOn (nexts.Send call) s b = SaveIs s b
   SaveOn nexts.Wait s b = SaveIs s b
   SaveOn (nexts.Done answer) s b = Unit {0}
 
-  save-on : (n : Next) (s new : Saving) (b : Pending) → new.file ≡ s.file → (s.file ≡ f → Cov ⊎ HoldsOn before next wsize is_next some n s new b) → SaveOn n new b
+  save-on : (n : Step) (s new : Saving) (b : Pending) → new.file ≡ s.file → (s.file ≡ f → Cov ⊎ HoldsOn before next wsize is_next some n s new b) → SaveOn n new b
   save-on (nexts.Send call) s new b file h = λ same. elim (h (sym file ∙ same)) [ inl c ↦ inl c | inr k ↦ inr k.1 ]
   save-on nexts.Wait s new b file h = λ same. elim (h (sym file ∙ same)) [ inl c ↦ inl c | inr k ↦ inr k.1 ]
   save-on (nexts.Done answer) s new b file h = tt
@@ -72,36 +72,36 @@ module _ (before next wsize : ℕ) (is_next : next ≡ before + 1) (some : 1 ≤
   AtSync syncing.Idle b = Unit {0}
   AtSync (syncing.Saves s) b = SaveIs s b
 
-  abbrev SyncOn : Next → Syncing → Pending → Type 0
+  abbrev SyncOn : Step → Syncing → Pending → Type 0
   SyncOn (nexts.Send call) state b = AtSync state b
   SyncOn nexts.Wait state b = AtSync state b
   SyncOn (nexts.Done answer) state b = Unit {0}
 
-  sync-waits : (nx : Next) (state to : Syncing) (b mid : Pending) → nx ≡ nexts.Wait → state ≡ to → b ≡ mid → AtSync to mid → SyncOn nx state b
+  sync-waits : (nx : Step) (state to : Syncing) (b mid : Pending) → nx ≡ nexts.Wait → state ≡ to → b ≡ mid → AtSync to mid → SyncOn nx state b
   sync-waits nx state to b mid n s m h = rw (n, s, m) h
 
-  sync-as : (gives : _) (lane : ℕ) (saved : Saving) (order : List LaneFile) (nx : Next) (state : Syncing) (left : List LaneFile) (b : Pending) → syncs.Follows lane gives saved order nx state left
+  sync-as : (gives : _) (lane : ℕ) (saved : Saving) (order : List LaneFile) (nx : Step) (state : Syncing) (left : List LaneFile) (b : Pending) → syncs.Follows lane gives saved order nx state left
       → SaveOn (sync_next gives) saved b → SyncOn nx state b
   sync-as gives lane saved order nx state left b f on =
       by-step (λ g. syncs.Follows lane g saved order nx state left → SaveOn (sync_next g) saved b → SyncOn nx state b) (λ call f l. rw (f.next_is, f.state_is) l) (λ f l. rw (f.next_is, f.state_is) l) ended gives f on
     where
       ended : (result : Result (Unit {0}) Fault) → syncs.Follows lane (ends_as result) saved order nx state left → SaveOn (sync_next (ends_as result)) saved b → SyncOn nx state b
-      ended result f l = subst (λ (n : Next). SyncOn n state b) (sym f.next_is) tt
+      ended result f l = subst (λ (n : Step). SyncOn n state b) (sym f.next_is) tt
 
   module _ (turn : Turn) (old : Shelf) (sound : EachSound old.back) (early : (file : List ℕ) → Soon turn.xid file old.back) where
-    sync-queues : (b : Bool) (lane : ℕ) (s : Saving) (order : List LaneFile) (nx : Next) (state : Syncing) (new : Shelf) → syncs.QueuesIf b wsize lane turn s (record old { order = order }) nx state new → SaveIs s old.back
+    sync-queues : (b : Bool) (lane : ℕ) (s : Saving) (order : List LaneFile) (nx : Step) (state : Syncing) (new : Shelf) → syncs.QueuesIf b wsize lane turn s (record old { order = order }) nx state new → SaveIs s old.back
         → SyncOn nx state new.back
     sync-queues true lane s order nx state new g h = sync-as g.gives lane g.saved order nx state new.order new.back g.follows (goes-on turn old.back g.gives s g.saved new.back sound g.goes (λ same. early s.file) h)
     sync-queues false lane s order nx state new g h = sync-waits nx state (syncing.Saves s) new.back old.back g.next_is g.state_is (ap (λ (z : Shelf). z.back) g.shelf_is) h
 
-    sync-starts : (m : SyncFile) (nx : Next) (state : Syncing) (new : Shelf) → ((file : List ℕ) → file_at m.lane m.slot old.opens ≡ Some file → SaveIs (saves.begun file old.seq) old.back) → syncs.Starts wsize m turn old nx state new → SyncOn nx state new.back
+    sync-starts : (m : SyncFile) (nx : Step) (state : Syncing) (new : Shelf) → ((file : List ℕ) → file_at m.lane m.slot old.opens ≡ Some file → SaveIs (saves.begun file old.seq) old.back) → syncs.Starts wsize m turn old nx state new → SyncOn nx state new.back
     sync-starts m nx state new begins s = by (file_at m.lane m.slot old.opens) refl s
       where
         by : (found : Option (List ℕ)) → file_at m.lane m.slot old.opens ≡ found → syncs.StartsAt found wsize m turn old nx state new → SyncOn nx state new.back
-        by None at s = subst (λ (n : Next). SyncOn n state new.back) (sym s.next_is) tt
+        by None at s = subst (λ (n : Step). SyncOn n state new.back) (sym s.next_is) tt
         by (Some file) at s = sync-queues (is_first m.lane (joined m.lane file old).order) m.lane (saves.begun file old.seq) (joined m.lane file old).order nx state new s (begins file at)
 
-    sync-resumes : (at : Syncing) (m : SyncFile) (nx : Next) (state : Syncing) (new : Shelf) → syncs.Resumes at wsize m turn old nx state new → AtSync at old.back → SyncOn nx state new.back
+    sync-resumes : (at : Syncing) (m : SyncFile) (nx : Step) (state : Syncing) (new : Shelf) → syncs.Resumes at wsize m turn old nx state new → AtSync at old.back → SyncOn nx state new.back
     sync-resumes syncing.Idle m nx state new r h = sync-waits nx state syncing.Idle new.back old.back r.next_is r.state_is (ap (λ (z : Shelf). z.back) r.shelf_is) h
     sync-resumes (syncing.Saves s) m nx state new r h = sync-queues (is_first m.lane old.order) m.lane s old.order nx state new r h
 
@@ -114,22 +114,22 @@ module _ (before next wsize : ℕ) (is_next : next ≡ before + 1) (some : 1 ≤
   AtClose (closing.ToRemove r) b = Unit {0}
   AtClose (closing.Removing r) b = Unit {0}
 
-  abbrev CloseOn : Next → Closing → Pending → Type 0
+  abbrev CloseOn : Step → Closing → Pending → Type 0
   CloseOn (nexts.Send call) state b = AtClose state b
   CloseOn nexts.Wait state b = AtClose state b
   CloseOn (nexts.Done answer) state b = Unit {0}
 
-  close-waits : (nx : Next) (state to : Closing) (b mid : Pending) → nx ≡ nexts.Wait → state ≡ to → b ≡ mid → AtClose to mid → CloseOn nx state b
+  close-waits : (nx : Step) (state to : Closing) (b mid : Pending) → nx ≡ nexts.Wait → state ≡ to → b ≡ mid → AtClose to mid → CloseOn nx state b
   close-waits nx state to b mid n s m h = rw (n, s, m) h
 
-  asks-on : (room : Bool) (r : Removal) (old : Shelf) (nx : Next) (state : Closing) (new : Shelf) → closes.Asks room r old nx state new → CloseOn nx state new.back
+  asks-on : (room : Bool) (r : Removal) (old : Shelf) (nx : Step) (state : Closing) (new : Shelf) → closes.Asks room r old nx state new → CloseOn nx state new.back
   asks-on true r old nx state new a = rw (a.next_is, a.state_is) tt
   asks-on false r old nx state new a = rw (a.next_is, a.state_is) tt
 
-  ends-on : (lane : ℕ) (file : List ℕ) (refusal : Option Fault) (old : Shelf) (nx : Next) (state : Closing) (new : Shelf) → closes.Ends lane file refusal old nx state new → CloseOn nx state new.back
-  ends-on lane file refusal old nx state new e = subst (λ (n : Next). CloseOn n state new.back) (sym e.next_is) tt
+  ends-on : (lane : ℕ) (file : List ℕ) (refusal : Option Fault) (old : Shelf) (nx : Step) (state : Closing) (new : Shelf) → closes.Ends lane file refusal old nx state new → CloseOn nx state new.back
+  ends-on lane file refusal old nx state new e = subst (λ (n : Step). CloseOn n state new.back) (sym e.next_is) tt
 
-  frees-on : (lane slot : ℕ) (room : Bool) (file : List ℕ) (refusal : Option Fault) (old : Shelf) (nx : Next) (state : Closing) (new : Shelf) → closes.Frees lane slot room file refusal old nx state new
+  frees-on : (lane slot : ℕ) (room : Bool) (file : List ℕ) (refusal : Option Fault) (old : Shelf) (nx : Step) (state : Closing) (new : Shelf) → closes.Frees lane slot room file refusal old nx state new
       → CloseOn nx state new.back
   frees-on lane slot room file refusal old nx state new f = by f.place f.ends
     where
@@ -137,7 +137,7 @@ module _ (before next wsize : ℕ) (is_next : next ≡ before + 1) (some : 1 ≤
       by None e = ends-on lane file refusal f.freed nx state new e
       by (Some place) e = asks-on room (record { file = file; dir = place.0; name = place.1; refusal = refusal }) f.freed nx state new e
 
-  close-as : (gives : _) (lane slot : ℕ) (room begun : Bool) (saved : Saving) (old : Shelf) (nx : Next) (state : Closing) (new : Shelf) → closes.Follows gives lane slot room begun saved old nx state new
+  close-as : (gives : _) (lane slot : ℕ) (room begun : Bool) (saved : Saving) (old : Shelf) (nx : Step) (state : Closing) (new : Shelf) → closes.Follows gives lane slot room begun saved old nx state new
       → SaveOn (sync_next gives) saved old.back → CloseOn nx state new.back
   close-as gives lane slot room begun saved old nx state new f on =
       by-step (λ g. closes.Follows g lane slot room begun saved old nx state new → SaveOn (sync_next g) saved old.back → CloseOn nx state new.back) (λ call f l. rw (f.0, f.1, f.2) l)
@@ -152,12 +152,12 @@ module _ (before next wsize : ℕ) (is_next : next ≡ before + 1) (some : 1 ≤
       ended (Err fault) f l = frees-on lane slot room saved.file (Some fault) old nx state new f
 
   module _ (turn : Turn) (old : Shelf) (sound : EachSound old.back) (early : (file : List ℕ) → Soon turn.xid file old.back) where
-    close-on : (lane slot : ℕ) (begun : Bool) (s : Saving) (order : List LaneFile) (nx : Next) (state : Closing) (new : Shelf) → closes.GoesOn wsize lane slot turn begun s (record old { order = order }) nx state new
+    close-on : (lane slot : ℕ) (begun : Bool) (s : Saving) (order : List LaneFile) (nx : Step) (state : Closing) (new : Shelf) → closes.GoesOn wsize lane slot turn begun s (record old { order = order }) nx state new
         → SaveIs s old.back → CloseOn nx state new.back
     close-on lane slot begun s order nx state new g h =
         close-as g.gives lane slot turn.room begun g.saved g.gone nx state new g.follows (goes-on turn old.back g.gives s g.saved g.gone.back sound g.goes (λ same. early s.file) h)
 
-    close-queues : (b : Bool) (lane slot : ℕ) (s : Saving) (order : List LaneFile) (nx : Next) (state : Closing) (new : Shelf) → closes.QueuesIf b wsize lane slot turn s (record old { order = order }) nx state new
+    close-queues : (b : Bool) (lane slot : ℕ) (s : Saving) (order : List LaneFile) (nx : Step) (state : Closing) (new : Shelf) → closes.QueuesIf b wsize lane slot turn s (record old { order = order }) nx state new
         → SaveIs s old.back → CloseOn nx state new.back
     close-queues false lane slot s order nx state new k h = close-waits nx state (closing.Queued s) new.back old.back k.next_is k.state_is (ap (λ (z : Shelf). z.back) k.shelf_is) h
     close-queues true lane slot s order nx state new k h = by (last_end (of_file s.file old.back).segments) k
@@ -166,14 +166,14 @@ module _ (before next wsize : ℕ) (is_next : next ≡ before + 1) (some : 1 ≤
         by None k = frees-on lane slot turn.room s.file None (record old { order = order }) nx state new k
         by (Some end) k = close-on lane slot false s order nx state new k h
 
-    close-starts : (m : CloseFile) (nx : Next) (state : Closing) (new : Shelf) → ((file : List ℕ) → file_at m.lane m.slot old.opens ≡ Some file → SaveIs (saves.begun file old.seq) old.back) → closes.Starts wsize m turn old nx state new → CloseOn nx state new.back
+    close-starts : (m : CloseFile) (nx : Step) (state : Closing) (new : Shelf) → ((file : List ℕ) → file_at m.lane m.slot old.opens ≡ Some file → SaveIs (saves.begun file old.seq) old.back) → closes.Starts wsize m turn old nx state new → CloseOn nx state new.back
     close-starts m nx state new begins s = by (file_at m.lane m.slot old.opens) refl s
       where
         by : (found : Option (List ℕ)) → file_at m.lane m.slot old.opens ≡ found → closes.StartsAt found wsize m turn old nx state new → CloseOn nx state new.back
-        by None at s = subst (λ (n : Next). CloseOn n state new.back) (sym s.next_is) tt
+        by None at s = subst (λ (n : Step). CloseOn n state new.back) (sym s.next_is) tt
         by (Some file) at s = close-queues (is_first m.lane (joined m.lane file old).order) m.lane m.slot (saves.begun file old.seq) (joined m.lane file old).order nx state new s (begins file at)
 
-    close-resumes : (at : Closing) (m : CloseFile) (nx : Next) (state : Closing) (new : Shelf) → closes.Resumes at wsize m turn old nx state new → AtClose at old.back → CloseOn nx state new.back
+    close-resumes : (at : Closing) (m : CloseFile) (nx : Step) (state : Closing) (new : Shelf) → closes.Resumes at wsize m turn old nx state new → AtClose at old.back → CloseOn nx state new.back
     close-resumes closing.Idle m nx state new r h = close-waits nx state closing.Idle new.back old.back r.next_is r.state_is (ap (λ (z : Shelf). z.back) r.shelf_is) h
     close-resumes (closing.Queued s) m nx state new r h = close-queues (is_first m.lane old.order) m.lane m.slot s old.order nx state new r h
     close-resumes (closing.Saves s) m nx state new r h = by (is_first m.lane old.order) r
@@ -198,17 +198,17 @@ module _ (before next wsize : ℕ) (is_next : next ≡ before + 1) (some : 1 ≤
   CloseHeard sent turn came (closing.Removing r) b = Unit {0}
 
   module _ (sent turn : Turn) (came : Result Reply Fault) (old : Shelf) (sound : EachSound old.back) where
-    sync-takes : (at : Syncing) (m : SyncFile) (nx : Next) (state : Syncing) (new : Shelf) → syncs.Takes at wsize m sent turn came old nx state new → SyncHeard sent turn came at old.back → AtSync at old.back
+    sync-takes : (at : Syncing) (m : SyncFile) (nx : Step) (state : Syncing) (new : Shelf) → syncs.Takes at wsize m sent turn came old nx state new → SyncHeard sent turn came at old.back → AtSync at old.back
         → SyncOn nx state new.back
     sync-takes syncing.Idle m nx state new t heard h = sync-waits nx state syncing.Idle new.back old.back t.next_is t.state_is (ap (λ (z : Shelf). z.back) t.shelf_is) h
     sync-takes (syncing.Saves s) m nx state new t heard h =
         sync-as t.gives m.lane t.saved old.order nx state new.order new.back t.follows (takes-on sent turn came s old.back sound heard old.repeats new.repeats t.saved new.back t.gives t.takes h)
 
-    ends-if : (b : Bool) (lane : ℕ) (r : Removal) (took : Shelf) (nx : Next) (state : Closing) (new : Shelf) → closes.EndsIf b lane r took nx state new → CloseOn nx state new.back
+    ends-if : (b : Bool) (lane : ℕ) (r : Removal) (took : Shelf) (nx : Step) (state : Closing) (new : Shelf) → closes.EndsIf b lane r took nx state new → CloseOn nx state new.back
     ends-if true lane r took nx state new e = rw (e.next_is, e.state_is) tt
     ends-if false lane r took nx state new e = ends-on lane r.file r.refusal took nx state new e
 
-    close-takes : (at : Closing) (m : CloseFile) (nx : Next) (state : Closing) (new : Shelf) → closes.Takes at wsize m sent turn came old nx state new → CloseHeard sent turn came at old.back → AtClose at old.back
+    close-takes : (at : Closing) (m : CloseFile) (nx : Step) (state : Closing) (new : Shelf) → closes.Takes at wsize m sent turn came old nx state new → CloseHeard sent turn came at old.back → AtClose at old.back
         → CloseOn nx state new.back
     close-takes closing.Idle m nx state new t heard h = close-waits nx state closing.Idle new.back old.back t.next_is t.state_is (ap (λ (z : Shelf). z.back) t.shelf_is) h
     close-takes (closing.Queued s) m nx state new t heard h = close-waits nx state (closing.Queued s) new.back old.back t.next_is t.state_is (ap (λ (z : Shelf). z.back) t.shelf_is) h
@@ -234,22 +234,22 @@ module _ (before next wsize : ℕ) (is_next : next ≡ before + 1) (some : 1 ≤
   Runs (machines.Path m) b = ⊥
   Runs (machines.Name m) b = ⊥
 
-  abbrev pub RunsOn : Next → Machine → Pending → Type 0
+  abbrev pub RunsOn : Step → Machine → Pending → Type 0
   RunsOn (nexts.Send call) m b = Runs m b
   RunsOn nexts.Wait m b = Runs m b
   RunsOn (nexts.Done answer) m b = Unit {0}
 
-  sync-of : (n : Next) (m : SyncFile) (state : Syncing) (k : FileMachine) (new : Machine) (b : Pending) → new ≡ machines.File k → k ≡ files.Sync (record m { state = state }) → SyncOn n state b → RunsOn n new b
+  sync-of : (n : Step) (m : SyncFile) (state : Syncing) (k : FileMachine) (new : Machine) (b : Pending) → new ≡ machines.File k → k ≡ files.Sync (record m { state = state }) → SyncOn n state b → RunsOn n new b
   sync-of (nexts.Send call) m state k new b is at h = subst (λ (z : Machine). Runs z b) (sym is) (subst (λ (z : FileMachine). FileRuns z b) (sym at) h)
   sync-of nexts.Wait m state k new b is at h = subst (λ (z : Machine). Runs z b) (sym is) (subst (λ (z : FileMachine). FileRuns z b) (sym at) h)
   sync-of (nexts.Done answer) m state k new b is at h = tt
 
-  close-of : (n : Next) (m : CloseFile) (state : Closing) (k : FileMachine) (new : Machine) (b : Pending) → new ≡ machines.File k → k ≡ files.Close (record m { state = state }) → CloseOn n state b → RunsOn n new b
+  close-of : (n : Step) (m : CloseFile) (state : Closing) (k : FileMachine) (new : Machine) (b : Pending) → new ≡ machines.File k → k ≡ files.Close (record m { state = state }) → CloseOn n state b → RunsOn n new b
   close-of (nexts.Send call) m state k new b is at h = subst (λ (z : Machine). Runs z b) (sym is) (subst (λ (z : FileMachine). FileRuns z b) (sym at) h)
   close-of nexts.Wait m state k new b is at h = subst (λ (z : Machine). Runs z b) (sym is) (subst (λ (z : FileMachine). FileRuns z b) (sym at) h)
   close-of (nexts.Done answer) m state k new b is at h = tt
 
-  module _ (turn : Turn) (old : Shelf) (sound : EachSound old.back) (early : (file : List ℕ) → Soon turn.xid file old.back) (nx : Next) (after : Shelf) where
+  module _ (turn : Turn) (old : Shelf) (sound : EachSound old.back) (early : (file : List ℕ) → Soon turn.xid file old.back) (nx : Step) (after : Shelf) where
     pub sync-begins : (m : SyncFile) (new : Machine) → ((file : List ℕ) → file_at m.lane m.slot old.opens ≡ Some file → SaveIs (saves.begun file old.seq) old.back) → Starts wsize (machines.File (files.Sync m)) turn old nx new after → RunsOn nx new after.back
     sync-begins m new begins s =
         sync-of nx m s.step.state s.machine new after.back s.machine_is s.step.machine_is (sync-starts turn old sound early m nx s.step.state after begins s.step.step)
@@ -327,7 +327,7 @@ module _ (before next wsize : ℕ) (is_next : next ≡ before + 1) (some : 1 ≤
   flies-save (machines.Path m) g b r is = absurd r
   flies-save (machines.Name m) g b r is = absurd r
 
-  pub runs-takes : (sent turn : Turn) (came : Result Reply Fault) (old : Shelf) → EachSound old.back → (nx : Next) (after : Shelf) (m new : Machine) → Runs m old.back → Hears sent turn came m old.back
+  pub runs-takes : (sent turn : Turn) (came : Result Reply Fault) (old : Shelf) → EachSound old.back → (nx : Step) (after : Shelf) (m new : Machine) → Runs m old.back → Hears sent turn came m old.back
       → Takes wsize m sent turn came old nx new after → RunsOn nx new after.back
   runs-takes sent turn came old sound nx after (machines.File (files.Sync m)) new h heard s =
       sync-of nx m s.step.state s.machine new after.back s.machine_is s.step.machine_is (sync-takes sent turn came old sound m.state m nx s.step.state after s.step.step heard h)

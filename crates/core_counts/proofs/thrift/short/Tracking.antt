@@ -1,12 +1,12 @@
 -- Where all operations are of one lane and find room: a put whose bytes have two places next to each other, along a history.
-use Rattle.core_counts.proofs.Prelude.{◌≡◌, ◌<◌, ◌≤◌, ◌⊎◌, inl, inr, ◌+◌, ◌-◌, ◌^◌, ◌++◌, nat_eq, ℕ, Bool, true, false, List, [], ◌∷◌, length, Option, Some, None, Result, Err, position, slice_get, slice_set, refl, sym, ap, subst, ◌∙◌, arith, append_assoc, option_map, get_or, eqb-true, eqb-false, ltb-true, xid_at, Waiting, next_xid, waiting_at, Fault, Entry, Began, Answered, Sent, Delivered, Call, Reply, Op, Placed, AreDifferent, HasBegan, IsWriter, count_of, most_pending, WriterAt, At, UnderWay, OneLane, CoveredEarlier, NeverFull, At-grow, At-cases, At-last, length_last, Pending, of_file, all_pending, HasNoPiece, covers, said_of, Next, Shelf, Turn, PutFile, Putting, Saving, is_full, IsUnused, Text, Mounted, Machine, Opener, PathMachine, machine_of, put_of, front_of, last_of, Fits, file_of, Starts, Resumes, Takes, Lane, Purpose, State, Busy, Over, Setup, is_busy, numbers_of, IsIdle, with_state, IsRefused, Leads, Stirs, counted, StartsLane, TakesAt, View, turn_at, unmade_turn, in_flight, HearsRecord, Reaches, begins-unbegun, taken_one, flies_of, flies_path, flies_file, flies_put, flies_if, Flies, was-sent, Known, taker-is, taker-one, lanes-under-way, idle-numbers, number_of, at-set, at-push, get-push, get-remove, skip, to-map, answered-grow, set-other, under-back, CallFits, fits-laws, unused-next, EachSound, IsAwaited, TakesHas, FileHas, PathHas, PutHas, Basis, basis-ready, stirs-basis, starts-basis, takes-basis, keeps-basis, unmade-has, Entered, Room, reached-room, stage_of, counts-cons, each-map, all-each, different-apart, KeepsHearing, reached-hearing, sent-piece, IsSent, Wholly, keeps-wholly, stirs-wholly, starts-wholly, takes-wholly, starts-has, resumes-has, takes-has, none-busy, sender, look_at, slice_get-get_or, position-Some, WaitsPlain, NotAsStable}
+use Rattle.core_counts.proofs.Prelude.{◌≡◌, ◌<◌, ◌≤◌, ◌⊎◌, inl, inr, ◌+◌, ◌-◌, ◌^◌, ◌++◌, nat_eq, ℕ, Bool, true, false, List, [], ◌∷◌, length, Option, Some, None, Result, Err, position, slice_get, slice_set, refl, sym, ap, subst, ◌∙◌, arith, append_assoc, option_map, get_or, eqb-true, eqb-false, ltb-true, xid_at, Waiting, next_xid, waiting_at, Fault, Entry, Began, Answered, Sent, Delivered, Call, Reply, Op, Placed, AreDifferent, HasBegan, IsWriter, count_of, most_pending, WriterAt, At, UnderWay, OneLane, CoveredEarlier, NeverFull, At-grow, At-cases, At-last, length_last, Pending, of_file, all_pending, HasNoPiece, covers, said_of, Step, Shelf, Turn, PutFile, Putting, Saving, is_full, IsUnused, Text, Mounted, Machine, Opener, PathMachine, machine_of, put_of, front_of, last_of, Fits, file_of, Starts, Resumes, Takes, Lane, Purpose, State, Busy, Over, Setup, is_busy, numbers_of, IsIdle, with_state, IsRefused, Leads, Stirs, counted, StartsLane, TakesAt, View, turn_at, unmade_turn, in_flight, HearsRecord, Reaches, begins-unbegun, taken_one, flies_of, flies_path, flies_file, flies_put, flies_if, Flies, was-sent, Known, taker-is, taker-one, lanes-under-way, idle-numbers, number_of, at-set, at-push, get-push, get-remove, skip, to-map, answered-grow, set-other, under-back, CallFits, fits-laws, unused-next, EachSound, IsAwaited, TakesHas, FileHas, PathHas, PutHas, Basis, basis-ready, stirs-basis, starts-basis, takes-basis, keeps-basis, unmade-has, Entered, Room, reached-room, stage_of, counts-cons, each-map, all-each, different-apart, KeepsHearing, reached-hearing, sent-piece, IsSent, Wholly, keeps-wholly, stirs-wholly, starts-wholly, takes-wholly, starts-has, resumes-has, takes-has, none-busy, sender, look_at, slice_get-get_or, position-Some, WaitsPlain, NotAsStable}
 use Rattle.core_session.proofs.order.Basis.{unused-idle}
 use Rattle.core_session.proofs.room.Rooms.{Stands}
 use Rattle.world_model.specs.declared.op.Op.TheVariants as ops
 use Rattle.claims.specs.Asks as asks
 use Rattle.write_back.specs.Pieces.{Sent as Piece}
 use Rattle.write_back.specs.Sound as backs
-use Rattle.client_shelf.specs.declared.next.Next.TheVariants as nexts
+use Rattle.client_shelf.specs.declared.step.Step.TheVariants as nexts
 use Rattle.file_ops.specs.declared.put_file.Putting.TheVariants as putting
 use Rattle.file_ops.specs.PutFile as puts
 use Rattle.file_ops.specs.Saves as saves
@@ -68,7 +68,7 @@ module _ (m : Mounted) (setup : Setup) (f : List ℕ) (before next : ℕ) (is_ne
   abbrev pub Running : List Entry → Machine → Pending → Type 0
   Running h machine b = Runs before next setup.wsize is_next some f (Cov h) offset bytes side has_before has_next machine b
 
-  abbrev RunningOn : List Entry → Next → Machine → Pending → Type 0
+  abbrev RunningOn : List Entry → Step → Machine → Pending → Type 0
   RunningOn h nx machine b = RunsOn before next setup.wsize is_next some f (Cov h) offset bytes side has_before has_next nx machine b
 
   abbrev May : List Entry → Shelf → Type 0
@@ -158,7 +158,7 @@ module _ (m : Mounted) (setup : Setup) (f : List ℕ) (before next : ℕ) (is_ne
       by true (openers.Open o) there at = tt
       by false o there at = tt
 
-  module _ (h : List Entry) (v new : View) (at number : ℕ) (machine : Machine) (nx : Next) (there : slice_get v.lanes at ≡ Some (record { number = number; state = Busy machine }))
+  module _ (h : List Entry) (v new : View) (at number : ℕ) (machine : Machine) (nx : Step) (there : slice_get v.lanes at ≡ Some (record { number = number; state = Busy machine }))
       (others : (k : ℕ) (lane : Lane) → slice_get v.lanes k ≡ Some lane → k ≡ at) (size : v.wsize ≡ setup.wsize) (sound : EachSound v.shelf.back)
       (last : (file : List ℕ) → Each (λ q. q.xid ≤ next_xid v.calls) (of_file file v.shelf.back).pieces)
       (it : (call : Call) → nx ≡ nexts.Send call → (g : List ℕ) → flies_of machine ≡ Some g → IsSent (next_xid v.calls) g v.shelf.back)
@@ -184,11 +184,11 @@ module _ (m : Mounted) (setup : Setup) (f : List ℕ) (before next : ℕ) (is_ne
     same-run : (UnderWay h number x (length h) ThisPut → Running h machine v.shelf.back) → AllRun h v
     same-run own k lane here = subst (λ (l : Lane). UnderWay h l.number x (length h) ThisPut → StateRuns h v.shelf.back l.state) (own-lane k lane here) own
 
-    leads-if : (n : Next) → nx ≡ n → Leads v at number machine n new → AllRun h new
-    leads-if nexts.Wait is l = subst (AllRun h) (sym l) (same-run (λ u. subst (λ (z : Next). RunningOn h z machine v.shelf.back) is (on u)))
+    leads-if : (n : Step) → nx ≡ n → Leads v at number machine n new → AllRun h new
+    leads-if nexts.Wait is l = subst (AllRun h) (sym l) (same-run (λ u. subst (λ (z : Step). RunningOn h z machine v.shelf.back) is (on u)))
     leads-if (nexts.Done answer) is l = subst (AllRun h) (sym l) (set-run (Over answer) v.shelf (λ u. tt))
     leads-if (nexts.Send call) is (inl made) =
-        subst (AllRun h) (sym made.is) (same-run (λ u. subst (λ (z : Next). RunningOn h z machine v.shelf.back) is (on u)))
+        subst (AllRun h) (sym made.is) (same-run (λ u. subst (λ (z : Step). RunningOn h z machine v.shelf.back) is (on u)))
     leads-if (nexts.Send call) is (inr r) = subst (AllRun h) (sym r.is) (set-run r.state r.left (λ u. by r.next refl r.leads (left u)))
       where
         takes : Takes setup.wsize machine (turn_at v) (unmade_turn v) (Err r.fault) v.shelf r.next r.after r.left
@@ -197,12 +197,12 @@ module _ (m : Mounted) (setup : Setup) (f : List ℕ) (before next : ℕ) (is_ne
         left : UnderWay h number x (length h) ThisPut → RunningOn h r.next r.after r.left.back
         left u =
             runs-takes before next setup.wsize is_next some f (Cov h) offset bytes side has_before has_next (turn_at v) (unmade_turn v) (Err r.fault) v.shelf sound r.next r.left machine r.after
-            (subst (λ (z : Next). RunningOn h z machine v.shelf.back) is (on u)) (unmade-hears v r.fault machine h (it call is) last) takes
+            (subst (λ (z : Step). RunningOn h z machine v.shelf.back) is (on u)) (unmade-hears v r.fault machine h (it call is) last) takes
             (unmade-has (λ g o bs. May h v.shelf) setup.wsize (turn_at v) (unmade_turn v) r.fault machine v.shelf r.next r.after r.left takes)
 
-        by : (n : Next) → r.next ≡ n → IsRefused r.after n r.state → RunningOn h r.next r.after r.left.back → StateRuns h r.left.back r.state
+        by : (n : Step) → r.next ≡ n → IsRefused r.after n r.state → RunningOn h r.next r.after r.left.back → StateRuns h r.left.back r.state
         by (nexts.Send again) same st runs_ = absurd st
-        by nexts.Wait same st runs_ = subst (StateRuns h r.left.back) (sym st) (subst (λ (z : Next). RunningOn h z r.after r.left.back) same runs_)
+        by nexts.Wait same st runs_ = subst (StateRuns h r.left.back) (sym st) (subst (λ (z : Step). RunningOn h z r.after r.left.back) same runs_)
         by (nexts.Done answer) same st runs_ = subst (StateRuns h r.left.back) (sym st) tt
 
     pub leads-run : Leads v at number machine nx new → AllRun h new
@@ -410,7 +410,7 @@ module _ (m : Mounted) (setup : Setup) (f : List ℕ) (before next : ℕ) (is_ne
       }
 
   -- what it adds, it has room for
-  module _ (g : List Entry) (old after : Shelf) (sent turn : Turn) (came : Result Reply Fault) (nx : Next) where
+  module _ (g : List Entry) (old after : Shelf) (sent turn : Turn) (came : Result Reply Fault) (nx : Step) where
     put-has : (state : Putting) (p new : PutFile) → AtState before next setup.wsize is_next some f (Cov g) offset bytes side has_before has_next state old.back → (state ≡ putting.Opens → May g old)
         → (t : puts.Takes state setup.wsize p sent turn came old nx new after) → PutHas (λ file. May g old) state setup.wsize p sent turn came old nx new after t
     put-has putting.Idle p new at may t = tt
@@ -550,7 +550,7 @@ module _ (m : Mounted) (setup : Setup) (f : List ℕ) (before next : ℕ) (is_ne
     };
   }
     where
-      leads-size : (v new : View) (at number : ℕ) (machine : Machine) (nx : Next) → Leads v at number machine nx new → new.wsize ≡ v.wsize
+      leads-size : (v new : View) (at number : ℕ) (machine : Machine) (nx : Step) → Leads v at number machine nx new → new.wsize ≡ v.wsize
       leads-size v new at number machine (nexts.Send call) (inl made) = ap (λ (w : View). w.wsize) made.is
       leads-size v new at number machine (nexts.Send call) (inr r) = ap (λ (w : View). w.wsize) r.is
       leads-size v new at number machine nexts.Wait is = ap (λ (w : View). w.wsize) is

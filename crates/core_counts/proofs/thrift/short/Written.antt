@@ -1,5 +1,5 @@
 -- Where all operations are of one lane and find room: bytes that a write or fill brought go on waiting, as long as only writes and fills begin.
-use Rattle.core_counts.proofs.Prelude.{◌≡◌, ◌≢◌, ◌<◌, ◌≤◌, ◌⊎◌, inl, inr, ◌+◌, ◌-◌, ◌++◌, nat_eq, ℕ, Bool, true, false, List, [], ◌∷◌, length, Option, Some, None, option_map, Result, Ok, Err, slice_get, slice_set, refl, sym, ap, subst, ◌∙◌, arith, slice_index, eqb-true, eqb-false, le-leb, lt-ltb, Mode, Answer, Fault, Value, Entry, Began, Answered, Delivered, Op, Placed, count_of, most_pending, WriterAt, At, AnsweredBefore, UnderWay, OneLane, NeverFull, At-grow, At-back, At-below, At-cases, At-last, At-one, length_last, Unsent, of_file, all_pending, FilePending, rest_at, PutsBytes, Cell, covers, puts-with, same-or, Opened, Next, Shelf, Turn, WriteFile, is_full, file_to_write, file_at, Mounted, Machine, machine_of, Starts, Lane, Busy, Over, Setup, numbers_of, IsIdle, with_state, Leads, counted, StartsLane, AnswersAt, View, turn_at, Reaches, begins-unbegun, Known, lanes-under-way, idle-numbers, number_of, at-set, at-push, get-push, get-remove, skip, to-map, answered-grow, set-other, under-back, EachSound, if-true, if-false, Basis, stirs-basis, starts-basis, takes-basis, keeps-basis, Entered, Room, reached-room, Elsewhere, counts-cons, each-map, all-each, different-apart, KeepsHearing, reached-hearing, WaitsPlain}
+use Rattle.core_counts.proofs.Prelude.{◌≡◌, ◌≢◌, ◌<◌, ◌≤◌, ◌⊎◌, inl, inr, ◌+◌, ◌-◌, ◌++◌, nat_eq, ℕ, Bool, true, false, List, [], ◌∷◌, length, Option, Some, None, option_map, Result, Ok, Err, slice_get, slice_set, refl, sym, ap, subst, ◌∙◌, arith, slice_index, eqb-true, eqb-false, le-leb, lt-ltb, Mode, Answer, Fault, Value, Entry, Began, Answered, Delivered, Op, Placed, count_of, most_pending, WriterAt, At, AnsweredBefore, UnderWay, OneLane, NeverFull, At-grow, At-back, At-below, At-cases, At-last, At-one, length_last, Unsent, of_file, all_pending, FilePending, rest_at, PutsBytes, Cell, covers, puts-with, same-or, Opened, Step, Shelf, Turn, WriteFile, is_full, file_to_write, file_at, Mounted, Machine, machine_of, Starts, Lane, Busy, Over, Setup, numbers_of, IsIdle, with_state, Leads, counted, StartsLane, AnswersAt, View, turn_at, Reaches, begins-unbegun, Known, lanes-under-way, idle-numbers, number_of, at-set, at-push, get-push, get-remove, skip, to-map, answered-grow, set-other, under-back, EachSound, if-true, if-false, Basis, stirs-basis, starts-basis, takes-basis, keeps-basis, Entered, Room, reached-room, Elsewhere, counts-cons, each-map, all-each, different-apart, KeepsHearing, reached-hearing, WaitsPlain}
 use Rattle.std.specs.Prelude.{replicate}
 use Rattle.world_model.specs.Operations.{Ended}
 use Rattle.file_ops.specs.Opens.{in_mode, of_open}
@@ -13,7 +13,7 @@ use Rattle.world_model.specs.declared.answer.Value.TheVariants.{Nothing}
 use Rattle.world_model.specs.declared.op.Op.TheVariants as ops
 use Rattle.claims.specs.Asks as asks
 use Rattle.write_back.specs.declared.state.State.TheVariants.{Waiting as Waits}
-use Rattle.client_shelf.specs.declared.next.Next.TheVariants as nexts
+use Rattle.client_shelf.specs.declared.step.Step.TheVariants as nexts
 use Rattle.file_ops.specs.declared.write_file.Writing.TheVariants as writing
 use Rattle.file_ops.specs.declared.write_file.Text.TheVariants as texts
 use Rattle.file_ops.specs.WriteFile as writes
@@ -39,7 +39,7 @@ open-file (Some o) file g a b = by o.mode a
     by modes.X is = let k : o.file ≡ file = cc in sym k ∙ same
 
 -- it ends in the step in which it begins
-record WriteDone (k : WriteFile) (old : Shelf) (nx : Next) (after : Shelf) : Type 0 where
+record WriteDone (k : WriteFile) (old : Shelf) (nx : Step) (after : Shelf) : Type 0 where
   answer : Answer
   done : nx ≡ nexts.Done answer
   opens : after.opens ≡ old.opens
@@ -47,7 +47,7 @@ record WriteDone (k : WriteFile) (old : Shelf) (nx : Next) (after : Shelf) : Typ
   own : (value : Value) → answer ≡ answers.Done value → (g : List ℕ) → file_at k.lane k.slot old.opens ≡ Some g → (place : ℕ) → covers k.offset (length (writes.text_bytes k.text)) place ≡ true
       → WaitsPlain (of_file g after.back) place
 
-refused-done : (k : WriteFile) (old : Shelf) (nx : Next) (after : Shelf) (fault : Fault) → nx ≡ nexts.Done (answers.Refused fault) → after ≡ old → WriteDone k old nx after
+refused-done : (k : WriteFile) (old : Shelf) (nx : Step) (after : Shelf) (fault : Fault) → nx ≡ nexts.Done (answers.Refused fault) → after ≡ old → WriteDone k old nx after
 refused-done k old nx after fault n s = record {
   answer = answers.Refused fault;
   done = n;
@@ -56,7 +56,7 @@ refused-done k old nx after fault n s = record {
   own = λ value is. absurd (let no_way : answers.Refused fault ≡ answers.Done value = is in cc);
 }
 
-write-starts : (wsize : ℕ) (turn : Turn) (k : WriteFile) (old : Shelf) (nx : Next) (new : WriteFile) (after : Shelf) → EachSound old.back → is_full (writes.text_bytes k.text) old.back ≡ false
+write-starts : (wsize : ℕ) (turn : Turn) (k : WriteFile) (old : Shelf) (nx : Step) (new : WriteFile) (after : Shelf) → EachSound old.back → is_full (writes.text_bytes k.text) old.back ≡ false
     → writes.Starts wsize k turn old nx new after → WriteDone k old nx after
 write-starts wsize turn k old nx new after sound full s = by (file_to_write k.lane k.slot old.opens) refl s
   where
@@ -190,16 +190,16 @@ module _ (m : Mounted) (setup : Setup) (end lane w slot : ℕ) (op : Op) (both :
         let bound = stood.bound in
         omega (arith, all, sum, bound)
 
-    module _ (nx : Next) (after : Machine) (shelf : Shelf) (s : Starts old.wsize (machine_of m lane2 op2) (turn_at (counted old now)) old.shelf nx after shelf) where
+    module _ (nx : Step) (after : Machine) (shelf : Shelf) (s : Starts old.wsize (machine_of m lane2 op2) (turn_at (counted old now)) old.shelf nx after shelf) where
       -- what is said of a write or a fill
-      record Step : Type 0 where
+      record StepIs : Type 0 where
         answer : Answer
         done : nx ≡ nexts.Done answer
         kept : Both old.shelf → Both shelf
         own : (value : Value) → answer ≡ answers.Done value → op2 ≡ op → lane2 ≡ lane → Both shelf
 
       step-of : (slot2 offset : ℕ) (text : _) (kk : WriteDone (record { lane = lane2; slot = slot2; offset = offset; text = text; state = writing.Idle }) old.shelf nx shelf)
-          → (op2 ≡ op → (slot2 ≡ slot) × (covers offset (length (writes.text_bytes text)) end ≡ true) × (covers offset (length (writes.text_bytes text)) (end + 1) ≡ true)) → Step
+          → (op2 ≡ op → (slot2 ≡ slot) × (covers offset (length (writes.text_bytes text)) end ≡ true) × (covers offset (length (writes.text_bytes text)) (end + 1) ≡ true)) → StepIs
       step-of slot2 offset text kk inside = record {
         answer = kk.answer;
         done = kk.done;
@@ -241,7 +241,7 @@ module _ (m : Mounted) (setup : Setup) (end lane w slot : ℕ) (op : Op) (both :
       fill-inside slot2 offset2 count2 byte2 is same (write offset bytes its low high) =
           absurd (let k : ops.Fill slot2 offset2 count2 byte2 ≡ ops.Write slot offset bytes = sym is ∙ same ∙ its in cc)
 
-      step : IsWrite op2 → Step
+      step : IsWrite op2 → StepIs
       step (a_write slot2 offset2 bytes2 is) =
           let begun = subst (λ (o : Op). Starts old.wsize (machine_of m lane2 o) (turn_at (counted old now)) old.shelf nx after shelf) is s in
           let few_ = few (asks.write slot2 offset2 bytes2 is) in
@@ -286,8 +286,8 @@ module _ (m : Mounted) (setup : Setup) (end lane w slot : ℕ) (op : Op) (both :
     good-begins : (new : View) → StartsLane (counted old now) lane2 (machine_of m lane2 op2) new → (line : ℕ) → At later w (Began lane line op) → Only later → Good later new
     good-begins new t line began only = by (At-cases h (Began lane2 line2 op2) w (Began lane line op) began)
       where
-        leads : (nx : Next) (answer : Answer) → nx ≡ nexts.Done answer → Leads (begun_view t.after t.shelf) (length old.lanes) lane2 t.after nx new → new ≡ with_state (begun_view t.after t.shelf) (length old.lanes) lane2 (Over answer) t.shelf
-        leads nx answer is l = subst (λ (n : Next). Leads (begun_view t.after t.shelf) (length old.lanes) lane2 t.after n new) is l
+        leads : (nx : Step) (answer : Answer) → nx ≡ nexts.Done answer → Leads (begun_view t.after t.shelf) (length old.lanes) lane2 t.after nx new → new ≡ with_state (begun_view t.after t.shelf) (length old.lanes) lane2 (Over answer) t.shelf
+        leads nx answer is l = subst (λ (n : Step). Leads (begun_view t.after t.shelf) (length old.lanes) lane2 t.after n new) is l
 
         not-began : (l line : ℕ) (a : Answer) → Began lane2 line2 op2 ≡ Answered l line a → ⊥
         not-began l line a e = cc
@@ -295,7 +295,7 @@ module _ (m : Mounted) (setup : Setup) (end lane w slot : ℕ) (op : Op) (both :
         busy-over : (number number2 : ℕ) (machine : Machine) (answer : Answer) → ◌≡◌ {A = Lane} (record { number = number; state = Over answer }) (record { number = number2; state = Busy machine }) → ⊥
         busy-over number number2 machine answer e = let k : Over answer ≡ Busy machine = ap (λ (l : Lane). l.state) e in cc
 
-        whole : (st : Step t.next t.after t.shelf t.starts)
+        whole : (st : StepIs t.next t.after t.shelf t.starts)
             → ((number : ℕ) (value : Value) → lane2 ≡ number → st.answer ≡ answers.Done value → UnderWay later number w (length later) op → Both t.shelf)
             → ((l y : ℕ) (value : Value) → Ended later l w op y (answers.Done value) → Both t.shelf) → Good later new
         whole st ready_ noted_ = subst (Good later) (sym (leads t.next st.answer st.done t.leads)) (record {

@@ -1,7 +1,7 @@
 use Rattle.std.proofs.Common.{true, false, refl, ap, ◌∙◌}
 use Rattle.client_shelf.specs.Coming.{reply_of}
 use Rattle.client_shelf.specs.Unmade.{came_unmade, names_after}
-use Rattle.client_shelf.specs.declared.next.Next.TheVariants as nexts
+use Rattle.client_shelf.specs.declared.step.Step.TheVariants as nexts
 use Rattle.file_ops.proofs.Removals.{ends-by}
 use Rattle.file_ops.proofs.close_file.CloseFile.take_removal.Goals as goal
 

@@ -26,8 +26,8 @@ invariant_of-self-in-Err-Failed g c =
     (record { same = c.put_place-in-Err-Failed.ensures.told; places = c.put_place-in-Err-Failed.ensures.placed; stays = c.put_place-in-Err-Failed.ensures.honest }) in
     (call_now _ _ (g.W.Wire.placed c.self.inside.wire) _ _ (added.Part c.in-Ok.bytes) c.self.invariant s.more s.tells).placed
 
-pub invariant_of-self-in-Err-Memory : goal.invariant_of-self-in-Err-Memory
-invariant_of-self-in-Err-Memory g c =
+pub invariant_of-self-in-Memory-1 : goal.invariant_of-self-in-Memory-1
+invariant_of-self-in-Memory-1 g c =
     let s = kept_then g.W.Wire.told g.W.Wire.placed g.W.Wire.honest c.self.inside.wire _ _ _ nothing c.self.invariant
     (record { same = c.if-not-keep_place.ensures.told; places = c.if-not-keep_place.ensures.yes; stays = c.if-not-keep_place.ensures.honest })
     (record { tells = (rw c.in-Err-Memory.field-0-is at c.in-Err-Memory.ensures.told); places = c.in-Err-Memory.ensures.placed; stays = c.in-Err-Memory.ensures.honest }) in
