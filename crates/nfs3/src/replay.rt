@@ -3,9 +3,7 @@
 use crate::ending::Ending;
 use crate::schedule_file::{refused, schedule_text};
 use net_edge::{StandardInput, StandardOutput};
-use outside::TickClock;
 use port_words::batch_words;
-use world_link::parse_schedule;
 
 /// Runs the words over the simulated server of the schedule in the file of that name.
 pub fn replay(rt: &HostRuntime, path: &str, words: &[String]) -> Ending {
@@ -32,19 +30,16 @@ pub fn replay_batches(rt: &HostRuntime, path: &str, words: &[String]) -> Ending 
     let Ok(words) = batch_words(alloc, words) else {
         return Ending::Memory;
     };
-    let (mut world, tick) = match parse_schedule(alloc, text.as_slice()) {
-        Ok(begun) => begun,
-        Err(fault) => return refused(fault),
-    };
     let mut source = StandardInput::new(rt.stdin());
-    let mut clock = TickClock::new(tick);
     let mut sink = StandardOutput::new(rt.stdout());
-    Ending::Ran(batch_runs::run(
+    match run_replay::replay_batches(
         alloc,
+        text.as_slice(),
         words.as_slice(),
         &mut source,
-        &mut world,
-        &mut clock,
         &mut sink,
-    ))
+    ) {
+        Ok((_, status)) => Ending::Ran(status),
+        Err(fault) => refused(fault),
+    }
 }

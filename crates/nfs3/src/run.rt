@@ -58,7 +58,7 @@ pub fn run_batches(rt: &HostRuntime, host: &str, words: &[String]) -> Ending {
     let mut link = StreamLink::new(alloc, TcpWire::new(rt, host));
     let mut clock = SystemClock::new(rt);
     let mut sink = StandardOutput::new(rt.stdout());
-    Ending::Ran(batch_runs::run(
+    Ending::Ran(run_batches::run(
         alloc,
         words.as_slice(),
         &mut source,
@@ -81,7 +81,7 @@ pub fn run_batches_over_udp(rt: &HostRuntime, host: &str, words: &[String]) -> E
     let mut link = UdpLink::new(UdpDatagrams::new(rt, host));
     let mut clock = SystemClock::new(rt);
     let mut sink = StandardOutput::new(rt.stdout());
-    Ending::Ran(batch_runs::run(
+    Ending::Ran(run_batches::run(
         alloc,
         words.as_slice(),
         &mut source,
