@@ -1,9 +1,14 @@
+pub mod Answering
 pub mod Causing
 pub mod Cuts
 pub mod Finding
 pub mod Idle
+pub mod Idling
+pub mod InSteps
 pub mod Joining
+pub mod LeftOf
 pub mod Nexts
+pub mod OneRuns
 pub mod Opens
 pub mod Parts
 pub mod Saying
@@ -12,5 +17,6 @@ pub mod UpTo
 pub mod Whole
 pub mod Over
 pub mod LostSo
+pub mod LostSteps
 pub mod Telling
 pub mod LostUpTo

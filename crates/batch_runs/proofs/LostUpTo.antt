@@ -46,10 +46,11 @@ pub record IsLostSoFar (count : Bool) (tally : Tally) (old now : Answered) (give
   pub gone : IsLostTo (lines_in parts) k
   pub asked : All IsAskedLine (lines_in parts)
   pub only : EachLosing (entries_in parts)
+  pub none : lines_in parts ≡ [] → entries_in parts ≡ []
   pub tally_is : tally ≡ tally_of k
 
 -- the lines of lanes one after another are the lines of the script, lane by lane
-in-order : (done script : List ScriptLine) (k : List Entry) → All IsAskedLine script → IsLostTo (done ++ by_lanes 16 script) k → IsLostTo (done ++ script) k
+pub in-order : (done script : List ScriptLine) (k : List Entry) → All IsAskedLine script → IsLostTo (done ++ by_lanes 16 script) k → IsLostTo (done ++ script) k
 in-order done script k asked g = record {
   resting = g.resting;
   begins = λ lane.
@@ -68,10 +69,10 @@ At-behind [] es n e at le = (n, at)
 At-behind (x ∷ h) es zero e at le = absurd (omega (arith, le))
 At-behind (x ∷ h) es (suc n) e at le = At-behind h es n e at (omega (arith, le))
 
-none-heard : (h es lines : List Entry) → EachLosing es → TogetherFrom (length h) lines (h ++ es)
+pub none-heard : (h es lines : List Entry) → EachLosing es → TogetherFrom (length h) lines (h ++ es)
 none-heard h es lines only n bytes at le k lane line op there = absurd (let r = At-behind h es n (Delivered bytes) at le in only r.0 (Delivered bytes) r.1)
 
-each-both : (a b : List Entry) → EachLosing a → EachLosing b → EachLosing (a ++ b)
+pub each-both : (a b : List Entry) → EachLosing a → EachLosing b → EachLosing (a ++ b)
 each-both [] b p q i e at = q i e at
 each-both (x ∷ a) b p q zero e at = p zero e at
 each-both (x ∷ a) b p q (suc i) e at = each-both a b (λ j d there. p (suc j) d there) q i e at
@@ -79,18 +80,22 @@ each-both (x ∷ a) b p q (suc i) e at = each-both a b (λ j d there. p (suc j) 
 -- what the lines of one script add
 module _ (script : List ScriptLine) (asked : All IsAskedLine script) (given told : List ℕ) (k l es : List Entry) (is : l ≡ k ++ es) (lines : LostLines (by_lanes 16 script) es) (given_is : given ≡ clocks es)
     (told_is : told ≡ told_by [] es) where
-  own-status : HasStatus es (status_of script)
+  pub own-status : HasStatus es (status_of script)
   own-status =
       (lost-ends (by_lanes 16 script) script (lanes-same script asked) (record { status = status_of script; tally = tally_of [] }) given told [] es es refl (λ lane. refl) refl lines given_is told_is).status
 
   loses : LosesBy [] (by_lanes 16 script) (Ok tt) given told k l
   loses = (es, is, lines, given_is, told_is)
 
-  own-each : EachLosing es
-  own-each =
-      let o : LosesOnly script [] es = told-loses (Some (history [])) (Some (history es)) [] (by_lanes 16 script) script (Ok tt) given told (λ none. by-empty 16 script none) (es, refl, lines, given_is, told_is) in
-      subst EachLosing (sym o.is) o.each
+  only-losing : LosesOnly script [] es
+  only-losing = told-loses (Some (history [])) (Some (history es)) [] (by_lanes 16 script) script (Ok tt) given told (λ none. by-empty 16 script none) (es, refl, lines, given_is, told_is)
 
-  same-calls : tally_of k ≡ tally_of l
+  pub own-each : EachLosing es
+  own-each = subst EachLosing (sym only-losing.is) only-losing.each
+
+  pub own-none : script ≡ [] → es ≡ []
+  own-none none = only-losing.is ∙ only-losing.none none
+
+  pub same-calls : tally_of k ≡ tally_of l
   same-calls =
       told-lost-counted (Some (history k)) (Some (history l)) [] (by_lanes 16 script) given told (record { status = 0; tally = tally_of k }) (tally_of k) refl loses tt refl

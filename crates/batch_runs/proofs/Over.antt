@@ -15,8 +15,10 @@ use Rattle.lane_session.specs.declared.counts.Counts.{Counts}
 use Rattle.lane_session.specs.declared.running.Session.{Session}
 use Rattle.lane_session.specs.Bonds.{IsOpened, Start}
 use Rattle.lane_session.specs.Running.{IsFreshFor, mounted_by}
+use Rattle.lane_session.specs.Streams.{Passes}
 use Rattle.lane_session.proofs.CoreEnds.{told-none}
 use Rattle.lane_session.proofs.Ending.{broken-none, fresh-goes}
+use Rattle.lane_session.proofs.Passing.{appends_same, passes_less, reads_same}
 use Rattle.lane_session.proofs.Reaching.{fresh-bonded}
 use Rattle.lane_session.proofs.Tallying.{fresh-tallied}
 use Rattle.batch_runs.specs.declared.answered.Answered.{Answered}
@@ -70,3 +72,25 @@ none-told (Some x) s setup tally first old left may sound = λ o is batch asks.
     read : (batch : Read) (left : Option (List Read)) → FromBatch (in_front batch left) (all batch left)
     read batch None = tt
     read batch (Some more) = refl
+
+-- ---- with what the clock gave and what was written
+
+pub over-passes : (r0 r1 : Option (List ℕ)) (t0 t1 : Option History) (w0 w1 : Option (List ℕ)) (s : Settings) (setup : Setup) (session : Session) (tally : Tally) (first : List ScriptLine) (old : Answered)
+    (left : Option (List Read)) (result : Result ℕ Stop) → MaySetUp setup → IsFreshFor s setup session → session.counts ≡ record { tally = tally; next = setup.first_xid }
+    → Passes r0 r1 t0 t1 w0 w1 (λ given text h k. IsRead first left (λ l. RunsIn s.count first session old l result given text h k))
+    → Passes r0 r1 t0 t1 w0 w1 (λ given text h k. IsOpened (Some setup) h → tally ≡ tally_of h → IsRead first left (λ l. RunsOver s setup old l result given text h k))
+over-passes r0 r1 t0 t1 w0 w1 s setup session tally first old left result may f counts p =
+    passes_less r0 r1 t0 t1 w0 w1 (λ given text h k. IsRead first left (λ l. RunsIn s.count first session old l result given text h k))
+    (λ given text h k. IsOpened (Some setup) h → tally ≡ tally_of h → IsRead first left (λ l. RunsOver s setup old l result given text h k))
+    (λ given text h k r. over-told s setup session tally first old left result given text h k may f counts r) p
+
+pub none-passes : (r : Option (List ℕ)) (t : Option History) (w : Option (List ℕ)) (s : Settings) (setup : Setup) (tally : Tally) (first : List ScriptLine) (old : Answered) (left : Option (List Read))
+    → MaySetUp setup → AreSoundPages setup.pages
+    → Passes r r t t w w (λ given text h k. IsOpened (Some setup) h → tally ≡ tally_of h → IsRead first left (λ l. RunsOver s setup old l (Err stops.Memory) given text h k))
+none-passes r t w s setup tally first old left may sound = record {
+  given = [];
+  read = reads_same r;
+  text = [];
+  added = appends_same w;
+  told = none-told t s setup tally first old left may sound;
+}

@@ -1,5 +1,5 @@
 -- What is read of the batches, and how those are answered that aren't run.
-use Rattle.std.specs.Prelude.{◌≡◌, ◌≢◌, ◌≤◌, ◌+◌, ℕ, suc, max, Bool, List, [], ◌∷◌, ◌++◌, All, length, map, Option, Some, None, Result, Ok, Err}
+use Rattle.std.specs.Prelude.{◌≡◌, ◌≢◌, ◌≤◌, ◌+◌, ℕ, suc, max, Bool, List, [], ◌∷◌, ◌++◌, All, length, map, Option, Some, None, IfOk, Result, Ok, Err}
 use Rattle.world_model.specs.declared.tally.Tally.{Tally}
 use Rattle.world_model.specs.Follows.{IsFront}
 use Rattle.nfs_script.specs.declared.fault.ScriptFault.{ScriptFault}
@@ -160,4 +160,5 @@ pub record TakesIdle (count : Bool) (old new : Answered) (left rest : Option (Li
   pub back : List ℕ
   pub finds : FindsScript RefusedFrom StopsAt old mid left rest found front
   pub answers : AnswersFound count found mid new result back
+  pub same : IfOk result (λ r. found ≡ Ok r)
   pub text_is : text ≡ front ++ back

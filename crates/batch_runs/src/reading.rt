@@ -65,6 +65,7 @@ fn script_in(alloc: Global, batch: &Batch) -> Result<Next, Stop>
     requires { IsCountedIn batch.now }
     ensures is { IfOk result (NextIs (read_of batch.now)) }
     ensures asked { IfOk result IsAskedNext }
+    ensures cause { CausedBy result ⊥ ⊥ }
 {
     if !batch.ended {
         return Ok(Next::Refused(ScriptFault {
@@ -140,6 +141,7 @@ fn answer_next<K: Sink>(
 ) -> Result<Next, Stop>
     requires worst { IsWorst answered.old.status }
     ensures answers { Says (K.written out.old) (K.written out.new) (AnswersNext next answered.old answered.new result) }
+    ensures same { IfOk result (λ now. now ≡ next) }
     ensures worst { IsWorst answered.new.status }
     ensures written { K.faults out.old ≤ K.faults out.new }
     ensures cause { CausedBy result ⊥ (Rose (K.faults out.old) (K.faults out.new)) }

@@ -1,14 +1,21 @@
-use Rattle.batch_runs.specs.Reading.{left_in}
-use Rattle.batch_runs.proofs.Finding.{one-next, one-stop}
-use Rattle.batch_runs.proofs.Saying.{says-less, says-none}
+use Rattle.batch_runs.proofs.Answering.{batch-answered, batch-unread, same-asked, same-further}
+use Rattle.batch_runs.proofs.Causing.{all-caused, stop-caused}
 use Rattle.batch_runs.proofs.reading.take_batch.Goals as goal
 
 pub returns-in-Ok-clause-takes : goal.returns-in-Ok-clause-takes
-returns-in-Ok-clause-takes g c =
-    says-less _ _ _ _
-    (λ t a. one-next c.args.answered.now c.answer_next.new.answered (left_in (g.S.Source.left c.args.source.now) c.args.batches.now)
-    (left_in (g.S.Source.left c.next_batch.new.source) c.next_batch.new.batches) c.in-Ok.next c.answer_next.result t c.in-Ok.ensures.next a)
-    c.answer_next.ensures.answers
+returns-in-Ok-clause-takes g c = batch-answered _ _ _ _ _ _ c.in-Ok.next c.answer_next.result c.in-Ok.ensures.next c.answer_next.ensures.answers
 
-pub returns-clause-takes : goal.returns-clause-takes
-returns-clause-takes g c = says-none _ _ (one-stop c.args.answered.now _ _ c.in-Err.stop)
+pub returns-in-Ok-clause-asked : goal.returns-in-Ok-clause-asked
+returns-in-Ok-clause-asked g c = same-asked c.in-Ok.next c.answer_next.result c.answer_next.ensures.same c.in-Ok.ensures.asked
+
+pub returns-in-Ok-clause-less : goal.returns-in-Ok-clause-less
+returns-in-Ok-clause-less g c = same-further _ c.in-Ok.next c.answer_next.result c.answer_next.ensures.same c.in-Ok.ensures.less
+
+pub returns-in-Err-clause-takes : goal.returns-in-Err-clause-takes
+returns-in-Err-clause-takes g c = batch-unread _ _ _ _ c.in-Err.stop
+
+pub returns-in-Ok-clause-cause : goal.returns-in-Ok-clause-cause
+returns-in-Ok-clause-cause g c = all-caused _ c.answer_next.result _ _ _ _ (λ x. absurd x) (λ x. x) c.answer_next.ensures.cause
+
+pub returns-in-Err-clause-cause : goal.returns-in-Err-clause-cause
+returns-in-Err-clause-cause g c = stop-caused _ _ c.in-Err.stop _ _ _ _ (λ x. x) (λ x. absurd x) c.in-Err.ensures.cause

@@ -5,8 +5,7 @@ use Rattle.lane_session.specs.Streams.{Passes}
 use Rattle.script_batches.specs.Batches.{work_left}
 use Rattle.batch_runs.specs.Parts.{IsWorst}
 use Rattle.batch_runs.specs.Reading.{MayRun, left_in}
-use Rattle.batch_runs.specs.Running.{IsRead}
-use Rattle.batch_runs.proofs.Steps.{UpIn}
+use Rattle.batch_runs.proofs.InSteps.{UpRead}
 use Rattle.batch_runs.proofs.running.run_in.Given as goal
 
 abbrev pub invariant-running : goal.invariant-running
@@ -15,8 +14,8 @@ invariant-running g l = record {
   held : IsHeld l.script l.session;
   worst : IsWorst l.answered.status;
   runs : Passes (g.C.Clock.readings l.fn.clock) (g.C.Clock.readings l.clock) (g.L.Link.told l.fn.link) (g.L.Link.told l.link) (g.K.Sink.written l.fn.out) (g.K.Sink.written l.out)
-      (λ given text h k. IsRead l.fn.first (left_in (g.S.Source.left l.fn.source) l.fn.batches)
-      (λ left. UpIn l.count l.fn.first l.fn.session l.fn.answered l.answered l.script left (left_in (g.S.Source.left l.source) l.batches) l.session given text h k));
+      (UpRead l.count l.fn.first l.fn.session l.fn.answered l.answered l.script (left_in (g.S.Source.left l.fn.source) l.fn.batches)
+      (left_in (g.S.Source.left l.source) l.batches) l.session);
   dials : KeepsPort l.fn.session.port l.session.port (g.L.Link.told l.fn.link) (g.L.Link.told l.link);
   stays : (first : g.row.L.Denot) → g.L.Link.stays first l.fn.link → g.L.Link.stays first l.link;
   honest : g.L.Link.honest l.fn.link → g.L.Link.honest l.link;
