@@ -18,7 +18,6 @@ use Rattle.name_ops.specs.declared.walk.WalkStep.TheVariants as walks
 use Rattle.name_ops.specs.Walking as walking
 use Rattle.op_machines.specs.declared.file_machine.FileMachine.TheVariants as files
 use Rattle.op_machines.specs.declared.machine.Machine.TheVariants as machines
-use Rattle.op_machines.specs.declared.opener.Opener.TheVariants as openers
 use Rattle.op_machines.specs.FileSteps as steps
 use Rattle.op_machines.specs.PathSteps as paths
 use Rattle.core_facts.proofs.Awaited.{WalkAwaits, WalkMoves, go-step, took-step, walk-rests, one-walk}

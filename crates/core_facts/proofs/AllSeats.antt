@@ -1,7 +1,7 @@
 -- Where any operation has a place in the order of a file, as its machine says; and that it never waits for nothing.
-use Rattle.core_facts.proofs.Prelude.{◌≡◌, ◌+◌, ◌-◌, ◌⊎◌, ℕ, Bool, true, false, List, Option, Some, None, Result, inl, inr, refl, sym, ap, subst, ◌∙◌, Fault, Reply, Op, left, LaneFile, Step, Shelf, Turn, WalkStep, Mounted, Machine, Opener, PathMachine, machine_of, file_of, slot_taken, begun_at, placed, Starts, Resumes, Takes, of_walk, of_names, in_flight, IsCounted}
+use Rattle.core_facts.proofs.Prelude.{◌≡◌, ◌+◌, ◌-◌, ◌⊎◌, ℕ, Bool, true, false, List, Option, Some, None, Result, inl, inr, refl, sym, ap, subst, ◌∙◌, Fault, Reply, Op, left, LaneFile, Step, Shelf, Turn, WalkStep, Mounted, Machine, Opener, PathMachine, machine_of, file_of, slot_taken, begun_at, placed, Starts, Resumes, Takes, in_flight, IsCounted}
 use Rattle.client_shelf.specs.LaneFiles.{added}
-use Rattle.core_facts.specs.InFlight.{of_file, path_by, FileCounted}
+use Rattle.core_facts.specs.InFlight.{FileCounted}
 use Rattle.world_model.specs.declared.answer.Answer.TheVariants as answers
 use Rattle.world_model.specs.declared.answer.Fault.TheVariants as faults
 use Rattle.world_model.specs.declared.op.Op.TheVariants as ops
@@ -13,9 +13,9 @@ use Rattle.op_machines.specs.declared.opener.Opener.TheVariants as openers
 use Rattle.op_machines.specs.PathSteps as paths
 use Rattle.core_facts.proofs.AllCounts.{of_path, path-file, path-walk, placed-none}
 use Rattle.core_facts.proofs.NameCounts.{walk-takes}
-use Rattle.core_facts.proofs.NameRests.{Rest, rest, walk-rest}
+use Rattle.core_facts.proofs.NameRests.{Rest, walk-rest}
 use Rattle.core_facts.proofs.NameRests as rests
-use Rattle.core_facts.proofs.NameLives.{clash, WhileGoing, WalkLive, WalkLives, goes-lives, walk-lives, idle-live, Walks, walk-on, GoesOn, on-as, NameLive, name-on}
+use Rattle.core_facts.proofs.NameLives.{clash, WhileGoing, WalkLive, WalkLives, goes-lives, walk-lives, Walks, walk-on, GoesOn, on-as, NameLive, name-on}
 use Rattle.core_facts.proofs.NameLives as names
 use Rattle.core_facts.proofs.FileSeats.{seat_file, FileLive, FileFresh, Seats, to-any, to-done, file-starts, file-resumes, file-takes}
 use Rattle.core_facts.proofs.FileOns.{HeldUp, OnOr, file-on}

@@ -1,7 +1,5 @@
 -- What every step of a save carries over, each step of any operation does, also of one on names or on its way to a directory.
 use Rattle.core_facts.proofs.Prelude.{◌≡◌, ◌-◌, ℕ, Bool, true, false, List, Result, refl, sym, ap, subst, ◌∙◌, Fault, Call, Reply, Pending, Step, Shelf, Turn, Saving, WalkStep, FileMachine, Machine, Opener, PathMachine, file_of, slot_taken, begun_at, placed, Starts, Resumes, Takes}
-use Rattle.world_model.specs.declared.answer.Answer.TheVariants as answers
-use Rattle.world_model.specs.declared.answer.Fault.TheVariants as faults
 use Rattle.client_shelf.specs.declared.step.Step.TheVariants as nexts
 use Rattle.file_ops.proofs.Walks.{LeftAs, Carries, CarriesReply}
 use Rattle.name_ops.specs.declared.walk.WalkStep.TheVariants as walks

@@ -1,9 +1,7 @@
 -- For which call an operation on names, and an open on its way, waits: for one at most.
-use Rattle.core_facts.proofs.Prelude.{◌≡◌, ◌<◌, ◌≤◌, ◌+◌, ◌-◌, ◌⊎◌, inl, inr, ◌||◌, ℕ, not, Bool, true, false, List, Option, Some, None, Result, Ok, Err, refl, sym, ap, subst, ◌∙◌, arith, if◌then◌else◌, Attr, ListStep, More, End, ListFault, Answer, Fault, Call, Reply, Step, Shelf, Turn, ListDir, Pair, PairStep, Stat, Visit, VisitStep, Walk, WalkStep, look_up, found_by, look_again, of_walk, visit_by, of_visit, pair_by, of_pair}
+use Rattle.core_facts.proofs.Prelude.{◌≡◌, ◌<◌, ◌≤◌, ◌+◌, ◌-◌, ◌⊎◌, inl, inr, ◌||◌, ℕ, not, Bool, true, false, List, Option, Some, None, Result, Ok, Err, refl, sym, ap, subst, ◌∙◌, arith, if◌then◌else◌, Fault, Call, Reply, Shelf, Turn, Pair, PairStep, Visit, VisitStep, Walk, WalkStep, look_up, found_by, look_again, of_walk, visit_by, of_visit, pair_by, of_pair}
 use Rattle.core_facts.specs.InFlight.{of_name}
 use Rattle.attr_cache.specs.Attrs as attrs
-use Rattle.world_model.specs.declared.answer.Answer.TheVariants as answers
-use Rattle.client_shelf.specs.declared.step.Step.TheVariants as nexts
 use Rattle.name_ops.specs.declared.pair.PairStep.TheVariants as two
 use Rattle.name_ops.specs.declared.visit.VisitStep.TheVariants as visits
 use Rattle.name_ops.specs.declared.walk.WalkStep.TheVariants as walks

@@ -1,11 +1,11 @@
 -- What a lane without an answer waits for, and that where no call waits each has its answer.
-use Rattle.core_facts.proofs.Prelude.{◌≡◌, ◌≢◌, ◌<◌, ◌≤◌, ◌+◌, ◌⊎◌, inl, inr, ℕ, zero, suc, List, [], ◌∷◌, length, Bool, true, false, nat_eq, Option, Some, None, slice_get, refl, sym, ap, subst, ◌∙◌, arith, eqb-true, eq-eqb, next_xid, Waiting, Entry, Pending, of_file, is_first, Wait, Shelf, IsUnused, Mounted, Machine, machine_of, Resumes, Purpose, Busy, Setup, IsBusyAt, View, turn_at, where_, calls_for, in_flight, Reaches, NoneBusy}
+use Rattle.core_facts.proofs.Prelude.{◌≡◌, ◌≢◌, ◌<◌, ◌≤◌, ◌+◌, ◌⊎◌, inl, inr, ℕ, zero, suc, List, [], ◌∷◌, length, Bool, true, false, nat_eq, Option, Some, None, slice_get, refl, sym, ap, subst, ◌∙◌, arith, eqb-true, eq-eqb, Waiting, Entry, of_file, is_first, Wait, IsUnused, Mounted, Machine, machine_of, Resumes, Purpose, Busy, Setup, IsBusyAt, View, turn_at, where_, calls_for, in_flight, Reaches, NoneBusy}
 use Rattle.std.proofs.Common.{nat_lt}
 use Rattle.client_core.specs.Steps.{Rests}
 use Rattle.client_core.specs.View.{has_room}
 use Rattle.write_back.specs.Pieces.{Sent, piece_under}
 use Rattle.file_ops.specs.Quiet.{are_none, is_quiet}
-use Rattle.core_facts.specs.Progress.{HasCall, HasPlace, IsBehind, WaitsForBytes, WaitsFor, own_call, crowded, behind, bytes}
+use Rattle.core_facts.specs.Progress.{WaitsFor, own_call, crowded, behind, bytes}
 use Rattle.core_facts.proofs.AllCounts.{begins-unbegun}
 use Rattle.core_facts.proofs.AllSeats.{seat_of, all-on}
 use Rattle.core_facts.proofs.FileOns.{HeldUp, OnOr}
@@ -13,7 +13,7 @@ use Rattle.core_facts.proofs.Flights.{Flies}
 use Rattle.core_facts.proofs.Flown.{Flown, sender, look_at, keeps-flown}
 use Rattle.core_facts.proofs.Keeping.{Known, purpose_at, lane-count, reached-kept, reached-all}
 use Rattle.core_facts.proofs.Looks.{look-at}
-use Rattle.core_facts.proofs.Orders.{HasTurn, has-turn}
+use Rattle.core_facts.proofs.Orders.{has-turn}
 use Rattle.core_facts.proofs.Placing.{seat_state, seat_in, seated, Placed, keeps-placed}
 use Rattle.core_facts.proofs.Resting.{comes-to-rest}
 use Rattle.core_facts.proofs.LaneMarks.{lanes-under-way}

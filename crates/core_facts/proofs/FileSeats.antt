@@ -24,7 +24,7 @@ use Rattle.file_ops.specs.WriteFile as writes
 use Rattle.op_machines.specs.declared.file_machine.FileMachine.TheVariants as files
 use Rattle.op_machines.specs.FileSteps as steps
 use Rattle.core_facts.specs.InFlight.{of_file as calls_of}
-use Rattle.core_facts.proofs.NameLives.{clash, WhileGoing, going-any}
+use Rattle.core_facts.proofs.NameLives.{going-any}
 use Rattle.core_facts.proofs.PutCounts.{of_put}
 use Rattle.core_facts.proofs.SaveCommits.{goes-steps, takes-steps}
 use Rattle.core_facts.proofs.SaveLives.{SaveLive, SaveGoing, begun-live, goes-live, takes-live}

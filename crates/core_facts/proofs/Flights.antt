@@ -1,5 +1,5 @@
 -- The file whose WRITEs an operation waits for, which stays the same while one of them waits.
-use Rattle.core_facts.proofs.Prelude.{◌≡◌, ◌≤◌, ◌+◌, ◌-◌, ℕ, Bool, true, false, List, Option, Some, None, Result, Ok, Err, inl, inr, refl, sym, ap, subst, ◌∙◌, arith, Fault, Reply, Pending, of_file, is_first, Step, Shelf, Turn, CloseFile, Closing, OpeningStep, PutFile, Putting, Phase, Sending, Committing, Resending, CommittingAgain, Saving, SyncFile, Syncing, WriteFile, Writing, IsUnused, by-step, ends_as, WalkStep, FileMachine, Machine, Opener, PathMachine, file_of, placed, Resumes, Takes, of_walk, of_saving, of_opening, of_writing, of_syncing, of_closing, of_putting, in_flight}
+use Rattle.core_facts.proofs.Prelude.{◌≡◌, ◌≤◌, ◌+◌, ◌-◌, ℕ, Bool, true, false, List, Option, Some, None, Result, Ok, Err, inl, inr, refl, sym, ap, subst, ◌∙◌, arith, Fault, Reply, Pending, is_first, Step, Shelf, Turn, CloseFile, Closing, PutFile, Putting, Phase, Sending, Committing, Resending, CommittingAgain, Saving, SyncFile, Syncing, WriteFile, Writing, IsUnused, by-step, ends_as, WalkStep, FileMachine, Machine, Opener, PathMachine, file_of, Resumes, Takes, of_walk, of_saving, of_opening, of_writing, of_syncing, of_closing, of_putting, in_flight}
 use Rattle.file_ops.proofs.SaveCounts.{SaveCounts, save-goes, save-takes}
 use Rattle.world_model.specs.declared.answer.Answer.TheVariants as answers
 use Rattle.client_shelf.specs.declared.step.Step.TheVariants as nexts
@@ -19,7 +19,6 @@ use Rattle.name_ops.specs.declared.walk.WalkStep.TheVariants as walks
 use Rattle.name_ops.specs.Walking as walking
 use Rattle.op_machines.specs.declared.file_machine.FileMachine.TheVariants as files
 use Rattle.op_machines.specs.declared.machine.Machine.TheVariants as machines
-use Rattle.op_machines.specs.declared.opener.Opener.TheVariants as openers
 use Rattle.op_machines.specs.FileSteps as steps
 use Rattle.op_machines.specs.PathSteps as paths
 use Rattle.op_machines.proofs.Walk.{Has}

@@ -1,9 +1,9 @@
 -- Along a history the bytes in flight under an xid are of the operation whose call waits under it.
-use Rattle.core_facts.proofs.Prelude.{◌≡◌, ◌≢◌, ◌≤◌, ◌<◌, ◌+◌, ◌-◌, ◌⊎◌, inl, inr, ℕ, zero, suc, List, [], ◌∷◌, ◌++◌, length, remove, Bool, true, false, nat_eq, Option, Some, None, option_map, position, slice_get, slice_set, Result, Err, refl, sym, ap, subst, ◌∙◌, arith, eqb-true, eqb-false, eq-eqb, ne_eqb, Waiting, Held, next_xid, waiting_at, without, at_made, others_made, others_taken, gone, Answer, Fault, Entry, Began, Reply, Op, Pending, of_file, said_of, Step, Send, Wait, Done, Shelf, Turn, Saving, IsUnused, Mounted, Machine, Opener, machine_of, file_of, Starts, Resumes, Takes, Lane, Purpose, State, Busy, Over, Setup, is_busy, with_state, IsRefused, Leads, Stirs, counted, StartsLane, TakesAt, View, turn_at, unmade_turn, in_flight, Counts, where_, calls_for}
+use Rattle.core_facts.proofs.Prelude.{◌≡◌, ◌≢◌, ◌≤◌, ◌<◌, ◌+◌, ◌-◌, ◌⊎◌, inl, inr, ℕ, zero, suc, List, [], ◌∷◌, ◌++◌, length, remove, Bool, true, false, nat_eq, Option, Some, None, option_map, position, slice_get, slice_set, Result, Err, refl, sym, ap, subst, ◌∙◌, arith, eqb-true, eqb-false, eq-eqb, ne_eqb, Waiting, Held, next_xid, waiting_at, without, at_made, others_made, others_taken, gone, Fault, Entry, Began, Reply, Op, Pending, said_of, Step, Send, Wait, Done, Shelf, Turn, Saving, IsUnused, Mounted, Machine, Opener, machine_of, file_of, Starts, Resumes, Takes, Lane, Purpose, State, Busy, Over, Setup, is_busy, with_state, IsRefused, Leads, Stirs, counted, StartsLane, TakesAt, View, turn_at, unmade_turn, in_flight, Counts, where_, calls_for}
 use Rattle.rpc_retry.proofs.Lookups.{waits_early}
 use Rattle.rpc_message.specs.declared.cred.Cred.{Cred}
 use Rattle.rpc_retry.specs.Sound.{AreSound}
-use Rattle.file_ops.proofs.Unmade.{InFile, Mine, AnyCall, UnusedSave, carries-mine, replies-mine}
+use Rattle.file_ops.proofs.Unmade.{Mine, AnyCall, UnusedSave, carries-mine, replies-mine}
 use Rattle.file_ops.proofs.Walks.{LeftAs}
 use Rattle.op_machines.specs.declared.machine.Machine.TheVariants as machines
 use Rattle.op_machines.proofs.Walk.{has-any, has-all}
@@ -14,14 +14,14 @@ use Rattle.core_facts.proofs.AllWalks.{PathHas, HasAll, all-starts, all-resumes,
 use Rattle.core_facts.proofs.Cases.{taken_one}
 use Rattle.core_facts.proofs.Counting.{one_for, calls-some, calls-without, none-idle}
 use Rattle.core_facts.proofs.Flights.{flies_of, Flies, has-flies, flies-has, Stays, resumes-stay, takes-stay}
-use Rattle.core_facts.proofs.Keeping.{Known, purpose_at, Keeps, lane-count, taker-is, taker-count, taker-one}
+use Rattle.core_facts.proofs.Keeping.{Known, purpose_at, Keeps, lane-count, taker-is, taker-one}
 use Rattle.core_facts.proofs.LaneMarks.{lanes-stay, lanes-begin, lanes-under-way}
 use Rattle.core_facts.proofs.Lists.{at-set, at-push}
-use Rattle.core_facts.proofs.Looks.{look_in, look-idle, look-at, look-set, look-push, look-remove}
-use Rattle.core_facts.proofs.NameLives.{WhileGoing, going-any}
+use Rattle.core_facts.proofs.Looks.{look_in, look-at, look-set, look-push, look-remove}
+use Rattle.core_facts.proofs.NameLives.{WhileGoing}
 use Rattle.core_facts.proofs.Orders.{seat_with, seat-own, seat-other}
-use Rattle.core_facts.proofs.PieceWalks.{IsNone, IsAlone, OfPieces, of-none, of-alone, AtFile, IsForeign, carries-file, replies-file, carries-free, replies-free}
-use Rattle.core_facts.proofs.Rows.{Rows, taken-rows}
+use Rattle.core_facts.proofs.PieceWalks.{IsNone, IsAlone, of-none, of-alone, AtFile, IsForeign, carries-file, replies-file, carries-free, replies-free}
+use Rattle.core_facts.proofs.Rows.{taken-rows}
 
 -- ---- whose they are
 

@@ -1,5 +1,5 @@
 -- What the steps of lanes keep of the core's view, as long as the session isn't lost.
-use Rattle.core_facts.proofs.Prelude.{◌≡◌, ◌≢◌, ◌+◌, ◌-◌, inl, inr, ℕ, List, [], ◌∷◌, ◌++◌, Bool, true, false, cond, nat_eq, Option, Some, None, MatchOption, option_map, position, slice_get, Result, refl, sym, ap, subst, ◌∙◌, arith, eqb-true, xid_at, Waiting, failed_after, waiting_at, Answer, Entry, Began, Answered, Dialed, Sent, Executed, Foreign, Flushed, Reboot, Delivered, Failed, Clock, Op, said_of, Shelf, Machine, Lane, Purpose, State, Busy, Setup, IsFresh, is_busy, numbers_of, Stirs, Moves, moves_none, moves_more, counted, StartsLane, BeginsIf, TakesAt, AnswersAt, View, in_flight, IsUnbegun, calls_for, StepsTo, HearsRecord, Reaches, begins, goes, loses, last_reading}
+use Rattle.core_facts.proofs.Prelude.{◌≡◌, ◌≢◌, ◌+◌, ◌-◌, inl, inr, ℕ, List, [], ◌∷◌, ◌++◌, Bool, true, false, cond, nat_eq, Option, Some, None, MatchOption, option_map, position, slice_get, Result, refl, sym, ap, subst, ◌∙◌, arith, eqb-true, xid_at, Waiting, failed_after, waiting_at, Answer, Entry, Began, Answered, Dialed, Sent, Executed, Foreign, Flushed, Reboot, Delivered, Failed, Clock, Op, said_of, Shelf, Machine, Purpose, State, Busy, Setup, IsFresh, is_busy, numbers_of, Stirs, Moves, moves_none, moves_more, counted, StartsLane, BeginsIf, TakesAt, AnswersAt, View, in_flight, IsUnbegun, calls_for, StepsTo, Reaches, begins, goes, loses, last_reading}
 use Rattle.rpc_retry.specs.Waiting.{sent, sent_call, failed, failed_call}
 use Rattle.client_core.specs.Numbers.{IsIdle}
 use Rattle.core_facts.proofs.Cases.{Heard, dropped, replied, heard, sent_now, FailedNow, goes_on, gives_up, failed_now, answered_now, taken_one}

@@ -14,7 +14,7 @@ use Rattle.world_model.specs.declared.message.Reply.TheVariants as replies
 use Rattle.world_model.specs.Leads.{Leads, root, step}
 use Rattle.name_ops.specs.declared.walk.Spot.{Spot}
 use Rattle.name_ops.specs.Walking as walking
-use Rattle.core_facts.proofs.NamesKept.{Told, Tells, CallTells, passed-told, looked-told}
+use Rattle.core_facts.proofs.NamesKept.{Told, CallTells, passed-told, looked-told}
 use Rattle.core_facts.proofs.Awaited.{WalkAwaits}
 
 -- ---- lists

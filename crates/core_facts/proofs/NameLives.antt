@@ -1,5 +1,5 @@
 -- An operation on names never waits for nothing: where none of its calls waits it goes on as soon as there is room.
-use Rattle.core_facts.proofs.Prelude.{◌≡◌, ◌+◌, ◌-◌, ◌||◌, ℕ, Bool, true, false, List, Option, Some, None, Result, Ok, Err, inl, inr, refl, sym, ap, subst, ◌∙◌, arith, if◌then◌else◌, Attr, Opens, plan_of, ListStep, More, End, ListFault, Answer, Fault, Value, Call, Reply, goes_again, Step, Shelf, Turn, Link, ListDir, Pair, PairStep, Deed, Look, Seek, Move, RemoveFile, Rename, Stat, SymLink, Told, Visit, VisitStep, Walk, WalkStep, access_call, access_attr, access_told, deed_call, deed_told, link_call, TakesLink, found_by, look_again, moved_told, text_call, TakesText, rename_call, TakesRename, TakesShow, sym_link_call, CopiesBy, TakesSymLink, NameMachine, one_if, of_walk, visit_by, of_visit, of_stat, pair_by, of_pair, of_names}
+use Rattle.core_facts.proofs.Prelude.{◌≡◌, ◌+◌, ◌-◌, ◌||◌, ℕ, Bool, true, false, List, Option, Some, None, Result, Ok, Err, inl, inr, refl, sym, ap, subst, ◌∙◌, arith, if◌then◌else◌, Attr, Opens, plan_of, ListStep, More, End, ListFault, Answer, Fault, Value, Call, Reply, goes_again, Step, Shelf, Turn, Link, ListDir, Pair, PairStep, Deed, Look, Seek, Move, RemoveFile, Rename, Stat, SymLink, Told, Visit, VisitStep, Walk, WalkStep, access_call, access_attr, access_told, deed_call, deed_told, link_call, TakesLink, found_by, look_again, text_call, TakesText, rename_call, TakesRename, TakesShow, sym_link_call, CopiesBy, TakesSymLink, NameMachine, one_if, of_walk, visit_by, of_visit, of_stat, pair_by, of_pair, of_names}
 use Rattle.client_shelf.specs.Busy.{fails_busy}
 use Rattle.name_ops.specs.declared.remove_file.Deed.TheVariants.{Remove}
 use Rattle.core_facts.specs.InFlight.{own_or, removal_by, of_removal}

@@ -1,7 +1,6 @@
 -- For which call each operation on names waits, and that its steps keep to it.
-use Rattle.core_facts.proofs.Prelude.{◌≡◌, ◌<◌, ◌≤◌, ◌+◌, ◌-◌, ◌⊎◌, inl, inr, ℕ, Bool, true, false, List, Option, Some, None, Result, Ok, Err, refl, sym, ap, subst, ◌∙◌, arith, if◌then◌else◌, Attr, ListStep, More, End, ListFault, Opens, plan_of, Answer, Fault, Value, Call, Reply, Step, Shelf, Turn, Link, ListDir, Pair, PairStep, Deed, Look, Seek, Move, RemoveFile, Rename, Stat, SymLink, Told, Visit, VisitStep, Walk, WalkStep, access_call, deed_call, link_call, linked_told, TakesLink, look_up, found_by, look_again, moved_told, text_call, TakesText, rename_call, TakesRename, shown_answer, TakesShow, sym_link_call, sym_linked_told, CopiesBy, ChangesByCopy, TakesSymLink, lacking, NameMachine, one_if, of_walk, of_visit, of_pair, of_stat, of_names}
+use Rattle.core_facts.proofs.Prelude.{◌≡◌, ◌<◌, ◌≤◌, ◌+◌, ◌-◌, ◌⊎◌, inl, inr, ℕ, Bool, true, false, List, Option, Some, None, Result, Ok, Err, refl, sym, ap, subst, ◌∙◌, arith, if◌then◌else◌, Attr, ListStep, More, End, ListFault, Opens, plan_of, Answer, Fault, Value, Call, Reply, Step, Shelf, Turn, Link, ListDir, Pair, PairStep, Deed, Look, Seek, Move, RemoveFile, Rename, Stat, SymLink, Told, Visit, VisitStep, Walk, WalkStep, access_call, deed_call, link_call, linked_told, TakesLink, found_by, look_again, moved_told, text_call, TakesText, rename_call, TakesRename, shown_answer, TakesShow, sym_link_call, sym_linked_told, CopiesBy, ChangesByCopy, TakesSymLink, lacking, NameMachine, one_if, of_walk, of_visit, of_pair, of_stat, of_names}
 use Rattle.name_ops.specs.declared.remove_file.Deed.TheVariants.{Remove}
-use Rattle.name_ops.specs.Showing.{Shows}
 use Rattle.core_facts.specs.InFlight.{own_or, of_removal, removal_by}
 use Rattle.attr_cache.specs.Attrs as attrs
 use Rattle.dir_list.specs.Listings.{page_step}
@@ -21,8 +20,8 @@ use Rattle.name_ops.specs.Visiting as visiting
 use Rattle.name_ops.specs.Walking as walking
 use Rattle.op_machines.specs.declared.name_machine.NameMachine.TheVariants as machines
 use Rattle.op_machines.specs.NameSteps as steps
-use Rattle.core_facts.proofs.Awaited.{WalkAwaits, WalkMoves, go-step, took-step, walk-rests, one-walk, OwnOr, own-true, VisitAwaits, VisitMoves, visit-step, visit-took-step, visit-rests, one-visit, PairOr, PairAwaits, pair-own, PairMoves, pair-step, pair-took-step, one-pair, pair-rests}
-use Rattle.core_facts.proofs.Steps.{AskedOf, KeptOf}
+use Rattle.core_facts.proofs.Awaited.{WalkAwaits, WalkMoves, go-step, took-step, walk-rests, one-walk, OwnOr, own-true, VisitAwaits, VisitMoves, visit-step, visit-took-step, visit-rests, one-visit, PairAwaits, pair-own, PairMoves, pair-step, pair-took-step, one-pair, pair-rests}
+use Rattle.core_facts.proofs.Steps.{KeptOf}
 
 -- a removal waits for the call of its deed, or for that of its walk
 abbrev pub RemoveAwaits : Option Deed → RemoveFile → Call → Type 0

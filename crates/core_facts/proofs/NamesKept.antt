@@ -8,7 +8,6 @@ use Rattle.name_cache.specs.declared.entry.KeptName.{KeptName}
 use Rattle.name_cache.specs.declared.entry.Place.{Place}
 use Rattle.name_cache.specs.Names as names
 use Rattle.name_cache.proofs.Entries.{All-after_look, All-learnt, All-without_dir}
-use Rattle.nfs_types.specs.declared.wcc.Stamp.{Stamp}
 use Rattle.nfs_types.specs.Stamps.{stamp_of}
 use Rattle.nfs_dir_calls.specs.declared.keeping.DirKept.TheVariants as kept
 use Rattle.world_model.specs.declared.message.Reply.TheVariants as replies
@@ -25,7 +24,7 @@ use Rattle.name_ops.specs.Visiting as visiting
 use Rattle.name_ops.specs.Walking as walking
 use Rattle.op_machines.specs.declared.name_machine.NameMachine.TheVariants as machines
 use Rattle.op_machines.specs.NameSteps as steps
-use Rattle.core_facts.proofs.Awaited.{WalkAwaits, OwnOr, VisitAwaits, PairOr, PairAwaits}
+use Rattle.core_facts.proofs.Awaited.{WalkAwaits, OwnOr, PairOr}
 use Rattle.core_facts.proofs.NamesAwaited.{RemoveAwaits, NameAwaits}
 
 module _ (P : Place × KeptName → Type 0) where

@@ -1,9 +1,7 @@
 -- An operation that walks along its paths and makes one call, step by step: what it has come to, and what its answer shows.
-use Rattle.core_facts.proofs.Prelude.{◌≡◌, ◌<◌, ◌≤◌, ◌+◌, ◌-◌, ◌||◌, ◌⊎◌, inl, inr, ℕ, zero, suc, Bool, true, false, List, [], ◌∷◌, ◌++◌, length, take, slice_get, Option, Some, None, Result, Ok, Err, refl, sym, ap, subst, ◌∙◌, arith, if◌then◌else◌, Attr, DirKept, FileKept, Answer, Fault, Value, Entry, Call, Reply, Op, EndsWith, Step, Shelf, Turn, Pair, PairStep, Told, Visit, VisitStep, Walk, WalkStep, access_told, deed_told, linked_told, moved_told, shown_answer, sym_linked_told, CopiesBy}
+use Rattle.core_facts.proofs.Prelude.{◌≡◌, ◌<◌, ◌≤◌, ◌+◌, ◌-◌, ◌||◌, ◌⊎◌, inl, inr, ℕ, zero, suc, Bool, true, false, List, [], ◌∷◌, ◌++◌, length, take, slice_get, Option, Some, None, Result, Ok, Err, refl, sym, ap, subst, ◌∙◌, arith, if◌then◌else◌, DirKept, FileKept, Answer, Fault, Value, Entry, Call, Reply, Step, Shelf, Turn, Pair, PairStep, Visit, VisitStep, Walk, WalkStep, access_told, deed_told, linked_told, moved_told, shown_answer, sym_linked_told, CopiesBy}
 use Rattle.std.proofs.Common.{unwrap_or}
-use Rattle.nfs_dir_calls.specs.declared.call.DirCall.TheVariants as dirs
 use Rattle.nfs_dir_calls.specs.declared.keeping.DirKept.TheVariants as dir_kept
-use Rattle.nfs_file_calls.specs.declared.call.FileCall.TheVariants as files
 use Rattle.nfs_file_calls.specs.declared.owned.FileKept.TheVariants as file_kept
 use Rattle.world_model.specs.declared.answer.Answer.TheVariants as answers
 use Rattle.world_model.specs.declared.answer.Fault.TheVariants as faults
@@ -22,7 +20,7 @@ use Rattle.name_ops.specs.Pairs as pairs
 use Rattle.name_ops.specs.ReadLink.{TellsText}
 use Rattle.name_ops.specs.Visiting as visiting
 use Rattle.name_ops.specs.Walking as walking
-use Rattle.core_facts.proofs.Awaited.{WalkAwaits, WalkMoves, go-step, took-step, OwnOr, PairOr}
+use Rattle.core_facts.proofs.Awaited.{WalkAwaits, WalkMoves, go-step, took-step, PairOr}
 use Rattle.core_facts.proofs.Leading.{IsNameTold, NamesTold, LeadsTo, WalkLeads, go-leads, took-leads, end-leads, walk-later, IsHeard, heard-tells}
 use Rattle.core_facts.proofs.NamesKept.{go-told, walk-told}
 use Rattle.core_facts.proofs.Steps.{ThenOf}

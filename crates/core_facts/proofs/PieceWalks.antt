@@ -1,8 +1,7 @@
 -- What no step of an operation adds to what is in flight of a file, but under the xid of its turn.
-use Rattle.core_facts.proofs.Prelude.{◌≡◌, ◌≢◌, ◌&&◌, ◌⊎◌, inl, inr, ℕ, Bool, true, false, nat_eq, List, [], ◌∷◌, ◌++◌, Option, Some, None, Result, Ok, Err, refl, sym, ap, subst, ◌∙◌, if◌then◌else◌, nat_lt, eq-eqb, ne_eqb, eqb-true, eqb-false, Verdict, AllStable, SendAgain, Verf, Fault, Call, Reply, chosen, Pending, of_file, Segments, Repeat, Turn, goes_again, Phase, Sending, Committing, Resending, CommittingAgain, Saving, commit_told, IsUnused, by-step}
+use Rattle.core_facts.proofs.Prelude.{◌≡◌, ◌≢◌, ◌&&◌, ◌⊎◌, inl, inr, ℕ, Bool, true, false, nat_eq, List, [], ◌∷◌, ◌++◌, Option, Some, None, Result, Ok, Err, refl, sym, ap, subst, ◌∙◌, if◌then◌else◌, nat_lt, eq-eqb, ne_eqb, eqb-true, eqb-false, Verdict, AllStable, SendAgain, Verf, Fault, Reply, chosen, Pending, of_file, Segments, Repeat, Turn, goes_again, Phase, Sending, Committing, Resending, CommittingAgain, Saving, commit_told, IsUnused, by-step}
 use Rattle.write_back.specs.Files.{OnFile, IsFree}
 use Rattle.commit_verf.specs.Decisions.{verdict_of}
-use Rattle.world_model.specs.declared.answer.Fault.TheVariants as faults
 use Rattle.write_back.specs.Changes.{lost}
 use Rattle.write_back.specs.Pieces.{Sent, FilePending, piece_under, without, renumbered}
 use Rattle.write_back.proofs.WritesByFile.{same-or}

@@ -1,12 +1,11 @@
 -- Along a history each operation is at work, and has its place in the order of its file.
-use Rattle.core_facts.proofs.Prelude.{◌≡◌, ◌≢◌, ◌≤◌, ◌<◌, ◌+◌, ◌-◌, ◌⊎◌, inl, inr, ℕ, zero, suc, List, [], ◌∷◌, ◌++◌, length, remove, Bool, true, false, nat_eq, Option, Some, None, position, slice_get, slice_set, Err, refl, sym, ap, subst, ◌∙◌, arith, if◌then◌else◌, eqb-true, eqb-false, eq-eqb, ne_eqb, Waiting, waiting_at, Answer, Entry, Began, Op, said_of, LaneFile, Step, Send, Wait, Done, Shelf, Mounted, Machine, machine_of, Lane, Purpose, State, Busy, Over, Setup, IsFresh, is_busy, IsOther, numbers_of, with_state, IsRefused, Leads, Stirs, counted, StartsLane, TakesAt, AnswersAt, View, turn_at, unmade_turn, in_flight, Counts}
+use Rattle.core_facts.proofs.Prelude.{◌≡◌, ◌≢◌, ◌≤◌, ◌<◌, ◌+◌, ◌-◌, ◌⊎◌, inl, inr, ℕ, zero, suc, List, [], ◌∷◌, ◌++◌, length, remove, Bool, true, false, nat_eq, Option, Some, None, position, slice_get, slice_set, Err, refl, sym, ap, subst, ◌∙◌, arith, if◌then◌else◌, eqb-true, eqb-false, eq-eqb, ne_eqb, Waiting, waiting_at, Entry, Began, Op, said_of, LaneFile, Step, Send, Wait, Done, Shelf, Mounted, Machine, machine_of, Lane, Purpose, State, Busy, Over, Setup, is_busy, with_state, IsRefused, Leads, Stirs, counted, StartsLane, TakesAt, View, turn_at, unmade_turn, in_flight, Counts}
 use Rattle.client_core.specs.Numbers.{IsIdle}
 use Rattle.core_facts.specs.Lanes.{AreApart}
 use Rattle.core_facts.proofs.AllCounts.{counts-calls, begins-unbegun}
 use Rattle.core_facts.proofs.AllSeats.{seat_of, IsLive, begins-fresh, OfMachine, all-starts, all-resumes, all-takes}
 use Rattle.core_facts.proofs.Cases.{taken_one}
-use Rattle.core_facts.proofs.FileSeats.{Seats}
-use Rattle.core_facts.proofs.Keeping.{Known, purpose_at, Keeps, taker-one}
+use Rattle.core_facts.proofs.Keeping.{Known, Keeps, taker-one}
 use Rattle.core_facts.proofs.LaneMarks.{lanes-stay, lanes-begin, lanes-under-way}
 use Rattle.core_facts.proofs.Lists.{at-set, at-push, skip, get-remove, get-push}
 use Rattle.core_facts.proofs.Looks.{look_in, head-same, head-other, look-idle, look-at, look-set, look-push, look-remove, set-other, by-place}

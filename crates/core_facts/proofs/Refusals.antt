@@ -1,5 +1,5 @@
 -- An operation is answered with a status of a server or a refusal by RPC only where a record refused a call of it so.
-use Rattle.core_facts.proofs.Prelude.{◌≡◌, ◌≢◌, ◌<◌, ◌+◌, ℕ, List, [], ◌∷◌, ◌++◌, length, Option, Some, None, Result, Ok, Err, refl, sym, ap, subst, arith, DirKept, FileKept, Answer, Fault, Entry, Began, Call, Reply, Op, Asked, length_last, Step, Shelf, Turn, Mounted, Machine, machine_of, Takes, State, Busy, Over, Setup}
+use Rattle.core_facts.proofs.Prelude.{◌≡◌, ◌≢◌, ◌<◌, ◌+◌, ℕ, List, [], ◌∷◌, ◌++◌, length, Option, Some, None, Result, Ok, Err, refl, sym, ap, subst, arith, DirKept, FileKept, Answer, Fault, Entry, Began, Call, Reply, Op, Asked, length_last, Step, Shelf, Mounted, Machine, machine_of, State, Busy, Over, Setup}
 use Rattle.world_model.specs.Heard.{Refused, status_of}
 use Rattle.nfs_dir_calls.specs.declared.keeping.DirKept.TheVariants as found
 use Rattle.nfs_dir_calls.specs.Replies.{SpellsReply as SpellsDir}
@@ -18,8 +18,8 @@ use Rattle.core_facts.proofs.AllFaults as steps
 use Rattle.core_facts.proofs.Faults.{OwnFaults, OfReply, Came, FineAnswer}
 use Rattle.core_facts.proofs.Expects.{ExpectLaws}
 use Rattle.core_facts.proofs.Steps.{AskedOf, KeptOf, ThenOf}
-use Rattle.core_facts.proofs.Tales.{IsTold, IsLastReply, IsWhy, TaleLaws, reached-answered}
-use Rattle.core_facts.proofs.Telling.{IsQuiet, AsksFor, Did}
+use Rattle.core_facts.proofs.Tales.{IsTold, IsWhy, TaleLaws, reached-answered}
+use Rattle.core_facts.proofs.Telling.{AsksFor, Did}
 
 -- ---- what a reply that fails shows
 

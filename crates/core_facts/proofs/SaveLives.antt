@@ -1,5 +1,5 @@
 -- A save never waits for nothing: where none of its calls waits it goes on as soon as its turn has come and there is room.
-use Rattle.core_facts.proofs.Prelude.{◌≡◌, ◌+◌, ◌&&◌, ◌==◌, ℕ, Bool, true, false, List, [], ◌∷◌, Option, Some, None, Result, Ok, Err, inl, inr, refl, sym, ap, subst, ◌∙◌, arith, if◌then◌else◌, nat_lt, Verdict, AllStable, SendAgain, Verf, Fault, Call, Reply, Step, Repeat, Turn, goes_again, chosen, Pending, of_file, Segments, Phase, Sending, Committing, Resending, CommittingAgain, Saving, commit_told, by-step, of_saving}
+use Rattle.core_facts.proofs.Prelude.{◌≡◌, ◌+◌, ◌&&◌, ◌==◌, ℕ, Bool, true, false, List, [], ◌∷◌, Option, Some, None, Result, Ok, Err, inl, inr, refl, sym, ap, subst, ◌∙◌, arith, if◌then◌else◌, nat_lt, Verdict, AllStable, SendAgain, Verf, Fault, Reply, Step, Repeat, Turn, goes_again, chosen, Pending, of_file, Segments, Phase, Sending, Committing, Resending, CommittingAgain, Saving, commit_told, by-step, of_saving}
 use Rattle.world_model.specs.declared.answer.Fault.TheVariants.{Memory}
 use Rattle.file_ops.specs.Saves as saves
 use Rattle.file_ops.specs.Syncs as syncs

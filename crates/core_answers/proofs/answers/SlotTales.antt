@@ -1,7 +1,7 @@
 -- Stories of operations that know for which calls these wait, what their lane's slots hold as they begin, and what the shelf holds as a reply comes. It
 -- is an instance of the engine in `core_facts` (`proofs/Telling`).
 use Rattle.core_answers.proofs.Prelude.{HadStory, IsFresh, View, Purpose, State, Busy, Over, Setup, Step, Shelf, Turn, ExpectLaws, forget, Anything, passes-any, IsTold, IsQuiet, Did, in_flight, IsUnbegun, Reaches, IsMade, Starts, Resumes, Takes, Machine, waiting_at, Waiting, ◌≡◌, ◌+◌, ℕ, List, [], ◌∷◌, ◌++◌, length, false, Some, Result, Ok, Err, sym, ◌∙◌, IsLost, Ended, Answer, Refused, Fault, Entry, Began, Delivered, Call, Reply, Op}
-use Rattle.core_facts.proofs.Tales.{told-heard, told-unmade, not-both}
+use Rattle.core_facts.proofs.Tales.{told-heard, told-unmade}
 use Rattle.core_facts.proofs.Telling.{Sight, CameOf, heard_of, unmade, TellLaws}
 use Rattle.core_facts.specs.Reaches.{IsSetUp, MayHear}
 use Rattle.core_facts.proofs.Stories.{IsGiven}

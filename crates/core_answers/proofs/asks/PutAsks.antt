@@ -1,5 +1,5 @@
 -- A put asks for each call that is sent for it.
-use Rattle.core_answers.proofs.Prelude.{◌≡◌, ◌≤◌, ◌⊎◌, inl, inr, ℕ, Bool, true, false, List, [], ◌∷◌, ◌++◌, length, Result, refl, sym, ap, subst, ◌∙◌, arith, All-nil, Fault, Entry, Began, Call, Reply, Op, Asks, Stabilizes, look_up, At, Rooted, UnderWay, PlaceOf, Terms, Asked-wide, Rooted-wide, At-grow, Pending, Walk, walk_of, Step, Shelf, Opening, OpeningPhase, PutFile, Putting, Writing, Mounted, Machine, PathMachine, IsNamed, front_of, last_of, machine_of, Starts, Resumes, Takes, State, Busy, Over, Setup, KnowsRoot, of_walk, of_writing, of_putting, in_flight, PathOr, PutAwaits, begins-unbegun, all-starts, all-resumes, all-takes, IsNameTold, NamesTold, names-later, LeadsTo, IsHeard, heard-tells, front-last, Did, IsTold, TaleLaws, reached-good}
+use Rattle.core_answers.proofs.Prelude.{◌≡◌, ◌≤◌, ◌⊎◌, inl, inr, ℕ, Bool, true, false, List, [], ◌∷◌, ◌++◌, length, Result, refl, sym, ap, subst, ◌∙◌, arith, All-nil, Fault, Entry, Began, Call, Reply, Op, Asks, look_up, At, Rooted, UnderWay, PlaceOf, Terms, Asked-wide, Rooted-wide, At-grow, Pending, Walk, walk_of, Step, Shelf, Opening, OpeningPhase, PutFile, Putting, Writing, Mounted, Machine, PathMachine, IsNamed, front_of, last_of, machine_of, Starts, Resumes, Takes, State, Busy, Over, Setup, KnowsRoot, of_walk, of_writing, of_putting, in_flight, PathOr, PutAwaits, begins-unbegun, all-starts, all-resumes, all-takes, IsNameTold, NamesTold, names-later, LeadsTo, IsHeard, heard-tells, front-last, Did, IsTold, TaleLaws, reached-good}
 use Rattle.core_facts.specs.InFlight.{path_by}
 use Rattle.world_model.specs.declared.op.Op.TheVariants as ops
 use Rattle.claims.specs.Asks as asks

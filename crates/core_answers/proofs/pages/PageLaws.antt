@@ -1,5 +1,5 @@
 -- What is known of the kept pages stays known after each call of the cache, by what came of a call.
-use Rattle.core_answers.proofs.Prelude.{◌≡◌, ◌≤◌, ◌-◌, ◌&&◌, ◌||◌, ◌⊎◌, inl, inr, ℕ, Bool, true, false, nat_le, List, [], length, take, drop, Some, None, Result, Ok, refl, ap, subst, arith, if◌then◌else◌, nat_tests, Attr, Verf, Stamp, Wcc, stamp_of, start_of, Pages, Fault, Entry, Call, Reply, IsAnswered, WasRead, WasWritten, WasCut, IsPage}
+use Rattle.core_answers.proofs.Prelude.{◌≡◌, ◌≤◌, ◌-◌, ◌&&◌, ◌||◌, ◌⊎◌, inl, inr, ℕ, Bool, true, false, nat_le, List, [], length, take, drop, Some, None, Result, Ok, refl, ap, subst, arith, if◌then◌else◌, nat_tests, Attr, Verf, Stamp, Wcc, stamp_of, start_of, Pages, Fault, Entry, Call, Reply, IsAnswered, IsPage}
 use Rattle.std.proofs.Common.{nat_lt}
 use Rattle.page_cache.specs.Pages.{keep_answer, after_keep, wrote, cut}
 use Rattle.std.proofs.lemmas.List.{length-take}

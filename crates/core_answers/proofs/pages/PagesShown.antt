@@ -1,5 +1,5 @@
 -- Each page that is kept was read, and follows what the client wrote and cut since.
-use Rattle.core_answers.proofs.Prelude.{◌≡◌, ℕ, List, [], ◌∷◌, ◌++◌, length, Option, Some, None, Result, Ok, refl, sym, subst, arith, Stamp, Pages, known_of, page_of, Fault, Entry, Began, Call, Reply, Heard-wide, Step, Send, Wait, Done, Shelf, Turn, machine_of, Mounted, Machine, Takes, Setup, View, Reaches, ThenOf, IsAnswered, WasRead, WasWritten, WasCut, IsPage}
+use Rattle.core_answers.proofs.Prelude.{◌≡◌, ℕ, List, [], ◌∷◌, ◌++◌, length, Option, Some, None, Result, Ok, refl, sym, subst, arith, Stamp, Pages, known_of, page_of, Fault, Entry, Began, Call, Reply, Heard-wide, Step, Send, Wait, Done, Shelf, Turn, machine_of, Mounted, Machine, Takes, Setup, View, Reaches, ThenOf, IsAnswered, IsPage}
 use Rattle.std.proofs.Common.{IsSome}
 use Rattle.std.proofs.lemmas.List.Elements.{All-weaker}
 use Rattle.page_cache.specs.Sound.{IsSound}

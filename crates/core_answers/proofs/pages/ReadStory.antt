@@ -4,7 +4,6 @@ use Rattle.std.proofs.Common.{◌*◌, nat_lt}
 use Rattle.std.proofs.lemmas.List.{length-take}
 use Rattle.file_ops.specs.Base.{is_whole, with_more}
 use Rattle.file_ops.specs.ReadReply.{said_by}
-use Rattle.core_answers.specs.pages.Kept.{IsKept}
 use Rattle.core_answers.specs.pages.Read.{IsFound, in_page, in_reply, WasPending, own, served, empty, ReadShown}
 use Rattle.std.specs.Int.{div_ceil}
 use Rattle.std.proofs.lemmas.Nat.{div-add-mod'}

@@ -1,6 +1,5 @@
 -- An operation asks for each call that was sent for it.
 use Rattle.core_answers.proofs.Prelude.{◌≡◌, ◌≤◌, ◌⊎◌, inl, inr, ℕ, Bool, true, false, List, [], ◌∷◌, ◌++◌, length, Option, Some, None, refl, sym, ap, subst, ◌∙◌, arith, Mode, Entry, Call, Reply, Op, Asks, Asked, SpellsCallBy, Rooted, PlaceOf, Terms, Asked-grow, Deed, Look, Seek, Move, Remove, Mounted, Machine, IsNamed, front_of, last_of, machine_of, Busy, Setup, own_or, removal_by, of_walk, in_flight, KnowsRoot, Awaits, awaits-laws, begins-unbegun, OwnOr, end-leads, RemoveAwaits, front-last, TaleLaws, reached-good}
-use Rattle.claims.specs.Asks.{IsWriter}
 use Rattle.op_machines.specs.Begun.{IsAsked}
 use Rattle.core_facts.specs.Naming.{IsOneCall}
 use Rattle.core_facts.proofs.Tales.{IsExpected}
@@ -17,7 +16,7 @@ use Rattle.core_facts.proofs.OneCallStory as one_call
 use Rattle.core_answers.specs.asks.RemoveCalls.{IsHiding}
 use Rattle.core_answers.proofs.asks.CallsAwaited.{Expects, expects-laws}
 use Rattle.core_answers.proofs.asks.PutAsks as put_asks
-use Rattle.core_answers.proofs.asks.PutAsks.{Sending, now, rooted-now, put-asks}
+use Rattle.core_answers.proofs.asks.PutAsks.{Sending, rooted-now, put-asks}
 use Rattle.core_answers.proofs.asks.RemoveAsks as remove_asks
 use Rattle.core_answers.proofs.asks.RemoveSteps.{IsFineOf, HasDeed, RemoveRuns}
 use Rattle.core_answers.proofs.asks.Sendings.{NoCall}

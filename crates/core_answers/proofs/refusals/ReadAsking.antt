@@ -1,5 +1,5 @@
 -- A read asks for a call of which it is known that it was sent for it: as `proofs/asks/ReadAsks` has it.
-use Rattle.core_answers.proofs.Prelude.{◌≡◌, ◌≤◌, ℕ, true, List, Option, Some, None, ◌++◌, refl, sym, ap, subst, ◌∙◌, arith, Entry, Call, Op, Asks, Stabilizes, IsOf, Terms, Mounted, Machine, machine_of, Busy, Setup, in_flight, of_phase, of_reading, begins-unbegun, Held, held-later, always-later, Given, is-given, good-over, Phase, Reading, place_after}
+use Rattle.core_answers.proofs.Prelude.{◌≡◌, ◌≤◌, ℕ, true, List, Option, Some, None, ◌++◌, refl, sym, ap, subst, ◌∙◌, arith, Entry, Call, Op, Asks, IsOf, Terms, Mounted, Machine, machine_of, Busy, Setup, in_flight, of_phase, of_reading, begins-unbegun, Held, held-later, always-later, Given, is-given, good-over, Phase, Reading, place_after}
 use Rattle.world_model.specs.declared.op.Op.TheVariants as ops
 use Rattle.claims.specs.Asks as asks
 use Rattle.core_answers.proofs.asks.CallsAwaited.{Expects, expects-laws}

@@ -1,5 +1,5 @@
 -- Along a history the machine goes with the core.
-use Rattle.core_counts.proofs.Prelude.{arith, ◌≡◌, ◌⊎◌, inl, inr, ◌+◌, ℕ, Bool, List, [], ◌∷◌, ◌++◌, true, false, Option, Some, None, option_map, position, length, refl, sym, ap, subst, ◌∙◌, xid_at, Waiting, Held, next_xid, awaited, waiting_at, Answer, Entry, Began, Answered, Sent, Delivered, Op, SpellsCallBy, said_of, Shelf, Mounted, machine_of, Fits, Purpose, Busy, Setup, IsFresh, is_busy, IsIdle, with_state, Stirs, counted, StartsLane, TakesAt, AnswersAt, View, turn_at, StepsTo, HearsRecord, Reaches, begins, goes, loses, last_reading, begins-unbegun, taken_one, Known, same-rows, SameCalls, unused-next, Basis, basis-ready, stirs-basis, starts-basis, takes-basis, keeps-basis, Wholly, starts-has, resumes-has, stirs-wholly, starts-wholly, takes-wholly, keeps-wholly, Shows, MakesLong, Moves, Hears, ShownCall, ShownCalls, Shown, IsPlain}
+use Rattle.core_counts.proofs.Prelude.{arith, ◌≡◌, ◌⊎◌, inl, inr, ◌+◌, ℕ, Bool, List, [], ◌∷◌, ◌++◌, true, false, Option, Some, None, option_map, position, length, refl, sym, ap, subst, ◌∙◌, xid_at, Waiting, Held, next_xid, awaited, waiting_at, Answer, Entry, Began, Answered, Sent, Delivered, Op, SpellsCallBy, said_of, Shelf, Mounted, machine_of, Fits, Purpose, Busy, Setup, IsFresh, is_busy, IsIdle, with_state, Stirs, counted, StartsLane, TakesAt, AnswersAt, View, turn_at, StepsTo, HearsRecord, Reaches, begins, goes, loses, last_reading, begins-unbegun, taken_one, Known, same-rows, SameCalls, unused-next, Basis, basis-ready, stirs-basis, starts-basis, takes-basis, keeps-basis, Wholly, starts-has, resumes-has, stirs-wholly, starts-wholly, takes-wholly, keeps-wholly, Shows, MakesLong, Moves, ShownCall, ShownCalls, Shown, IsPlain}
 use Rattle.rpc_retry.specs.Take.{after_taking}
 use Rattle.client_core.specs.Steps.{taken}
 use Rattle.core_counts.specs.coarse.Runs.{RestsAt, heard_as, Runs, CoreIsCoarse}

@@ -1,6 +1,5 @@
 -- Along a history the kept pages and names go on by steps of their machines.
 use Rattle.core_counts.proofs.Prelude.{◌≡◌, List, [], ◌∷◌, ◌++◌, refl, sym, ap, subst, ◌∙◌, append_assoc, append-nil, Pages, Entry, History, Lawful, Shelf, machine_of, Mounted, Setup, View, Numbered, Reaches, begins, goes, loses, until, WasRun}
-use Rattle.page_cache.specs.Pages.{nothing_kept}
 use Rattle.core_counts.specs.coarse.Fed.{Fed, CoreIsFed, PagesFed, NamesFed}
 use Rattle.name_cache.specs.Names.{Entries}
 use Rattle.law_names.specs.Feeds as feeds

@@ -11,7 +11,7 @@ use Rattle.file_ops.specs.Reading as reading
 use Rattle.op_machines.specs.declared.file_machine.FileMachine.TheVariants as files
 use Rattle.op_machines.specs.declared.machine.Machine.TheVariants as machines
 use Rattle.core_answers.proofs.bonds.MachineCalls.{Asks}
-use Rattle.core_session.proofs.current.OpenMarks.{IsOpening, IsRefusal, opening-starts, opening-resumes, opening-takes, Took, took_on, took_well, took_known}
+use Rattle.core_session.proofs.current.OpenMarks.{opening-starts, opening-resumes, opening-takes, Took, took_on, took_well, took_known}
 use Rattle.core_session.proofs.current.OpenMarks as marks
 use Rattle.core_session.proofs.current.ReadMarks.{ThenRead, IsSame, reading-resumes, reading-takes}
 use Rattle.core_counts.proofs.thrift.OpKinds.{OnlyReads}

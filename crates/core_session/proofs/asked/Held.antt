@@ -1,5 +1,5 @@
 -- What was pending at a view through which a session came may be pending at that moment, by the whole history.
-use Rattle.core_session.proofs.Prelude.{◌≡◌, ◌≤◌, ℕ, List, ◌++◌, length, refl, sym, ap, subst, ◌∙◌, arith, Entry, Began, Terms, Mounted, machine_of, Setup, View, begins-unbegun, IsSession, PutsNamed}
+use Rattle.core_session.proofs.Prelude.{◌≡◌, ◌≤◌, ℕ, List, ◌++◌, length, refl, sym, ap, subst, ◌∙◌, arith, Entry, Terms, Mounted, machine_of, Setup, View, begins-unbegun, IsSession, PutsNamed}
 use Rattle.world_model.specs.declared.op.Op.TheVariants as ops
 use Rattle.claims.specs.Asks.{HadPending}
 use Rattle.claims.specs.Pending.{Pending}

@@ -1,5 +1,5 @@
 -- Each slot of the table of opens holds its file by the history, at once or before a record comes: an open that has its answer is noted before.
-use Rattle.core_session.proofs.Prelude.{◌≡◌, ◌≢◌, ◌≤◌, ◌<◌, ◌+◌, ◌⊎◌, inl, inr, ℕ, List, [], ◌∷◌, ◌++◌, length, map, remove, Bool, true, false, nat_eq, Option, Some, None, slice_get, slice_set, refl, sym, ap, subst, ◌∙◌, arith, append_assoc, eqb-true, eqb-false, Opened, Opens, Answer, Entry, Began, Answered, Dialed, Sent, Executed, Foreign, Flushed, Reboot, Delivered, Failed, Clock, Op, At, Modes, Ended, UnderWay, Terms, At-grow, At-below, At-back, At-cases, length_last, Closing, Mounted, Machine, machine_of, Lane, State, Busy, Over, Setup, lost_lane, IsOther, numbers_of, AnswersAt, View, StepsTo, Reaches, last_reading, GoesWith, begins-unbegun, FailedNow, goes_on, gives_up, sent_now, failed_now, answered_now, always-later, LanesKnown, number_of, idle-numbers, lanes-under-way, reached-lanes, still-there, before-push, to-map, IsHeld, Agrees, held-grow, Kind, plainly, kind_of, StoryOf, SlotsAgree, Slots, reached-slots, under-back, set-other, Always, over-laws}
+use Rattle.core_session.proofs.Prelude.{◌≡◌, ◌≢◌, ◌≤◌, ◌<◌, ◌+◌, ◌⊎◌, inl, inr, ℕ, List, [], ◌∷◌, ◌++◌, length, map, remove, Bool, true, false, nat_eq, Option, Some, None, slice_get, slice_set, refl, sym, ap, subst, ◌∙◌, arith, append_assoc, eqb-true, eqb-false, Opened, Opens, Answer, Entry, Began, Answered, Dialed, Sent, Executed, Foreign, Flushed, Reboot, Delivered, Failed, Clock, Op, At, Modes, UnderWay, Terms, At-below, At-back, At-cases, length_last, Closing, Mounted, Machine, machine_of, Lane, State, Busy, Over, Setup, lost_lane, IsOther, numbers_of, AnswersAt, View, StepsTo, Reaches, last_reading, GoesWith, begins-unbegun, FailedNow, goes_on, gives_up, sent_now, failed_now, answered_now, always-later, LanesKnown, number_of, idle-numbers, lanes-under-way, reached-lanes, still-there, before-push, to-map, IsHeld, Agrees, held-grow, Kind, plainly, kind_of, StoryOf, SlotsAgree, Slots, reached-slots, under-back, set-other, Always, over-laws}
 use Rattle.core_facts.proofs.Slots.{opening, closing, over-later, noted}
 use Rattle.core_facts.proofs.Stories.{answered-under}
 use Rattle.std.specs.FinMap as finite

@@ -1,5 +1,5 @@
 -- What the steps of operations keep is known of each answer, where nothing need be known of how the session went on.
-use Rattle.core_session.proofs.Prelude.{Answer, Entry, Call, Reply, Op, ℕ, List, refl, Shelf, Turn, Machine, State, Setup, View, HasPassed}
+use Rattle.core_session.proofs.Prelude.{Entry, Call, Reply, Op, ℕ, List, refl, Shelf, Turn, Machine, State, Setup, View, HasPassed}
 use Rattle.core_session.proofs.current.Keeping.{WasTaken, BondLaws}
 use Rattle.core_session.proofs.shown.Following.{Followed}
 use Rattle.core_session.proofs.syncs.WatchingAlong.{KeepsWatching}

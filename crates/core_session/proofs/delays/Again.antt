@@ -1,6 +1,6 @@
 -- A call that an operation makes again was put off once more than it counts. A call that it makes again no more, since it was put off three times, was put off as
 -- often as it counts.
-use Rattle.core_session.proofs.Prelude.{◌≡◌, ◌≤◌, ◌+◌, ◌&&◌, ℕ, Bool, true, false, List, Result, Ok, Err, refl, sym, ap, subst, ◌∙◌, nat_lt, ltb-false, Fault, Call, Reply, jukebox, Pending, Repeat, Turn, fails_busy, goes_again, Closing, Removal, Led, Opening, PutFile, Putting, Saving, Syncing, Writing, commit_told, FileMachine, Machine, PathMachine, file_of, PathOr, Expects, PathNames, SyncNames, WriteNames, CloseNames, StateNames, FileNames, Saves, flies_save, flies_write, flies_sync, flies_close, flies_put, flies_file, flies_path, CallFaults, CallFits, FineLed, FitsOpening}
+use Rattle.core_session.proofs.Prelude.{◌≡◌, ◌≤◌, ◌+◌, ◌&&◌, ℕ, Bool, true, false, List, Result, Ok, Err, refl, sym, ap, subst, ◌∙◌, nat_lt, ltb-false, Fault, Call, Reply, jukebox, Pending, Repeat, Turn, fails_busy, Closing, Led, Opening, PutFile, Putting, Saving, Syncing, Writing, commit_told, FileMachine, Machine, PathMachine, file_of, PathOr, Expects, PathNames, SyncNames, WriteNames, CloseNames, StateNames, FileNames, Saves, flies_save, flies_write, flies_sync, flies_close, flies_put, flies_file, flies_path, CallFaults, CallFits, FineLed, FitsOpening}
 use Rattle.std.specs.Prelude.{not, ◌||◌, is_none}
 use Rattle.core_facts.proofs.AllAwaited.{PutAwaits, FileAwaits}
 use Rattle.core_answers.proofs.answers.SaveFaults.{FitsSave}

@@ -11,7 +11,7 @@ use Rattle.op_machines.specs.declared.file_machine.FileMachine.TheVariants as fi
 use Rattle.op_machines.specs.declared.machine.Machine.TheVariants as machines
 use Rattle.op_machines.specs.FileSteps as steps
 use Rattle.op_machines.specs.PathSteps as paths
-use Rattle.core_session.proofs.drops.Counted.{Up, up, level, on}
+use Rattle.core_session.proofs.drops.Counted.{Up, up, level}
 use Rattle.core_session.proofs.drops.Counted as plain
 
 -- ---- closes

@@ -1,6 +1,6 @@
 -- The theorems, as they are stated.
 use Rattle.core_session.proofs.Prelude.{Option, None, ◌≡◌, ◌⊎◌, inl, inr, ℕ, Bool, List, [], ◌∷◌, ◌++◌, length, nat_eq, true, false, Some, slice_get, refl, sym, ap, ◌∙◌, option_map, ◌≢◌, ◌≤◌, remove, subst, eqb-true, eqb-false, Opened, IsOpen, Answer, Fault, Entry, Began, Delivered, Op, Modes, Terms, is_first, CloseFile, Closing, Removal, PutFile, Putting, Saving, WriteFile, file_at, Mounted, Machine, machine_of, Lane, State, Busy, Over, Setup, IsIdle, counted, StartsLane, AnswersAt, View, AreApart, GoesWith, begins-unbegun, seat_close, seat_put, Known, reached-all, lanes-under-way, at-push, get-remove, skip, still-there, look-at, seat_state, seat_in, same-first, IsPast, IsOwed, file_in, save_in, removal_in, IsClose, IsSaving, IsGuarded, slot, past, LetsGo}
-use Rattle.core_session.specs.drops.Told.{BeginsWell, Turned, RefusedOwes, KeepsGuards, SlotsHoldOneFile, RefusedClosesAreOwed, OwedClosesLeave, GuardsAreKept}
+use Rattle.core_session.specs.drops.Told.{BeginsWell, Turned, SlotsHoldOneFile, RefusedClosesAreOwed, OwedClosesLeave, GuardsAreKept}
 use Rattle.std.specs.FinMap as finite
 use Rattle.world_model.specs.declared.answer.Answer.TheVariants as answers
 use Rattle.world_model.specs.declared.op.Op.TheVariants as ops

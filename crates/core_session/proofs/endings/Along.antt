@@ -2,7 +2,6 @@
 use Rattle.core_session.proofs.Prelude.{◌≡◌, ℕ, List, [], ◌∷◌, ◌++◌, length, refl, sym, ap, subst, ◌∙◌, append_assoc, Entry, Sent, Op, At, At-grow, At-last, At-one, Machine, Setup, View, StepsTo, Reaches, Notes, NoneReady, notes-reach}
 use Rattle.core_facts.specs.Notes.{notes_fresh, notes_step, notes_lost, ComesAfter}
 use Rattle.core_facts.proofs.Passing.{Passes, passes_fresh, passes_step, passes_lost}
-use Rattle.client_core.specs.Steps.{lost}
 use Rattle.core_session.proofs.asked.Onwards.{onward-then, onward-rest}
 use Rattle.core_session.proofs.room.Onward.{Onward, stays, steps, drops}
 

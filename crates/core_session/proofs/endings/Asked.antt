@@ -1,5 +1,5 @@
 -- Each record that was sent for an operation is a call for which this very operation asked.
-use Rattle.core_session.proofs.Prelude.{◌≡◌, ◌≤◌, ◌<◌, ◌+◌, ℕ, List, length, Some, slice_get, sym, subst, Entry, Sent, Call, Op, Asks, At, SpellsCall, UnderWay, Terms, Mounted, machine_of, Lane, Busy, Setup, View, begins-unbegun, in_flight, one-call, IsSession, Expects, expects-laws}
+use Rattle.core_session.proofs.Prelude.{◌≡◌, ◌≤◌, ◌<◌, ◌+◌, ℕ, List, length, Some, slice_get, sym, subst, Entry, Sent, Call, Op, Asks, At, SpellsCall, UnderWay, Terms, Mounted, machine_of, Busy, Setup, View, begins-unbegun, in_flight, one-call, IsSession, Expects, expects-laws}
 use Rattle.core_session.proofs.asked.Whole.{out-asked}
 use Rattle.core_session.proofs.calls.Causes.{Spelt}
 use Rattle.core_session.proofs.calls.Outgoing.{Outgoing, sent-nfs, sent-spells}

@@ -1,5 +1,5 @@
 -- All rows of refusals, and that sessions complete: by those of NFS3ERR_JUKEBOX and those of any other fault.
-use Rattle.core_session.proofs.Prelude.{◌≡◌, ◌==◌, ◌++◌, inl, inr, ℕ, Bool, true, false, List, length, refl, sym, subst, arith, eqb-true, eqb-false, Fault, Entry, Op, Asks, IsWriter, Ended, RefusedBy, Terms, jukebox, Mounted, IsAsked, machine_of, Setup, View, IsSession, GoesFrom, Notes, GoesSo}
+use Rattle.core_session.proofs.Prelude.{◌≡◌, ◌==◌, ◌++◌, inl, inr, ℕ, Bool, true, false, List, length, refl, sym, subst, arith, eqb-true, eqb-false, Fault, Entry, Op, IsWriter, Ended, RefusedBy, Terms, jukebox, Mounted, IsAsked, machine_of, Setup, View, IsSession, GoesFrom, Notes, GoesSo}
 use Rattle.claims.specs.RefusalRows.{RefusalRow}
 use Rattle.core_facts.proofs.Passing.{Passes}
 use Rattle.world_model.specs.declared.answer.Answer.TheVariants as answers

@@ -30,7 +30,7 @@ use Rattle.core_session.proofs.syncs.Showings.{Fresh}
 use Rattle.core_session.proofs.syncs.Stages.{unsent, flies, again, held, stable, over}
 use Rattle.core_session.proofs.syncs.Stands.{WritesIt, of_slot, of_last}
 use Rattle.core_session.proofs.kept.Lefts.{owed-at, within-all}
-use Rattle.core_session.proofs.kept.Stands.{GuardBy, Case, Fated, unsure, fated-map, StableTwo, two, SinceTwo, before, after, ToldBefore, ToldAfter, Early, IsUnsent, Since_, Phase, Stands}
+use Rattle.core_session.proofs.kept.Stands.{GuardBy, Case, unsure, fated-map, StableTwo, two, SinceTwo, ToldBefore, ToldAfter, Phase, Stands}
 use Rattle.core_session.proofs.kept.Stands as stands
 use Rattle.core_session.proofs.syncs.Turning.{IsFixed, fixed-answers, fixed-same, under-answers-back, under-plain-back}
 use Rattle.core_session.proofs.syncs.WatchingAlong.{SentWaits}

@@ -20,7 +20,7 @@ use Rattle.core_session.proofs.syncs.Showings.{Fresh, Wrote}
 use Rattle.core_session.proofs.syncs.Stages.{known-more, Stage, unsent, flies, again, held, stable, over}
 use Rattle.core_session.proofs.syncs.Stands.{WritesIt, of_slot, of_last}
 use Rattle.core_session.proofs.syncs.Nexts.{at-on, tale-map, has-map, common-from}
-use Rattle.core_session.proofs.kept.Stands.{Case, Has, Fated, fated-map, one, two, SinceTwo, StableTwo, before, after, ToldBefore, ToldAfter, Early, IsUnsent, GuardBy, PutRuns, Since_, Phase}
+use Rattle.core_session.proofs.kept.Stands.{Case, Has, Fated, fated-map, one, two, SinceTwo, StableTwo, before, after, ToldBefore, ToldAfter, Early, GuardBy, PutRuns, Phase}
 use Rattle.core_session.proofs.kept.Stands as stands
 use Rattle.core_session.proofs.syncs.Turning.{Turns, IsFixed}
 use Rattle.core_session.proofs.syncs.LaneSteps.{Landed}

@@ -1,6 +1,6 @@
 -- What a read's first view tells of a byte that was written before: where nothing is pending there, the byte was made stable before the read began, and what is
 -- sent for its place carries it until the read's answer.
-use Rattle.core_session.proofs.Prelude.{◌≡◌, ◌<◌, ◌≤◌, ◌⊎◌, inl, inr, ℕ, true, false, List, ◌++◌, length, Some, None, slice_get, refl, sym, ap, subst, ◌∙◌, arith, cases_lt, of_file, newest_at, IsOpen, Answer, Fault, Value, Entry, Began, Answered, Op, At, History, AnsweredBefore, Ended, ReadsBytes, SettledBy, Terms, Wrote, Touched, GivesUp, RefusedWrite, At-below, At-one, Mounted, machine_of, Over, Setup, View, KnowsRoot, GoesWith, begins-unbegun, set-other, MadeAndKept, PutsNamed, WritesCarry, TouchedUntil, MadeStable, Passes}
+use Rattle.core_session.proofs.Prelude.{◌≡◌, ◌<◌, ◌≤◌, ◌⊎◌, inl, inr, ℕ, true, false, List, ◌++◌, length, Some, None, slice_get, refl, sym, ap, subst, ◌∙◌, arith, cases_lt, of_file, newest_at, IsOpen, Answer, Fault, Value, Entry, Began, Answered, Op, At, History, AnsweredBefore, Ended, ReadsBytes, SettledBy, Terms, Wrote, Touched, GivesUp, RefusedWrite, At-below, At-one, Mounted, machine_of, Over, Setup, View, KnowsRoot, GoesWith, begins-unbegun, set-other, MadeAndKept, PutsNamed, WritesCarry, MadeStable, Passes}
 use Rattle.claims.specs.Touched.{Left, IsAnsweredPut}
 use Rattle.world_model.specs.declared.answer.Answer.TheVariants as answers
 use Rattle.world_model.specs.declared.answer.Value.TheVariants as values

@@ -1,5 +1,5 @@
 -- Since the reply to an own change came, the file's known stamp is one that the server showed since.
-use Rattle.core_session.proofs.Prelude.{◌≡◌, ◌<◌, ◌≤◌, ◌+◌, ◌-◌, ◌⊎◌, inl, inr, ℕ, Bool, true, false, nat_eq, List, [], ◌∷◌, ◌++◌, length, Option, Some, None, option_map, position, Result, Ok, Err, refl, sym, ap, subst, ◌∙◌, arith, append_assoc, eqb-true, cases_lt, Attr, Stamp, Wcc, stamp_of, FileCall, FileKept, xid_at, Waiting, next_xid, made_call, waiting_at, without, at_made, others_made, others_taken, gone, FileState, state_of, cut, Answer, Fault, Entry, Began, Answered, Delivered, Sent, Call, Reply, Op, At, Asked, HasXid, SpellsCall, SpellsReply, proc_of, Modes, At-back, At-below, At-grow, At-last, At-one, length_last, Numbered, one_file_call, said_of, Step, Shelf, Mounted, Machine, machine_of, Purpose, State, Busy, Over, Setup, is_busy, with_state, record_of, Makes, Leads, Stirs, counted, StartsLane, TakesAt, AnswersAt, View, turn_at, unmade_turn, HearsRecord, Reaches, IsMade, IsUnsent, Tried, begins-unbegun, taken_one, was-sent, Known, at-position, Rows, rows-stay, same-rows, silent-grow, rows-grow, taken-quiet, not-sent, taken-rows, LastAtMost, SameCalls}
+use Rattle.core_session.proofs.Prelude.{◌≡◌, ◌<◌, ◌≤◌, ◌+◌, ◌-◌, ◌⊎◌, inl, inr, ℕ, Bool, true, false, nat_eq, List, [], ◌∷◌, ◌++◌, length, Option, Some, None, option_map, position, Result, Ok, Err, refl, sym, ap, subst, ◌∙◌, arith, append_assoc, eqb-true, cases_lt, Attr, Stamp, Wcc, stamp_of, FileCall, FileKept, xid_at, Waiting, next_xid, made_call, waiting_at, without, at_made, others_made, others_taken, gone, FileState, state_of, cut, Answer, Fault, Entry, Began, Answered, Delivered, Sent, Call, Reply, Op, At, Asked, HasXid, SpellsCall, SpellsReply, proc_of, Modes, At-back, At-below, At-grow, At-last, At-one, length_last, Numbered, one_file_call, said_of, Step, Shelf, Mounted, Machine, machine_of, Purpose, State, Busy, Over, Setup, is_busy, with_state, record_of, Makes, Leads, Stirs, counted, StartsLane, TakesAt, AnswersAt, View, turn_at, unmade_turn, HearsRecord, Reaches, IsUnsent, Tried, begins-unbegun, taken_one, was-sent, Known, at-position, Rows, rows-stay, same-rows, silent-grow, rows-grow, taken-quiet, not-sent, taken-rows, LastAtMost, SameCalls}
 use Rattle.std.proofs.Common.{if◌then◌else◌}
 use Rattle.page_cache.specs.Pages.{wrote, both_same, led_to}
 use Rattle.law_stable.proofs.OneFileCall.{one_file_reply}

@@ -16,7 +16,7 @@ use Rattle.core_session.proofs.syncs.Fates.{job_kind}
 use Rattle.core_session.proofs.syncs.LaneButs.{starts-but}
 use Rattle.core_session.proofs.syncs.Looks.{Touching, touching-on, ClosesIt, IsLeft, owed, was_left, left_}
 use Rattle.core_session.proofs.syncs.Nexts.{common-from}
-use Rattle.core_session.proofs.kept.Nexts.{PlanBefore, PlanAfter, before-next, after-story, landed-unsent, landed-since, write-op, writer-kind, One, Two, put-kind, Guarding, evident_, open_, ahead_, loose_, Unmade, Dropped, closes-by, puts-by, closes-none, puts-none, Outcome_, ahead-known, kept-known, PlanOwn, own-tale, saved-ends, saved-goes}
+use Rattle.core_session.proofs.kept.Nexts.{PlanBefore, PlanAfter, before-next, after-story, landed-unsent, landed-since, write-op, writer-kind, One, Two, put-kind, Guarding, evident_, open_, ahead_, loose_, Unmade, Dropped, closes-by, puts-by, closes-none, puts-none, Outcome_, ahead-known, kept-known, PlanOwn, saved-ends, saved-goes}
 use Rattle.core_session.proofs.syncs.Jobs.{Job}
 use Rattle.core_session.proofs.syncs.Levels.{Owner}
 use Rattle.core_session.proofs.syncs.Passing.{job-in}
@@ -27,7 +27,7 @@ use Rattle.core_session.proofs.syncs.Seen.{Owned, bases}
 use Rattle.core_session.proofs.syncs.Showings.{Fresh}
 use Rattle.core_session.proofs.syncs.Stages.{unsent}
 use Rattle.core_session.proofs.syncs.Stands.{slot-of, WritesIt, of_slot, of_last}
-use Rattle.core_session.proofs.kept.Stands.{Case, Fated, fated-map, StableTwo, SinceTwo, Early, IsUnsent, Since_, Phase, Stands, ToldAfter, ToldBefore, after, Has, before, GuardBy, PutRuns, LiveBy}
+use Rattle.core_session.proofs.kept.Stands.{Case, fated-map, StableTwo, SinceTwo, Early, IsUnsent, Since_, Phase, Stands, ToldAfter, after, before, GuardBy, PutRuns, LiveBy}
 use Rattle.core_session.proofs.kept.Stands as stands
 use Rattle.core_session.proofs.syncs.StirsOn.{over-known, both-or}
 use Rattle.core_session.proofs.kept.StirsOn.{two-map}

@@ -16,7 +16,7 @@ use Rattle.core_session.proofs.syncs.Fates.{job_kind}
 use Rattle.core_session.proofs.syncs.LaneButs.{stirs-but}
 use Rattle.core_session.proofs.syncs.Looks.{Touching, touching-on, ClosesIt, IsLeft, owed, was_left, left_}
 use Rattle.core_session.proofs.syncs.Nexts.{at-on, not-before, common-from, known-from}
-use Rattle.core_session.proofs.kept.Nexts.{landed-unsent, landed-since, PlanBefore, PlanAfter, before-next, flown-on, after-story, One, Two, MineIs, before-other, before-write, before-put, to-plan, Guarding, evident_, open_, ahead_, loose_, Unmade, Dropped, closes-by, puts-by, closes-none, puts-none, Outcome_, ahead-known, kept-known, PlanOwn, own-tale, saved-ends, saved-goes}
+use Rattle.core_session.proofs.kept.Nexts.{landed-unsent, landed-since, PlanBefore, PlanAfter, before-next, after-story, One, Two, MineIs, before-other, before-write, before-put, to-plan, Guarding, evident_, open_, ahead_, loose_, Unmade, Dropped, closes-by, puts-by, closes-none, puts-none, Outcome_, ahead-known, kept-known, PlanOwn, own-tale, saved-ends, saved-goes}
 use Rattle.core_session.proofs.kept.Nexts as nexts
 use Rattle.core_session.proofs.syncs.StirsOn.{over-known, busy-one, both-or}
 use Rattle.core_session.proofs.syncs.Passing.{told}
@@ -27,7 +27,7 @@ use Rattle.core_session.proofs.syncs.Seen.{bases, Owned}
 use Rattle.core_session.proofs.syncs.Showings.{Fresh, Wrote, Made}
 use Rattle.core_session.proofs.syncs.Stages.{Stage, unsent, flies, again, held, stable, over}
 use Rattle.core_session.proofs.syncs.Stands.{WritesIt, of_slot, of_last}
-use Rattle.core_session.proofs.kept.Stands.{Case, Fated, fated-map, StableTwo, ToldBefore, ToldAfter, after, SinceTwo, Has, Early, IsUnsent, Since_, Phase, before, GuardBy, PutRuns, LiveBy}
+use Rattle.core_session.proofs.kept.Stands.{Case, StableTwo, ToldBefore, ToldAfter, after, SinceTwo, Has, Early, IsUnsent, Since_, Phase, GuardBy, PutRuns, LiveBy}
 use Rattle.core_session.proofs.kept.Stands as stands
 use Rattle.core_session.proofs.syncs.Turning.{Turns, fixed-turns, turns-stir, turns-apart}
 use Rattle.world_model.specs.declared.op.Op.TheVariants as ops

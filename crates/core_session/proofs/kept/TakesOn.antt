@@ -20,7 +20,7 @@ use Rattle.core_session.proofs.syncs.Fates.{job_kind, save-is}
 use Rattle.core_session.proofs.syncs.LaneButs.{takes-but}
 use Rattle.core_session.proofs.syncs.Looks.{Touching, touching-on, ClosesIt, IsLeft, owed, was_left, left_}
 use Rattle.core_session.proofs.syncs.Nexts.{at-on, not-before, common-from, known-from}
-use Rattle.core_session.proofs.kept.Nexts.{landed-unsent, landed-since, PlanBefore, PlanAfter, before-next, flown-on, after-story, One, Two, MineIs, before-other, before-write, before-put, to-plan, put-kind, Guarding, evident_, open_, ahead_, loose_, Unmade, Dropped, closes-by, puts-by, closes-none, puts-none, Outcome_, ahead-known, kept-known, PlanOwn, own-tale, saved-ends, saved-goes, PlanPut, put-tale, put-made}
+use Rattle.core_session.proofs.kept.Nexts.{landed-unsent, landed-since, PlanBefore, PlanAfter, before-next, after-story, One, Two, MineIs, before-other, before-write, before-put, to-plan, put-kind, Guarding, evident_, open_, ahead_, loose_, Unmade, Dropped, closes-by, puts-by, closes-none, puts-none, Outcome_, ahead-known, kept-known, PlanOwn, own-tale, saved-ends, saved-goes, PlanPut, put-tale, put-made}
 use Rattle.core_session.proofs.kept.Nexts as nexts
 use Rattle.core_session.proofs.syncs.Passing.{told}
 use Rattle.core_session.proofs.syncs.Phases.{Across, Family, KnownBy, Evident}
@@ -30,7 +30,7 @@ use Rattle.core_session.proofs.syncs.Seen.{bases, Owned}
 use Rattle.core_session.proofs.syncs.Showings.{Fresh, Wrote, Made, flown-is, below-next, shows-write, shows-commit}
 use Rattle.core_session.proofs.syncs.Stages.{unsent}
 use Rattle.core_session.proofs.syncs.Stands.{WritesIt, of_slot, of_last}
-use Rattle.core_session.proofs.kept.Stands.{Case, Fated, fated-map, StableTwo, ToldBefore, ToldAfter, after, SinceTwo, Has, Early, IsUnsent, Since_, Phase, before, GuardBy, PutRuns, LiveBy}
+use Rattle.core_session.proofs.kept.Stands.{Case, fated-map, StableTwo, ToldBefore, ToldAfter, after, SinceTwo, Has, Early, IsUnsent, Since_, Phase, before, GuardBy, PutRuns, LiveBy}
 use Rattle.core_session.proofs.kept.Stands as stands
 use Rattle.core_session.proofs.syncs.Turning.{IsFixed, Turns, fixed-turns, turns-take, under-on, under-was, turns-apart}
 use Rattle.nfs_file_calls.specs.declared.owned.FileKept.TheVariants as kept

@@ -1,6 +1,6 @@
 -- A lawful server's record that answers a call tells of an execution of it, and breaks no rule (as `core_answers.proofs.completes` has it, for calls of which
 -- it isn't known that an operation asks for them).
-use Rattle.core_session.proofs.Prelude.{◌≡◌, ◌<◌, ◌≤◌, ◌⊎◌, inl, inr, ℕ, suc, Bool, true, false, List, [], ◌∷◌, length, Some, Result, Ok, Err, sym, ap, subst, ◌∙◌, arith, DirKept, FileKept, Entry, Sent, Executed, Delivered, Call, Reply, Op, Asks, Acts, At, History, Lawful, HasXid, SpellsCall, SpellsReply, RefusesSo, Terms, IsNfs, one-call}
+use Rattle.core_session.proofs.Prelude.{◌≡◌, ◌<◌, ◌≤◌, ◌⊎◌, inl, inr, ℕ, suc, Bool, true, false, List, [], ◌∷◌, length, Some, Result, Ok, Err, sym, ap, subst, ◌∙◌, arith, DirKept, FileKept, Entry, Sent, Executed, Delivered, Call, Reply, Op, Asks, Acts, At, History, Lawful, HasXid, SpellsCall, SpellsReply, Terms, IsNfs, one-call}
 use Rattle.world_model.specs.Lawful.{IsReplied, replied, refused}
 use Rattle.world_model.specs.Messages.{SpellsResults}
 use Rattle.claims.specs.PageRules.{WrongData, BreaksPage}

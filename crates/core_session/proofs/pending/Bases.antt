@@ -1,9 +1,9 @@
 -- A guarded byte isn't given up by a last close, at any step: since the session rested last the table of slots only got less, and each answer that was ready then
 -- is noted before the next record.
-use Rattle.core_session.proofs.Prelude.{◌≡◌, ◌≤◌, ◌<◌, ◌⊎◌, inl, inr, ℕ, suc, Bool, true, false, nat_eq, List, [], ◌∷◌, ◌++◌, length, Option, Some, None, slice_get, refl, sym, ap, subst, ◌∙◌, arith, append_assoc, append-nil, ◌+◌, cases_lt, eqb-true, eqb-false, Mode, Opened, Answer, Value, Entry, Began, Answered, Dialed, Sent, Executed, Foreign, Flushed, Reboot, Delivered, Failed, Clock, Call, Op, At, HasXid, AnsweredBefore, Ended, LastReply, UnderWay, LeftAlone, Finds, Terms, At-back, At-below, At-grow, At-last, At-one, length_last, Shelf, Mounted, Machine, machine_of, Lane, State, Busy, Over, Setup, IsIdle, IsOther, numbers_of, Stirs, counted, StartsLane, View, Reaches, GoesWith, Known, lanes-under-way, reached-lanes, IsHeld, Kind, plainly, kind_of, StoryOf, Slots, reached-slots, IsGuarded, slot, past}
+use Rattle.core_session.proofs.Prelude.{◌≡◌, ◌≤◌, ◌<◌, ◌⊎◌, inl, inr, ℕ, suc, Bool, true, false, nat_eq, List, [], ◌∷◌, ◌++◌, length, Option, Some, None, slice_get, refl, sym, ap, subst, ◌∙◌, arith, append_assoc, append-nil, ◌+◌, cases_lt, eqb-true, eqb-false, Mode, Opened, Answer, Value, Entry, Began, Answered, Dialed, Sent, Executed, Foreign, Flushed, Reboot, Delivered, Failed, Clock, Call, Op, At, AnsweredBefore, Ended, LastReply, UnderWay, LeftAlone, Finds, Terms, At-back, At-below, At-grow, At-last, At-one, length_last, Shelf, Mounted, machine_of, State, Busy, Over, Setup, IsIdle, IsOther, numbers_of, Stirs, counted, StartsLane, View, Reaches, GoesWith, Known, lanes-under-way, reached-lanes, IsHeld, Kind, plainly, kind_of, StoryOf, Slots, reached-slots, IsGuarded, slot, past}
 use Rattle.world_model.specs.Operations.{NoneCame}
 use Rattle.core_facts.proofs.SlotGrowth.{finds-by}
-use Rattle.core_facts.proofs.Slots.{opening, closing, OpenedNow}
+use Rattle.core_facts.proofs.Slots.{opening, closing}
 use Rattle.std.proofs.lemmas.List.{length-append}
 use Rattle.std.specs.FinMap as finite
 use Rattle.world_model.specs.declared.answer.Answer.TheVariants as answers
@@ -13,7 +13,7 @@ use Rattle.core_session.proofs.drops.KnowingAlong.{IsPlain}
 use Rattle.core_session.proofs.drops.Laws.{DropsKnown, starts-begun, stirs-stepped}
 use Rattle.core_session.proofs.drops.SlotKinds.{OnlyLess}
 use Rattle.core_session.proofs.pending.Alone.{HeldBy, HeldSoon, held-by, not-held, past-not}
-use Rattle.core_session.proofs.syncs.Ends.{answered-once, ended-within}
+use Rattle.core_session.proofs.syncs.Ends.{ended-within}
 use Rattle.core_session.proofs.syncs.LaneButs.{SteppedTo, stirs-but, starts-but}
 use Rattle.core_session.proofs.syncs.Turning.{IsFixed, ready, gone, Turned, turns-stirs, turns-starts, fixed-turns}
 

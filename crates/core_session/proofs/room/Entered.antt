@@ -1,9 +1,8 @@
 -- A write or fill whose bytes became pending is never refused since: as long as it isn't answered its lane has a good answer.
-use Rattle.core_session.proofs.Prelude.{◌≡◌, ◌≢◌, ◌<◌, ◌≤◌, ◌⊎◌, inl, inr, ℕ, List, [], ◌∷◌, ◌++◌, length, map, remove, Bool, true, false, Option, Some, None, MatchOption, position, slice_get, slice_set, refl, sym, ap, subst, ◌∙◌, arith, cases_lt, Answer, Fault, Entry, Began, Answered, Dialed, Sent, Executed, Foreign, Flushed, Reboot, Delivered, Failed, Clock, Call, Op, IsWriter, At, Ended, UnderWay, RefusedWrite, write, fill, At-grow, At-below, At-back, At-one, At-cases, length_last, said_of, Step, Shelf, Machine, Lane, Purpose, State, Busy, Over, Setup, is_busy, lost_lane, IsOther, numbers_of, with_state, Makes, Leads, Stirs, Moves, moves_none, moves_more, counted, StartsLane, BeginsIf, TakesAt, AnswersAt, View, StepsTo, Reaches, last_reading, Heard, dropped, replied, sent_now, FailedNow, goes_on, gives_up, failed_now, answered_now, taken_one, LanesKnown, lanes-under-way, reached-lanes, at-set, at-push, get-push, get-remove, skip, ended-grow, set-other, by-place}
+use Rattle.core_session.proofs.Prelude.{◌≡◌, ◌≢◌, ◌<◌, ◌≤◌, ◌⊎◌, inl, inr, ℕ, List, [], ◌∷◌, ◌++◌, length, map, remove, Bool, true, false, Option, Some, None, MatchOption, position, slice_get, slice_set, refl, sym, ap, subst, ◌∙◌, arith, cases_lt, Answer, Fault, Entry, Began, Answered, Call, Op, IsWriter, At, Ended, UnderWay, RefusedWrite, write, fill, At-grow, At-below, At-back, At-one, At-cases, length_last, said_of, Step, Shelf, Machine, Lane, Purpose, State, Busy, Over, is_busy, lost_lane, with_state, Makes, Leads, Stirs, Moves, moves_none, moves_more, counted, StartsLane, BeginsIf, TakesAt, AnswersAt, View, at-set, at-push, get-push, get-remove, skip, ended-grow, set-other, by-place}
 use Rattle.claims.specs.Asks.{Placed, HasBegan}
 use Rattle.client_core.specs.Lanes.{lost_state}
 use Rattle.client_core.specs.Steps.{IsBusyAt, Begins, HearsOwn, HearsFor}
-use Rattle.core_facts.proofs.Cases.{heard}
 use Rattle.core_facts.proofs.Lists.{in-map}
 use Rattle.world_model.specs.declared.answer.Answer.TheVariants as answers
 use Rattle.world_model.specs.declared.answer.Fault.TheVariants as faults

@@ -1,11 +1,9 @@
 -- The same of any operation, as it begins, as it goes on, and as it takes what came of its call.
-use Rattle.core_session.proofs.Prelude.{◌≡◌, ◌≤◌, ◌<◌, ◌+◌, ◌-◌, ◌⊎◌, inl, inr, ℕ, Bool, true, false, List, [], ◌∷◌, length, replicate, Option, Some, None, Result, Ok, Err, refl, sym, ap, subst, ◌∙◌, arith, Mode, Wcc, Fault, Reply, Op, Pending, all_pending, Step, Shelf, Turn, CloseFile, SyncFile, TruncateFile, WriteFile, WalkStep, walk_of, walk-takes-kept, Mounted, FileMachine, Machine, NameMachine, Opener, PathMachine, machine_of, front_of, last_of, file_of, slot_taken, begun_at, Starts, Resumes, Takes, name-goes-kept, name-takes-kept}
-use Rattle.name_ops.proofs.Keeps.{IsKept}
+use Rattle.core_session.proofs.Prelude.{◌≡◌, ◌≤◌, ◌<◌, ◌+◌, ◌-◌, ◌⊎◌, inl, inr, ℕ, Bool, true, false, List, [], ◌∷◌, length, replicate, Option, Some, None, Result, Ok, Err, refl, sym, ap, subst, ◌∙◌, arith, Fault, Reply, Op, all_pending, Step, Shelf, Turn, TruncateFile, WriteFile, WalkStep, walk_of, walk-takes-kept, Mounted, FileMachine, Machine, NameMachine, Opener, PathMachine, machine_of, front_of, last_of, file_of, slot_taken, begun_at, Starts, Resumes, Takes, name-goes-kept, name-takes-kept}
 use Rattle.op_machines.specs.Begun.{open_of, put_of, path_of, write_of}
 use Rattle.op_machines.specs.Openers.{placed}
 use Rattle.world_model.specs.declared.answer.Answer.TheVariants as answers
 use Rattle.world_model.specs.declared.op.Op.TheVariants as ops
-use Rattle.client_shelf.specs.declared.step.Step.TheVariants as nexts
 use Rattle.file_ops.specs.declared.close_file.Closing.TheVariants as closings
 use Rattle.file_ops.specs.declared.sync_file.Syncing.TheVariants as syncings
 use Rattle.file_ops.specs.declared.truncate_file.Truncating.TheVariants as truncatings
@@ -21,7 +19,7 @@ use Rattle.op_machines.specs.declared.machine.Machine.TheVariants as machines
 use Rattle.op_machines.specs.declared.opener.Opener.TheVariants as openers
 use Rattle.op_machines.specs.FileSteps as steps
 use Rattle.op_machines.specs.PathSteps as paths
-use Rattle.core_session.proofs.room.Stages.{Stage, neither, storing, putting, is_room, file_stage, before_stage, path_stage, stage_of, Outcome, outcome, Verdict, rests, ends, same-verdict, worked-verdict}
+use Rattle.core_session.proofs.room.Stages.{Stage, neither, storing, is_room, file_stage, before_stage, path_stage, stage_of, outcome, Verdict, ends, same-verdict, worked-verdict}
 use Rattle.core_session.proofs.room.Steps.{write-resumed, write-took, write-started, put-resumed, put-took}
 use Rattle.core_session.proofs.room.Totals.{Less, same-less, sync-resumes, sync-takes, sync-starts, close-starts, close-resumes, close-takes}
 

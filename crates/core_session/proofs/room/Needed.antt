@@ -1,7 +1,6 @@
 -- Each call that makes room was needed, as it was sent and in the whole history.
-use Rattle.core_session.proofs.Prelude.{◌≡◌, ◌≢◌, ◌<◌, ◌≤◌, ◌+◌, ◌⊎◌, inl, inr, ℕ, List, [], ◌∷◌, ◌++◌, length, Bool, true, false, refl, sym, ap, subst, ◌∙◌, arith, Entry, Began, Sent, Call, Op, Asks, IsWriter, IsCaused, KeepsTo, At, SpellsCallBy, UnderWay, Terms, Putting, Writing, Mounted, Machine, Opener, IsAsked, IsNamed, machine_of, Busy, Setup, View, of_writing, in_flight, begins-unbegun, reached-good, Expects, expects-laws, NoCall, IsSession, GoesFrom}
+use Rattle.core_session.proofs.Prelude.{◌≡◌, ◌≢◌, ◌<◌, ◌≤◌, ◌+◌, ◌⊎◌, inl, inr, ℕ, List, [], ◌∷◌, ◌++◌, length, Bool, true, false, refl, sym, ap, subst, ◌∙◌, arith, Entry, Call, Op, Asks, IsWriter, IsCaused, KeepsTo, SpellsCallBy, UnderWay, Terms, Putting, Writing, Mounted, Machine, Opener, IsAsked, IsNamed, machine_of, Busy, Setup, View, of_writing, in_flight, begins-unbegun, reached-good, Expects, expects-laws, NoCall, IsSession}
 use Rattle.claims.specs.CallsAsked.{asked}
-use Rattle.nfs_file_calls.specs.declared.call.FileCall.TheVariants as files
 use Rattle.world_model.specs.declared.op.Op.TheVariants as ops
 use Rattle.claims.specs.Asks.{Placed, TakesRoom, NeedsRoom, write as a_write, fill as a_fill, put as a_put}
 use Rattle.file_ops.specs.declared.put_file.Putting.TheVariants as puttings

@@ -1,5 +1,5 @@
 -- From one view to a later one: what has entered stays so. And of each record that was sent, how the session went on from the view before it.
-use Rattle.core_session.proofs.Prelude.{◌+◌, ◌≡◌, ◌<◌, ◌≤◌, ◌⊎◌, inl, inr, ℕ, List, [], ◌∷◌, ◌++◌, length, map, Bool, true, false, Some, None, slice_get, refl, sym, ap, subst, ◌∙◌, arith, append_assoc, Waiting, next_xid, waiting_at, at_sent, waits_early, Answer, Entry, Began, Answered, Dialed, Sent, Executed, Foreign, Flushed, Reboot, Delivered, Failed, Clock, Op, NoneBegan, At, UnderWay, At-below, At-back, At-cases, Shelf, Machine, Lane, Purpose, State, Busy, Setup, lost_lane, SendsIf, View, calls_for, IsOfOperation, in_flight, IsUnbegun, StepsTo, Reaches, begins, goes, loses, last_reading, Heard, dropped, replied, SentNow, sent_now, FailedNow, goes_on, gives_up, failed_now, answered_now, taken_one, calls-some, known-only, lanes-under-way, reached-lanes, reached-owned, Rows, reached-rows}
+use Rattle.core_session.proofs.Prelude.{◌+◌, ◌≡◌, ◌<◌, ◌≤◌, ◌⊎◌, inl, inr, ℕ, List, [], ◌∷◌, ◌++◌, length, map, Bool, true, false, Some, None, slice_get, refl, sym, ap, subst, ◌∙◌, arith, append_assoc, next_xid, waiting_at, at_sent, waits_early, Entry, Began, Answered, Dialed, Sent, Executed, Foreign, Flushed, Reboot, Delivered, Failed, Clock, Op, NoneBegan, At, At-below, At-back, At-cases, Machine, Lane, Busy, Setup, lost_lane, SendsIf, View, calls_for, IsOfOperation, in_flight, IsUnbegun, StepsTo, Reaches, begins, goes, loses, last_reading, Heard, dropped, replied, SentNow, sent_now, FailedNow, goes_on, gives_up, failed_now, answered_now, taken_one, calls-some, known-only, lanes-under-way, reached-lanes, reached-owned, Rows, reached-rows}
 use Rattle.client_core.specs.Steps.{lost}
 use Rattle.core_facts.proofs.Cases.{heard}
 use Rattle.core_facts.proofs.Counting.{IsKnown, reached-count}

@@ -1,6 +1,5 @@
 -- As many bytes are pending as those operations write whose bytes were added; and each operation that makes room found none as it began to.
-use Rattle.core_session.proofs.Prelude.{◌≡◌, ◌≢◌, ◌<◌, ◌≤◌, ◌+◌, ◌⊎◌, inl, inr, ℕ, zero, suc, List, [], ◌∷◌, ◌++◌, length, replicate, map, remove, Bool, true, false, nat_eq, Option, Some, None, position, slice_get, slice_set, Err, refl, sym, ap, subst, ◌∙◌, arith, eqb-true, eqb-false, Waiting, waiting_at, Answer, Value, Entry, Began, Answered, Delivered, Call, Op, IsWriter, At, IsBusy, Ended, UnderWay, RefusedWrite, At-below, At-cases, At-one, said_of, Pending, all_pending, Step, Shelf, Mounted, Machine, machine_of, Lane, Purpose, State, Busy, Over, Setup, IsFresh, is_busy, IsIdle, numbers_of, with_state, Makes, IsRefused, Leads, Stirs, counted, StartsLane, TakesAt, AnswersAt, View, turn_at, unmade_turn, AreApart, IsSetUp, Reaches, begins-unbegun, taken_one, Known, LanesKnown, quiet-facts, lanes-stay, lanes-begin, lanes-under-way, idle-numbers, at-set, at-push, get-push, get-remove, skip, to-map, under-back, set-other, by-place}
-use Rattle.client_core.specs.Steps.{IsBusyAt, Refuses}
+use Rattle.core_session.proofs.Prelude.{◌≡◌, ◌≢◌, ◌<◌, ◌≤◌, ◌+◌, ◌⊎◌, inl, inr, ℕ, zero, suc, List, [], ◌∷◌, ◌++◌, length, replicate, map, remove, Bool, true, false, nat_eq, Option, Some, None, position, slice_get, slice_set, Err, refl, sym, ap, subst, ◌∙◌, arith, eqb-true, eqb-false, Waiting, Answer, Value, Entry, Began, Answered, Delivered, Op, IsWriter, At, IsBusy, UnderWay, RefusedWrite, At-below, At-cases, At-one, said_of, all_pending, Step, Shelf, Mounted, Machine, machine_of, Lane, Purpose, State, Busy, Over, Setup, IsIdle, numbers_of, with_state, IsRefused, Leads, Stirs, counted, StartsLane, TakesAt, AnswersAt, View, turn_at, unmade_turn, AreApart, Reaches, begins-unbegun, taken_one, Known, LanesKnown, quiet-facts, lanes-stay, lanes-begin, lanes-under-way, idle-numbers, at-set, at-push, get-push, get-remove, skip, to-map, under-back, set-other, by-place}
 use Rattle.std.proofs.lemmas.List.{length-replicate}
 use Rattle.world_model.specs.declared.answer.Answer.TheVariants as answers
 use Rattle.world_model.specs.declared.op.Op.TheVariants as ops
@@ -10,7 +9,7 @@ use Rattle.client_shelf.specs.declared.step.Step.TheVariants as nexts
 use Rattle.core_answers.proofs.asks.Along.{IsPlain, KeepsAlong, reached-along}
 use Rattle.core_session.proofs.room.Entered.{IsPut, IsDone, LaneSafe, Safe, Entered, silent-now, entered-with, entered-lanes, answered-now-put, safe-push, safe-remove, began-early, under-early}
 use Rattle.core_session.proofs.room.Machines.{all-starts, all-resumes, all-takes}
-use Rattle.core_session.proofs.room.Stages.{Stage, neither, storing, putting, settling, stage_of, Outcome, going, over, outcome, outcome_of, Verdict, rests, ends, stores, puts, puts_over, crowds_store, crowds_put}
+use Rattle.core_session.proofs.room.Stages.{Stage, neither, storing, putting, settling, stage_of, going, over, outcome, outcome_of, Verdict, rests, ends, stores, puts, puts_over, crowds_store, crowds_put}
 use Rattle.core_session.proofs.room.Writers.{Each, Elsewhere, Apart, counts, counts-cons, each-map, elsewhere-by}
 
 -- ---- what is known of an operation that is under way, by its stage

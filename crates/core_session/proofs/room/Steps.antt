@@ -13,7 +13,7 @@ use Rattle.file_ops.specs.OpenFile as opens
 use Rattle.file_ops.specs.PutFile as puts_
 use Rattle.file_ops.specs.Saves as saves
 use Rattle.file_ops.specs.WriteFile as writes
-use Rattle.core_session.proofs.room.Stages.{Stage, neither, storing, putting, settling, is_room, put_stage, Outcome, going, over, outcome, Verdict, rests, ends, quiet-verdict, same-verdict, made-size, IsGoing, Written, crowds, gives, adds, Worked, on, written, wider, written-verdict, worked-verdict, PutEnds, put-verdict, put-worked}
+use Rattle.core_session.proofs.room.Stages.{Stage, storing, putting, settling, is_room, put_stage, going, over, outcome, Verdict, rests, ends, same-verdict, made-size, IsGoing, Written, crowds, gives, adds, Worked, on, written, wider, written-verdict, PutEnds, put-verdict, put-worked}
 use Rattle.core_session.proofs.room.Totals.{Less, same-less, less-less, goes-less, takes-less, given-less}
 
 -- ---- whether there is room

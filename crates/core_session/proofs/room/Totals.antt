@@ -1,5 +1,5 @@
 -- No step of a save makes more bytes pending than were, nor what an operation gives up or cuts.
-use Rattle.core_session.proofs.Prelude.{◌≡◌, ◌≤◌, ◌+◌, ◌-◌, ◌&&◌, ◌⊎◌, inl, inr, ℕ, Bool, true, false, List, [], ◌∷◌, Option, Some, None, Result, Ok, Err, refl, sym, ap, subst, ◌∙◌, arith, Verf, Fault, Reply, lost, chosen, Pending, of_file, all_pending, Segments, last_end, Verdict, AllStable, SendAgain, verdict_of, Opens, Step, Repeat, Shelf, Turn, goes_again, is_first, CloseFile, Closing, Removal, Sending, Committing, Resending, CommittingAgain, Saving, SyncFile, Syncing, GivesUpBy, refusal_of, remove_busy, commit_told, file_at, joined, by-step, ends_as}
+use Rattle.core_session.proofs.Prelude.{◌≡◌, ◌≤◌, ◌+◌, ◌-◌, ◌&&◌, ◌⊎◌, inl, inr, ℕ, Bool, true, false, List, [], ◌∷◌, Option, Some, None, Result, Ok, Err, refl, sym, ap, subst, ◌∙◌, arith, Verf, Fault, Reply, lost, chosen, Pending, of_file, all_pending, Segments, last_end, Verdict, AllStable, SendAgain, verdict_of, Opens, Step, Repeat, Shelf, Turn, goes_again, is_first, CloseFile, Closing, Sending, Committing, Resending, CommittingAgain, Saving, SyncFile, Syncing, GivesUpBy, refusal_of, remove_busy, commit_told, file_at, joined, by-step}
 use Rattle.file_ops.specs.declared.close_file.Closing.TheVariants as closing
 use Rattle.file_ops.specs.declared.saving.Phase.{Phase}
 use Rattle.file_ops.specs.declared.sync_file.Syncing.TheVariants as syncing

@@ -1,5 +1,5 @@
 -- Of each byte that an answer settled there is evidence by then.
-use Rattle.core_session.proofs.Prelude.{◌≡◌, ◌≢◌, ◌≤◌, ◌<◌, ◌⊎◌, inl, inr, ℕ, suc, List, length, refl, sym, ap, subst, ◌∙◌, arith, cases_lt, Answer, Entry, Began, Answered, Delivered, Call, Reply, Op, At, Asked, Origin, AnsweredBefore, Ended, At-below, At-one, Modes, SettledBy, WroteAt, MadeFirm, at_once, by_commit, Evidence, Terms, WritesByte, Cuts, Mounted, Setup, View, KnowsRoot, GoesWith, MadeAndKept, PutsNamed, TouchedUntil}
+use Rattle.core_session.proofs.Prelude.{◌≡◌, ◌≢◌, ◌≤◌, ◌<◌, ◌⊎◌, inl, inr, ℕ, suc, List, length, refl, sym, ap, subst, ◌∙◌, arith, cases_lt, Answer, Entry, Began, Answered, Delivered, Call, Reply, Op, At, Asked, Origin, Ended, At-below, At-one, Modes, SettledBy, WroteAt, MadeFirm, at_once, by_commit, Evidence, WritesByte, Cuts, MadeAndKept, TouchedUntil}
 use Rattle.claims.specs.Settled.{later, itself, Overtaken}
 use Rattle.claims.specs.Touched.{MadeStable}
 use Rattle.world_model.specs.declared.answer.Answer.TheVariants.{Done}

@@ -20,7 +20,7 @@ use Rattle.core_session.proofs.syncs.Fate.{Fate, later, busy, refused, well, fat
 use Rattle.core_session.proofs.syncs.Lefts.{over}
 use Rattle.core_session.proofs.syncs.Looks.{Touching, LeftBefore}
 use Rattle.core_session.proofs.syncs.Looks as looks
-use Rattle.core_session.proofs.syncs.Stands.{Case, SinceTwo, SettledTwo, CameIt, EndsIt, Phase, Stands}
+use Rattle.core_session.proofs.syncs.Stands.{Case, SettledTwo, CameIt, EndsIt, Phase, Stands}
 use Rattle.core_session.proofs.syncs.Stands as stands
 use Rattle.core_session.proofs.syncs.Watched.{stands-all}
 use Rattle.core_session.proofs.syncs.WatchingAlong.{reached-watching}

@@ -1,5 +1,5 @@
 -- As an operation begins, what it may do to a byte of a file is known of it.
-use Rattle.core_session.proofs.Prelude.{◌≡◌, ◌<◌, ◌≤◌, ◌^◌, ◌+◌, ◌-◌, ℕ, List, [], ◌∷◌, ◌++◌, length, Bool, true, false, Option, Some, None, option_map, Ok, slice_get, replicate, refl, sym, ap, subst, ◌∙◌, append_assoc, arith, nat_lt, slice_index, if◌then◌else◌, le-leb, lt-ltb, ltb-false, slice_get-get_or, slice_get_within, Mode, Opened, covers, low-of, high-of, Entry, Began, Op, At, Modes, InSlot, IsOf, slot_of, Terms, WritesByte, Cuts, At-one, At-grow, At-below, At-last, Mounted, file_at, machine_of, Fits, Setup, IsIdle, View, Reaches, GoesWith, may, held-begins, always-later, Given, is-given, IsHeld, held-grow, byte_from, byte_by}
+use Rattle.core_session.proofs.Prelude.{◌≡◌, ◌<◌, ◌≤◌, ◌^◌, ◌+◌, ◌-◌, ℕ, List, [], ◌∷◌, ◌++◌, length, Bool, true, false, Option, Some, None, option_map, Ok, slice_get, replicate, refl, sym, ap, subst, ◌∙◌, append_assoc, arith, nat_lt, slice_index, if◌then◌else◌, le-leb, lt-ltb, ltb-false, slice_get-get_or, slice_get_within, Mode, Opened, covers, low-of, high-of, Entry, Began, Op, At, Modes, InSlot, IsOf, slot_of, Terms, WritesByte, At-one, At-grow, At-below, At-last, Mounted, file_at, machine_of, Fits, Setup, IsIdle, View, Reaches, GoesWith, may, held-begins, always-later, Given, is-given, IsHeld, held-grow, byte_from, byte_by}
 use Rattle.std.proofs.lemmas.Option.{get_or_from_slice_get}
 use Rattle.claims.specs.Touched.{Covers}
 use Rattle.std.specs.FinMap as finite

@@ -30,7 +30,7 @@ use Rattle.core_session.proofs.syncs.Phases.{Family, KnownBy, StageBy, Evident}
 use Rattle.core_session.proofs.syncs.Seen.{StateRested, Owned, free, taken}
 use Rattle.core_session.proofs.syncs.Showings.{Fresh, Made}
 use Rattle.core_session.proofs.syncs.Stages.{unsent, flies, again, held, stable, over}
-use Rattle.core_session.proofs.syncs.Stands.{GuardBy, SavesIt, by_slot, by_last, WritesIt, of_slot, of_last, Case, two, SinceTwo, SettledTwo, CameIt, EndsIt, before, after, ToldBefore, ToldAfter, Early, IsUnsent, Since_, Phase, Stands}
+use Rattle.core_session.proofs.syncs.Stands.{GuardBy, SavesIt, by_slot, by_last, WritesIt, of_slot, of_last, Case, two, SinceTwo, SettledTwo, CameIt, EndsIt, after, ToldBefore, ToldAfter, Phase, Stands}
 use Rattle.core_session.proofs.syncs.Stands as stands
 use Rattle.core_session.proofs.syncs.Turning.{IsFixed, fixed-answers, fixed-same, under-answers-back, under-plain-back}
 use Rattle.core_session.proofs.syncs.WatchingAlong.{SentWaits}

@@ -8,7 +8,7 @@ use Rattle.op_machines.specs.declared.machine.Machine.TheVariants as machines
 use Rattle.core_session.specs.drops.Told as told
 use Rattle.core_session.proofs.drops.CloseGoes.{both-in}
 use Rattle.core_session.proofs.drops.Giving.{past-at}
-use Rattle.core_session.proofs.drops.Guards.{Ranked, Stepping, CloserStep, OtherStep, LetGo, own-now}
+use Rattle.core_session.proofs.drops.Guards.{Ranked, Stepping, LetGo, own-now}
 use Rattle.core_session.proofs.drops.Guards as guards
 use Rattle.core_session.proofs.drops.GuardLaws.{StepOf, guarded-step}
 use Rattle.core_session.proofs.drops.LaneIs.{state-is, busy-over}

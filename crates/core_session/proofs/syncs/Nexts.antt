@@ -18,7 +18,7 @@ use Rattle.core_session.proofs.syncs.Plans.{Plan, Came_}
 use Rattle.core_session.proofs.syncs.Seen.{Owned}
 use Rattle.core_session.proofs.syncs.Showings.{Fresh, Wrote}
 use Rattle.core_session.proofs.syncs.Stages.{known-more, Stage, unsent, flies, again, held, stable, over}
-use Rattle.core_session.proofs.syncs.Stands.{SavesIt, by_slot, by_last, WritesIt, of_slot, of_last, Case, Has, one, two, SinceTwo, SettledTwo, CameIt, EndsIt, before, after, ToldBefore, ToldAfter, Early, IsUnsent, GuardBy, PutRuns, Since_, Phase}
+use Rattle.core_session.proofs.syncs.Stands.{SavesIt, by_slot, by_last, WritesIt, of_slot, of_last, Case, Has, one, two, SinceTwo, SettledTwo, CameIt, EndsIt, before, after, ToldBefore, ToldAfter, Early, GuardBy, PutRuns, Phase}
 use Rattle.core_session.proofs.syncs.Stands as stands
 use Rattle.core_session.proofs.syncs.Turning.{Turns, IsFixed}
 use Rattle.core_session.proofs.syncs.LaneSteps.{Landed}

@@ -11,7 +11,6 @@ use Rattle.write_back.specs.declared.state.State.{State}
 use Rattle.write_back.specs.declared.state.State.TheVariants.{Waiting, InFlight, Acked}
 use Rattle.write_back.specs.declared.state.Ready.TheVariants.{Refused}
 use Rattle.write_back.specs.declared.change.Change.TheVariants as by_change
-use Rattle.write_back.specs.declared.change.Change.TheVariants.{Settle, MarkAgain}
 use Rattle.write_back.specs.Effects.{IsAnswer}
 use Rattle.write_back.proofs.Adding.{cuts-so}
 use Rattle.write_back.proofs.Landings.{answer-acked, answer-return, lands-one, lands-part}

@@ -17,7 +17,7 @@ use Rattle.core_session.proofs.syncs.Fate.{Fate, Story, story-turns, fate-turns,
 use Rattle.core_session.proofs.syncs.Fates.{job_kind}
 use Rattle.core_session.proofs.syncs.LaneButs.{starts-but}
 use Rattle.core_session.proofs.syncs.Looks.{Touching, touching-on, ClosesIt, IsLeft, owed, was_left, left_, PutsOn}
-use Rattle.core_session.proofs.syncs.Nexts.{PlanBefore, PlanAfter, before-next, after-fate, after-story, landed-unsent, landed-since, ended-back, common-from, write-op, writer-kind, One, Two, Settles, CameS, EndsS, put-kind, Guarding, evident_, open_, ahead_, loose_, Unmade, Dropped, closes-by, puts-by, closes-none, puts-none, Outcome_, ahead-known, kept-known, PlanOwn, own-tale, saved-ends, saved-goes}
+use Rattle.core_session.proofs.syncs.Nexts.{PlanBefore, PlanAfter, before-next, after-fate, after-story, landed-unsent, landed-since, ended-back, common-from, write-op, writer-kind, One, Two, Settles, CameS, EndsS, put-kind, Guarding, evident_, open_, ahead_, loose_, Unmade, Dropped, closes-by, puts-by, closes-none, puts-none, Outcome_, ahead-known, kept-known, PlanOwn, saved-ends, saved-goes}
 use Rattle.core_session.proofs.syncs.Jobs.{Job}
 use Rattle.core_session.proofs.syncs.Levels.{Owner}
 use Rattle.core_session.proofs.syncs.Passing.{job-in}
@@ -27,7 +27,7 @@ use Rattle.core_session.proofs.syncs.Plans.{Plan, Came_, starts-came}
 use Rattle.core_session.proofs.syncs.Seen.{Owned, bases}
 use Rattle.core_session.proofs.syncs.Showings.{Fresh, Made}
 use Rattle.core_session.proofs.syncs.Stages.{unsent}
-use Rattle.core_session.proofs.syncs.Stands.{slot-of, Case, SinceTwo, Early, IsUnsent, Since_, Phase, Stands, ToldAfter, WritesIt, of_slot, of_last, ToldBefore, after, Has, before, GuardBy, SavesIt, PutRuns, LiveBy}
+use Rattle.core_session.proofs.syncs.Stands.{slot-of, Case, SinceTwo, Early, IsUnsent, Since_, Phase, Stands, ToldAfter, WritesIt, of_slot, of_last, after, before, GuardBy, SavesIt, PutRuns, LiveBy}
 use Rattle.core_session.proofs.syncs.Stands as stands
 use Rattle.core_session.proofs.syncs.StirsOn.{over-known, two-map, both-or, refused-done}
 use Rattle.core_session.proofs.syncs.Turning.{IsFixed, Turns, fixed-turns, turns-starts, turns-apart}

@@ -16,7 +16,7 @@ use Rattle.core_session.proofs.syncs.Fate.{Story, Fate, one-under, story-turns, 
 use Rattle.core_session.proofs.syncs.Fates.{job_kind}
 use Rattle.core_session.proofs.syncs.LaneButs.{stirs-but}
 use Rattle.core_session.proofs.syncs.Looks.{Touching, touching-on, ClosesIt, IsLeft, owed, was_left, left_, PutsOn}
-use Rattle.core_session.proofs.syncs.Nexts.{has-map, landed-unsent, landed-since, PlanBefore, PlanAfter, before-next, flown-on, after-fate, after-story, at-on, not-before, ended-back, common-from, known-from, One, Two, Settles, CameS, EndsS, MineIs, before-other, before-write, before-put, to-plan, Guarding, evident_, open_, ahead_, loose_, Unmade, Dropped, closes-by, puts-by, closes-none, puts-none, Outcome_, ahead-known, kept-known, PlanOwn, own-tale, saved-ends, saved-goes}
+use Rattle.core_session.proofs.syncs.Nexts.{has-map, landed-unsent, landed-since, PlanBefore, PlanAfter, before-next, after-fate, after-story, at-on, not-before, ended-back, common-from, known-from, One, Two, Settles, CameS, EndsS, MineIs, before-other, before-write, before-put, to-plan, Guarding, evident_, open_, ahead_, loose_, Unmade, Dropped, closes-by, puts-by, closes-none, puts-none, Outcome_, ahead-known, kept-known, PlanOwn, own-tale, saved-ends, saved-goes}
 use Rattle.core_session.proofs.syncs.Nexts as nexts
 use Rattle.core_session.proofs.syncs.Passing.{told}
 use Rattle.core_session.proofs.syncs.Phases.{Across, Family, KnownBy, over-more, Evident}

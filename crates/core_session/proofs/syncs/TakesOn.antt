@@ -20,7 +20,7 @@ use Rattle.core_session.proofs.syncs.Fate.{Story, Fate, one-under, later, busy, 
 use Rattle.core_session.proofs.syncs.Fates.{job_kind, save-is}
 use Rattle.core_session.proofs.syncs.LaneButs.{takes-but}
 use Rattle.core_session.proofs.syncs.Looks.{Touching, touching-on, ClosesIt, IsLeft, owed, was_left, left_, doomed, PutsOn}
-use Rattle.core_session.proofs.syncs.Nexts.{has-map, landed-unsent, landed-since, PlanBefore, PlanAfter, before-next, flown-on, after-fate, after-story, at-on, not-before, ended-back, common-from, known-from, One, Two, Settles, CameS, EndsS, MineIs, before-other, before-write, before-put, to-plan, put-kind, Guarding, evident_, open_, ahead_, loose_, Unmade, Dropped, closes-by, puts-by, closes-none, puts-none, Outcome_, ahead-known, kept-known, PlanOwn, own-tale, saved-ends, saved-goes, PlanPut, put-tale, put-made}
+use Rattle.core_session.proofs.syncs.Nexts.{has-map, landed-unsent, landed-since, PlanBefore, PlanAfter, before-next, after-fate, after-story, at-on, not-before, common-from, known-from, One, Two, Settles, CameS, EndsS, MineIs, before-other, before-write, before-put, to-plan, put-kind, Guarding, evident_, open_, ahead_, loose_, Unmade, Dropped, closes-by, puts-by, closes-none, puts-none, Outcome_, ahead-known, kept-known, PlanOwn, own-tale, saved-ends, saved-goes, PlanPut, put-tale, put-made}
 use Rattle.core_session.proofs.syncs.Nexts as nexts
 use Rattle.core_session.proofs.syncs.Passing.{told}
 use Rattle.core_session.proofs.syncs.Phases.{Across, Family, KnownBy, Evident}
@@ -29,7 +29,7 @@ use Rattle.core_session.proofs.syncs.Plans.{Plan, Came_, takes-came}
 use Rattle.core_session.proofs.syncs.Seen.{bases, Owned}
 use Rattle.core_session.proofs.syncs.Showings.{Fresh, Wrote, Made, flown-is, below-next, shows-write, shows-commit}
 use Rattle.core_session.proofs.syncs.Stages.{unsent}
-use Rattle.core_session.proofs.syncs.Stands.{WritesIt, of_slot, of_last, Case, ToldBefore, ToldAfter, after, SinceTwo, Has, Early, IsUnsent, Since_, Phase, before, GuardBy, SavesIt, by_slot, by_last, PutRuns, LiveBy}
+use Rattle.core_session.proofs.syncs.Stands.{WritesIt, of_slot, of_last, Case, ToldBefore, ToldAfter, after, SinceTwo, Has, Early, IsUnsent, Since_, Phase, before, GuardBy, by_slot, PutRuns, LiveBy}
 use Rattle.core_session.proofs.syncs.Stands as stands
 use Rattle.core_session.proofs.syncs.Turning.{IsFixed, Turns, fixed-turns, turns-take, under-on, under-was, turns-apart}
 use Rattle.nfs_file_calls.specs.declared.owned.FileKept.TheVariants as kept

@@ -1,5 +1,5 @@
 -- The COMMITs of a file, along a history in which puts find room.
-use Rattle.core_counts.proofs.Prelude.{◌≡◌, ◌≢◌, ◌⊎◌, inl, inr, ◌+◌, ◌*◌, ◌++◌, ℕ, Bool, true, false, List, [], ◌∷◌, length, All, Result, refl, sym, ap, subst, ◌∙◌, arith, All-weaker, All-nil, All-head, FileCall, same-or, Placed, AreDifferent, HasBegan, count_of, most_pending, IsCommitOf, commit, StableOf, WriterAt, Few, RepliedAt, info_call, Terms, most_tries, Entry, Began, Call, Reply, Fault, Op, Step, Repeat, Turn, Mounted, Machine, machine_of, Setup, View, Notes, IsNfs, GoesFrom}
+use Rattle.core_counts.proofs.Prelude.{◌≡◌, ◌≢◌, ◌⊎◌, inl, inr, ◌+◌, ◌*◌, ◌++◌, ℕ, Bool, true, false, List, [], ◌∷◌, length, All, Result, refl, sym, ap, subst, ◌∙◌, arith, All-weaker, All-nil, All-head, FileCall, same-or, Placed, IsCommitOf, commit, StableOf, WriterAt, Few, RepliedAt, info_call, Terms, most_tries, Entry, Began, Call, Reply, Fault, Op, Step, Repeat, Turn, Mounted, Machine, machine_of, Setup, View, Notes, IsNfs, GoesFrom}
 use Rattle.claims.specs.Asks.{Asks, Acts, Stabilizes, NeedsRoom, TakesRoom}
 use Rattle.claims.specs.CallCounts.{FewCommits}
 use Rattle.std.specs.Prelude.{sum_by}

@@ -1,5 +1,5 @@
 -- In a session whose writes, fills and puts together have no more bytes than it holds back, each put finds room for its bytes.
-use Rattle.core_counts.proofs.Prelude.{◌≡◌, ◌<◌, ◌≤◌, inl, inr, ◌+◌, ◌++◌, ℕ, Bool, true, false, List, [], ◌∷◌, length, append_assoc, Result, refl, sym, ap, subst, ◌∙◌, arith, ltb-true, Pending, all_pending, Placed, AreDifferent, HasBegan, IsWriter, count_of, most_pending, WriterAt, Fault, Entry, Began, Reply, Op, At, At-grow, Shelf, is_full, PutFile, Putting, Text, Mounted, FileMachine, Machine, PathMachine, file_of, Setup, Entered, Room, reached-room, stage_of, counts-cons, each-map, all-each, different-apart}
+use Rattle.core_counts.proofs.Prelude.{◌≡◌, ◌<◌, ◌≤◌, inl, inr, ◌+◌, ◌++◌, ℕ, Bool, true, false, List, [], ◌∷◌, length, append_assoc, Result, refl, sym, ap, subst, ◌∙◌, arith, ltb-true, Pending, all_pending, Placed, HasBegan, IsWriter, most_pending, WriterAt, Fault, Entry, Began, Reply, Op, At, At-grow, Shelf, is_full, PutFile, Putting, Text, Mounted, FileMachine, Machine, PathMachine, file_of, Setup, Entered, Room, reached-room, stage_of, counts-cons, each-map, all-each, different-apart}
 use Rattle.core_session.proofs.room.Entered.{IsPut}
 use Rattle.core_session.proofs.room.Rooms.{Stands}
 use Rattle.write_back.specs.Sound as backs

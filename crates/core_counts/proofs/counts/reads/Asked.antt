@@ -2,7 +2,7 @@
 use Rattle.core_counts.proofs.Prelude.{◌≡◌, ℕ, List, refl, sym, subst, ◌∙◌, IsReadOf, IsOf, Terms, Entry, Call, Op}
 use Rattle.claims.specs.CallCounts.{read, ReadsOf}
 use Rattle.nfs_file_calls.specs.declared.call.FileCall.TheVariants as files
-use Rattle.claims.specs.Asks.{Asks, Acts, MakesFile}
+use Rattle.claims.specs.Asks.{Asks, Acts}
 use Rattle.claims.specs.Asks as asks
 use Rattle.world_model.specs.declared.message.Call.TheVariants as calls
 

@@ -2,7 +2,6 @@
 use Rattle.core_counts.proofs.Prelude.{◌≡◌, ◌<◌, ◌≤◌, ◌⊎◌, inl, inr, ◌+◌, ◌-◌, ◌++◌, nat_eq, ℕ, Bool, true, false, List, length, get_or, slice_get, Some, refl, sym, ap, subst, ◌∙◌, arith, eqb-true, eqb-false, le-leb, lt-ltb, slice_get-get_or, Entry, Began, Sent, Op, At, UnderWay, Terms, OneLane, NeverFull, CoveredEarlier, Wrote, At-grow, Unsent, of_file, HasNoPiece, FilePending, rest_at, Cell, covers, is_ready, how_of, ready_of, low-of, high-of, Mounted, machine_of, Lane, Setup, View, Notes, Reaches, GoesFrom, NotAsStable, BeganOtherwise}
 use Rattle.std.proofs.lemmas.Option.{slice_get_within}
 use Rattle.claims.specs.Thrifty.{IsSync, IsPut, sync, close, Uncut, IsLatest, ShortWrite, WritesAt, earlier, itself}
-use Rattle.claims.specs.Touched.{Covers}
 use Rattle.core_counts.specs.thrift.Writes.{WritesLong}
 use Rattle.world_model.specs.declared.op.Op.TheVariants as ops
 use Rattle.claims.specs.Touched as touched_by

@@ -1,6 +1,6 @@
 -- What an operation did to a byte that was written before it, as another operation begins in the only lane: in the words of the model.
 use Rattle.core_counts.proofs.Prelude.{◌≡◌, ◌<◌, ◌++◌, ℕ, false, List, [], ◌∷◌, length, slice_get, Some, None, refl, sym, ap, subst, ◌∙◌, arith, get_or, ◌-◌, true, ◌+◌, Answer, Value, Fault, Entry, Began, Answered, Op, At, AnsweredBefore, EndsAt, Terms, WritesByte, At-grow, At-one, At-below, Mounted, machine_of, Lane, Setup, numbers_of, View, KnowsRoot, Reaches, GoesWith, begins-unbegun, Known, reached-all, AreAsked, slice_get-get_or, PutsTo, covers}
-use Rattle.claims.specs.Touched.{Cuts, Covers}
+use Rattle.claims.specs.Touched.{Covers}
 use Rattle.world_model.specs.declared.answer.Answer.TheVariants as answers
 use Rattle.world_model.specs.declared.op.Op.TheVariants as ops
 use Rattle.world_model.specs.Leads.{Leads}

@@ -1,7 +1,6 @@
 -- Where all operations are of one lane: as a put has gone well, a WRITE that covers each of its places was sent.
 use Rattle.core_counts.proofs.Prelude.{false, ◌≡◌, ◌≢◌, ◌<◌, inl, inr, ◌+◌, ℕ, suc, List, length, refl, sym, subst, arith, cases_lt, Verf, Answer, Entry, Began, Sent, Op, At, AnsweredBefore, PutsTo, Terms, OneLane, CoveredEarlier, Wrote, WritesByte, At-below, low-of, high-of, Mounted, machine_of, Setup, View, KnowsRoot, GoesWith}
 use Rattle.world_model.specs.Operations.{Ended}
-use Rattle.claims.specs.Touched.{RefusedWrite}
 use Rattle.nfs_file_calls.specs.declared.call.FileCall.TheVariants as files
 use Rattle.world_model.specs.declared.answer.Answer.TheVariants as answers
 use Rattle.world_model.specs.declared.message.Call.TheVariants as calls

@@ -1,5 +1,5 @@
 -- Where all operations are of one lane: a sync or close of a file with two places next to each other, along a history.
-use Rattle.core_counts.proofs.Prelude.{◌≡◌, ◌<◌, ◌≤◌, ◌⊎◌, inl, inr, ◌+◌, ◌-◌, ◌++◌, nat_eq, ℕ, Bool, true, false, List, [], ◌∷◌, length, get_or, Option, Some, None, option_map, Result, Err, position, slice_get, slice_set, refl, sym, ap, subst, ◌∙◌, arith, append_assoc, eqb-true, eqb-false, position-Some, slice_get-get_or, xid_at, Waiting, next_xid, waiting_at, Fault, Entry, Began, Answered, Sent, Delivered, Call, Reply, Op, At, UnderWay, OneLane, CoveredEarlier, At-grow, At-cases, At-last, length_last, Pending, of_file, IsNewest, fly_at, fly_in, FilePending, rest_at, Cell, said_of, Step, Shelf, Turn, file_at, IsUnused, Mounted, Machine, machine_of, Fits, Starts, Resumes, Takes, Lane, Purpose, State, Busy, Over, Setup, is_busy, numbers_of, IsIdle, with_state, IsRefused, Leads, Stirs, counted, StartsLane, TakesAt, View, turn_at, unmade_turn, in_flight, HearsRecord, Reaches, begins-unbegun, taken_one, none-busy, Flies, flies_of, flies_if, sender, look_at, was-sent, Known, taker-is, taker-one, lanes-under-way, idle-numbers, number_of, at-set, at-push, get-push, get-remove, skip, to-map, answered-grow, set-other, under-back, CallFits, fits-laws, unused-next, EachSound, Basis, basis-ready, stirs-basis, starts-basis, takes-basis, keeps-basis, KeepsHearing, reached-hearing, sent-piece, IsSent, Wholly, keeps-wholly, stirs-wholly, starts-wholly, takes-wholly, starts-has, resumes-has, takes-has, is_ready, how_of, ready_of, WaitsPlain, NotAsStable, BeganOtherwise}
+use Rattle.core_counts.proofs.Prelude.{◌≡◌, ◌<◌, ◌≤◌, ◌⊎◌, inl, inr, ◌+◌, ◌-◌, ◌++◌, nat_eq, ℕ, Bool, true, false, List, [], ◌∷◌, length, get_or, Option, Some, None, option_map, Result, Err, position, slice_get, slice_set, refl, sym, ap, subst, ◌∙◌, arith, append_assoc, eqb-true, eqb-false, position-Some, slice_get-get_or, xid_at, Waiting, next_xid, waiting_at, Fault, Entry, Began, Answered, Sent, Delivered, Call, Reply, Op, At, UnderWay, OneLane, CoveredEarlier, At-grow, At-cases, At-last, length_last, Pending, of_file, IsNewest, fly_at, fly_in, FilePending, rest_at, Cell, said_of, Step, Shelf, Turn, file_at, IsUnused, Mounted, Machine, machine_of, Fits, Starts, Resumes, Takes, Lane, Purpose, State, Busy, Over, Setup, is_busy, numbers_of, IsIdle, with_state, IsRefused, Leads, Stirs, counted, StartsLane, TakesAt, View, turn_at, unmade_turn, in_flight, HearsRecord, Reaches, begins-unbegun, taken_one, none-busy, Flies, flies_of, flies_if, sender, look_at, was-sent, Known, taker-is, taker-one, lanes-under-way, idle-numbers, number_of, at-set, at-push, get-push, get-remove, skip, to-map, answered-grow, set-other, under-back, unused-next, EachSound, Basis, basis-ready, stirs-basis, starts-basis, takes-basis, keeps-basis, KeepsHearing, reached-hearing, sent-piece, IsSent, Wholly, keeps-wholly, stirs-wholly, starts-wholly, takes-wholly, starts-has, resumes-has, takes-has, is_ready, how_of, ready_of, WaitsPlain, NotAsStable, BeganOtherwise}
 use Rattle.claims.specs.Thrifty.{IsSync, sync, close}
 use Rattle.core_session.proofs.order.Basis.{unused-idle}
 use Rattle.core_counts.specs.thrift.Writes.{OfSlot}

@@ -1,5 +1,5 @@
 -- Where all operations are of one lane and find room: a put whose bytes have two places next to each other, along a history.
-use Rattle.core_counts.proofs.Prelude.{◌≡◌, ◌<◌, ◌≤◌, ◌⊎◌, inl, inr, ◌+◌, ◌-◌, ◌^◌, ◌++◌, nat_eq, ℕ, Bool, true, false, List, [], ◌∷◌, length, Option, Some, None, Result, Err, position, slice_get, slice_set, refl, sym, ap, subst, ◌∙◌, arith, append_assoc, option_map, get_or, eqb-true, eqb-false, ltb-true, xid_at, Waiting, next_xid, waiting_at, Fault, Entry, Began, Answered, Sent, Delivered, Call, Reply, Op, Placed, AreDifferent, HasBegan, IsWriter, count_of, most_pending, WriterAt, At, UnderWay, OneLane, CoveredEarlier, NeverFull, At-grow, At-cases, At-last, length_last, Pending, of_file, all_pending, HasNoPiece, covers, said_of, Step, Shelf, Turn, PutFile, Putting, Saving, is_full, IsUnused, Text, Mounted, Machine, Opener, PathMachine, machine_of, put_of, front_of, last_of, Fits, file_of, Starts, Resumes, Takes, Lane, Purpose, State, Busy, Over, Setup, is_busy, numbers_of, IsIdle, with_state, IsRefused, Leads, Stirs, counted, StartsLane, TakesAt, View, turn_at, unmade_turn, in_flight, HearsRecord, Reaches, begins-unbegun, taken_one, flies_of, flies_path, flies_file, flies_put, flies_if, Flies, was-sent, Known, taker-is, taker-one, lanes-under-way, idle-numbers, number_of, at-set, at-push, get-push, get-remove, skip, to-map, answered-grow, set-other, under-back, CallFits, fits-laws, unused-next, EachSound, IsAwaited, TakesHas, FileHas, PathHas, PutHas, Basis, basis-ready, stirs-basis, starts-basis, takes-basis, keeps-basis, unmade-has, Entered, Room, reached-room, stage_of, counts-cons, each-map, all-each, different-apart, KeepsHearing, reached-hearing, sent-piece, IsSent, Wholly, keeps-wholly, stirs-wholly, starts-wholly, takes-wholly, starts-has, resumes-has, takes-has, none-busy, sender, look_at, slice_get-get_or, position-Some, WaitsPlain, NotAsStable}
+use Rattle.core_counts.proofs.Prelude.{◌≡◌, ◌<◌, ◌≤◌, ◌⊎◌, inl, inr, ◌+◌, ◌-◌, ◌^◌, ◌++◌, nat_eq, ℕ, Bool, true, false, List, [], ◌∷◌, length, Option, Some, None, Result, Err, position, slice_get, slice_set, refl, sym, ap, subst, ◌∙◌, arith, append_assoc, option_map, get_or, eqb-true, eqb-false, ltb-true, xid_at, Waiting, next_xid, waiting_at, Fault, Entry, Began, Answered, Sent, Delivered, Call, Reply, Op, most_pending, WriterAt, At, UnderWay, OneLane, CoveredEarlier, NeverFull, At-grow, At-cases, At-last, length_last, Pending, of_file, all_pending, HasNoPiece, covers, said_of, Step, Shelf, Turn, PutFile, Putting, Saving, is_full, IsUnused, Text, Mounted, Machine, Opener, PathMachine, machine_of, put_of, front_of, last_of, Fits, file_of, Starts, Resumes, Takes, Lane, Purpose, State, Busy, Over, Setup, is_busy, numbers_of, IsIdle, with_state, IsRefused, Leads, Stirs, counted, StartsLane, TakesAt, View, turn_at, unmade_turn, in_flight, HearsRecord, Reaches, begins-unbegun, taken_one, flies_of, flies_path, flies_file, flies_put, flies_if, Flies, was-sent, Known, taker-is, taker-one, lanes-under-way, idle-numbers, number_of, at-set, at-push, get-push, get-remove, skip, to-map, answered-grow, set-other, under-back, unused-next, EachSound, IsAwaited, TakesHas, FileHas, PathHas, PutHas, Basis, basis-ready, stirs-basis, starts-basis, takes-basis, keeps-basis, unmade-has, Entered, Room, reached-room, stage_of, counts-cons, each-map, all-each, different-apart, KeepsHearing, reached-hearing, sent-piece, IsSent, Wholly, keeps-wholly, stirs-wholly, starts-wholly, takes-wholly, starts-has, resumes-has, takes-has, none-busy, sender, look_at, slice_get-get_or, position-Some, WaitsPlain, NotAsStable}
 use Rattle.core_session.proofs.order.Basis.{unused-idle}
 use Rattle.core_session.proofs.room.Rooms.{Stands}
 use Rattle.world_model.specs.declared.op.Op.TheVariants as ops
