@@ -16,6 +16,7 @@ pub mod Steps
 pub mod UpTo
 pub mod Whole
 pub mod Over
+pub mod LostRuns
 pub mod LostSo
 pub mod LostSteps
 pub mod Telling

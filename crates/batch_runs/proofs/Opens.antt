@@ -1,5 +1,6 @@
 -- What a session of batches says, once its set-up came to something.
-use Rattle.std.proofs.Common.{◌≡◌, ℕ, List, [], ◌∷◌, length, Option, Some, None, Result, Ok, Err, refl, ap, arith}
+use Rattle.std.proofs.Common.{◌≡◌, ℕ, List, [], ◌∷◌, ◌++◌, length, Option, Some, None, Result, Ok, Err, refl, sym, ap, subst, append-nil, append_assoc, arith}
+use Rattle.core_facts.proofs.Losing.{lost-grow}
 use Rattle.world_model.specs.declared.answer.Fault.{Fault}
 use Rattle.world_model.specs.declared.entry.Entry.{Entry}
 use Rattle.world_model.specs.declared.tally.Tally.{Tally}
@@ -29,6 +30,7 @@ use Rattle.script_runs.proofs.Readings.{reads_more, reads_none}
 use Rattle.script_runs.proofs.StreamLaws.{appends_none}
 use Rattle.batch_runs.specs.declared.answered.Answered.{Answered}
 use Rattle.batch_runs.specs.declared.stop.Stop.{Stop}
+use Rattle.batch_runs.specs.Parts.{entries_in}
 use Rattle.batch_runs.specs.Opening.{OpensWith, lost, opened, refused, unready}
 use Rattle.batch_runs.specs.Running.{IsRead, LosesScripts, RunsOver, ended_with}
 
@@ -48,6 +50,11 @@ is-opened s first v h so = (
   so.ends.idle,
 )
 
+-- a session that is lost stays so
+lost-behind : (h es : List Entry) → IsLost h (length h) → IsLost (h ++ es) (length (h ++ es))
+lost-behind h [] l = subst (λ (t : List Entry). IsLost t (length t)) (sym (append-nil h)) l
+lost-behind h (e ∷ es) l = subst (λ (t : List Entry). IsLost t (length t)) (append_assoc h (e ∷ []) es) (lost-behind (h ++ e ∷ []) es (lost-grow h e l))
+
 module _ (s : Settings) (lines : List ScriptLine) (now : Answered) (left : Option (List Read)) (result : Result ℕ Stop) (first ms : ℕ) (is : IsFirst (ms ∷ []) s.xid first) where
   -- it was set up
   pub ready-told : (old mid new : Option History) (v : SetUp) (given text : List ℕ) → FitsSession s first v → Along old mid (λ h k. ours h ≡ [] → SetsUp s first (Ok v) k)
@@ -64,15 +71,16 @@ module _ (s : Settings) (lines : List ScriptLine) (now : Answered) (left : Optio
   -- it was lost in its set-up
   pub lost-told : (old mid new : Option History) (tally : Tally) (given text : List ℕ) → Along old mid (λ h k. ours h ≡ [] → SetsUp s first (Err (Lost tally)) k)
       → Relates mid new (λ h k. IsUnmarked h → tally ≡ tally_of h → IsRead lines left (λ l. LosesScripts s.count now l result given text h k))
-      → Relates mid new (λ h k. IsLost h (length h) → IsLost k (length k))
       → Relates old new (λ before h. before ≡ [] → IsRead lines left (λ l. OpensWith Leaves s now l (ms ∷ given) h result text))
-  lost-told None mid new tally given text up r stays = tt
-  lost-told (Some x) None new tally given text up r stays = absurd up
-  lost-told (Some x) (Some y) None tally given text up r stays = absurd r
-  lost-told (Some x) (Some y) (Some z) tally given text up r stays = λ e batch asks.
+  lost-told None mid new tally given text up r = tt
+  lost-told (Some x) None new tally given text up r = absurd up
+  lost-told (Some x) (Some y) None tally given text up r = absurd r
+  lost-told (Some x) (Some y) (Some z) tally given text up r = λ e batch asks.
       let so = up.1 (ap ours e) in
-      lost ms first given refl (first-in s.xid ms first given is) tally y.entries so (r (fresh y.entries so.unmarked) so.ends.counts batch asks)
-      (stays (record { to = length y.entries; by = omega arith; loses = so.ends.loses }))
+      let loses = r (fresh y.entries so.unmarked) so.ends.counts batch asks in
+      lost ms first given refl (first-in s.xid ms first given is) tally y.entries so loses
+      (subst (λ (t : List Entry). IsLost t (length t)) (sym loses.runs.history)
+      (lost-behind y.entries (entries_in loses.runs.parts ++ loses.runs.rest.entries) (record { to = length y.entries; by = omega arith; loses = so.ends.loses })))
 
   -- the mount was refused
   pub refused-told : (old mid : Option History) (fault : Fault) (text : List ℕ) → Along old mid (λ h k. ours h ≡ [] → SetsUp s first (Err (Refused fault)) k) → TellsMount fault (ended_with result) text
@@ -122,14 +130,14 @@ module _ (s : Settings) (lines : List ScriptLine) (now : Answered) (left : Optio
 
   pub lost-says : (tally : Tally) → Along old mid (λ h k. ours h ≡ [] → SetsUp s first (Err (Lost tally)) k)
       → Passes b c mid new w0 w1 (λ given text h k. IsUnmarked h → tally ≡ tally_of h → IsRead lines left (λ l. LosesScripts s.count now l result given text h k))
-      → Relates mid new (λ h k. IsLost h (length h) → IsLost k (length k)) → OpenSays w0 w1 a c old new s lines now left result
-  lost-says tally up p stays = record {
+      → OpenSays w0 w1 a c old new s lines now left result
+  lost-says tally up p = record {
     text = p.text;
     added = from-lane w0 w1 p.text p.added;
     is = (
       one.0 ∷ p.given,
       reads_more a b c one.0 p.given one.1 (all-read b c p.given p.read),
-      lost-told s lines now left result first one.0 one.2 old mid new tally p.given p.text up p.told stays,
+      lost-told s lines now left result first one.0 one.2 old mid new tally p.given p.text up p.told,
     );
   }
 
