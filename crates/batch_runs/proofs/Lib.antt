@@ -20,4 +20,5 @@ pub mod LostRuns
 pub mod LostSo
 pub mod LostSteps
 pub mod Telling
+pub mod Tops
 pub mod LostUpTo

@@ -1,5 +1,5 @@
 -- A script of a session that was lost in its set-up, and what is found behind it, with what the clock gave and what was written.
-use Rattle.std.proofs.Common.{◌≡◌, ◌+◌, ℕ, inl, inr, List, [], ◌∷◌, ◌++◌, All, length, Bool, Option, Some, None, Result, Ok, Err, refl, sym, ap, subst, ◌∙◌, nat_eq, if◌then◌else◌, arith}
+use Rattle.std.proofs.Common.{◌≡◌, ◌+◌, ℕ, inl, inr, List, [], ◌∷◌, ◌++◌, All, length, Bool, Option, Some, None, Result, Ok, Err, refl, sym, subst, arith}
 use Rattle.world_model.specs.declared.entry.Entry.{Entry}
 use Rattle.world_model.specs.declared.tally.Tally.{Tally}
 use Rattle.world_model.specs.Counts.{tally_of}
@@ -24,9 +24,13 @@ use Rattle.batch_runs.proofs.OneRuns.{ended_text}
 use Rattle.batch_runs.proofs.Saying.{passes-on}
 
 -- 0 for a script without lines, and else 6
-pub status-some : (script : List ScriptLine) (status : ℕ) → (length script ≡ 0 → status ≡ 0) → ((length script ≡ 0 → ⊥) → status ≡ 6) → status ≡ status_of_lines script
-status-some [] status zero six = zero refl
-status-some (l ∷ ls) status zero six = six (λ e. omega (arith, e))
+pub status-none : (script : List ScriptLine) → length script ≡ 0 → 0 ≡ status_of_lines script
+status-none [] none = refl
+status-none (l ∷ ls) none = absurd (omega (arith, none))
+
+pub status-some : (script : List ScriptLine) → (length script ≡ 0 → ⊥) → 6 ≡ status_of_lines script
+status-some [] some = absurd (some refl)
+status-some (l ∷ ls) some = refl
 
 module _ (r0 r1 : Option (List ℕ)) (t0 t1 : Option History) (w0 w1 : Option (List ℕ)) (count : Bool) (script : List ScriptLine) (tally : Tally) (before : Answered) where
   -- it was cut off in its lines

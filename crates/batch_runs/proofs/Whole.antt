@@ -24,11 +24,11 @@ use Rattle.batch_runs.proofs.Parts.{length-append, reads-append, text-append, wo
 abbrev reads_in : List Part → List Read
 reads_in parts = map (λ (p : Part). p.read) parts
 
-abbrev nothing : Answered
+abbrev pub nothing : Answered
 nothing = record { count = 0; status = 0 }
 
 -- all batches of an input, where the source tells it
-abbrev first_left : Option (List ℕ) → Option (List Read)
+abbrev pub first_left : Option (List ℕ) → Option (List Read)
 first_left left = left_in left (record { held = record { bytes = []; reads = 18446744073709551615 }; lines = 0 })
 
 abbrev left_of : Option (List Read) → List Read

@@ -4,6 +4,7 @@ ghost use Rattle.std.specs.Prelude.{◌≡◌, ◌≤◌, ◌<◌, ℕ, IfOk, If
 ghost use Rattle.world_model.specs.Counts.{tally_of};
 ghost use Rattle.link_dials.specs.Dials.{DialsOnly};
 ghost use Rattle.outside.specs.Causes.{Rose};
+ghost use Rattle.lane_session.specs.Losing.{status_of};
 ghost use Rattle.lane_session.specs.Sessions.{IsUnmarked};
 ghost use Rattle.lane_session.specs.Streams.{Passes};
 ghost use Rattle.script_batches.specs.Batches.{work_left};
@@ -121,10 +122,17 @@ fn lose_one<L: Link, C: Clock, K: Sink>(
         Ok(()) => {}
         Err(halt) => return Err(of_halt(halt)),
     }
-    let status = if script.count() == 0 {
+    finish(alloc, count, tally, lost_status(script), answered, out)
+}
+
+/// The status of a batch whose lines are answered so.
+fn lost_status(script: &Script) -> u8
+    ensures is { result ≡ status_of script.now }
+    ensures worst { IsWorst result }
+{
+    if script.count() == 0 {
         status::WELL
     } else {
         status::LINK_LOST
-    };
-    finish(alloc, count, tally, status, answered, out)
+    }
 }
