@@ -1,3 +1,4 @@
+use Rattle.std.proofs.Common.{ℕ}
 use Rattle.batch_runs.proofs.Causing.{all-caused, rose-before, stop-caused}
 use Rattle.batch_runs.proofs.LostRuns.{lost-found, lost-stopped}
 use Rattle.batch_runs.proofs.lost.lose_next.Goals as goal
@@ -15,4 +16,4 @@ returns-in-Err-clause-loses g c =
     lost-stopped _ _ _ _ _ _ c.args.count c.args.script.now c.args.tally.now c.args.answered.now c.lose_one.new.answered c.lose_one.new.answered _ _ c.in-Err.stop c.in-Err.ensures.runs
 
 pub returns-in-Err-clause-cause : goal.returns-in-Err-clause-cause
-returns-in-Err-clause-cause g c = stop-caused _ _ c.in-Err.stop _ _ _ _ (λ x. absurd x) (λ x. x) c.in-Err.ensures.cause
+returns-in-Err-clause-cause g c = stop-caused ℕ ℕ c.in-Err.stop _ _ _ _ (λ x. absurd x) (λ x. x) c.in-Err.ensures.cause

@@ -1,4 +1,4 @@
-use Rattle.std.proofs.Common.{arith}
+use Rattle.std.proofs.Common.{ℕ, arith}
 use Rattle.link_dials.proofs.Dialing.{dials_same, dials_then}
 use Rattle.batch_runs.proofs.Causing.{caused-behind}
 use Rattle.batch_runs.proofs.LostRuns.{lose-ends, lose-none, lose-on, lose-stops}
@@ -53,4 +53,4 @@ pub returns-in-Err-clause-dials : goal.returns-in-Err-clause-dials
 returns-in-Err-clause-dials g c = λ port. dials_then port _ _ _ (c.losing.invariant.dials port) (c.in-Err.ensures.dials port)
 
 pub returns-in-Err-clause-cause : goal.returns-in-Err-clause-cause
-returns-in-Err-clause-cause g c = caused-behind _ _ c.in-Err.stop _ _ _ _ _ _ c.losing.invariant.read c.losing.invariant.written c.in-Err.ensures.cause
+returns-in-Err-clause-cause g c = caused-behind ℕ ℕ c.in-Err.stop _ _ _ _ _ _ c.losing.invariant.read c.losing.invariant.written c.in-Err.ensures.cause

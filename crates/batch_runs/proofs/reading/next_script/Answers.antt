@@ -1,4 +1,4 @@
-use Rattle.std.proofs.Common.{arith}
+use Rattle.std.proofs.Common.{ℕ, None, arith}
 use Rattle.batch_runs.specs.Parts.{RefusedFrom}
 use Rattle.batch_runs.proofs.Answering.{end-said, refused-said, script-said, stop-said}
 use Rattle.batch_runs.proofs.Causing.{caused-behind}
@@ -41,7 +41,7 @@ returns-in-Ok-End-clause-finds g c =
     end-said _ _ _ _ _ _ _ _ _ c.reading.invariant.all r.takes
 
 pub returns-in-Err-clause-finds : goal.returns-in-Err-clause-finds
-returns-in-Err-clause-finds g c = stop-said _ _ _ _ _ _ _ _ _ c.reading.invariant.all c.in-Err.stop c.in-Err.ensures.takes
+returns-in-Err-clause-finds g c = stop-said _ _ _ _ _ _ _ _ None c.reading.invariant.all c.in-Err.stop c.in-Err.ensures.takes
 
 pub returns-in-Err-clause-cause : goal.returns-in-Err-clause-cause
-returns-in-Err-clause-cause g c = caused-behind _ _ c.in-Err.stop _ _ _ _ _ _ c.reading.invariant.read c.reading.invariant.written c.in-Err.ensures.cause
+returns-in-Err-clause-cause g c = caused-behind ℕ ℕ c.in-Err.stop _ _ _ _ _ _ c.reading.invariant.read c.reading.invariant.written c.in-Err.ensures.cause

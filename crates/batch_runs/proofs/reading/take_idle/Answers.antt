@@ -1,3 +1,4 @@
+use Rattle.batch_runs.proofs.Causing.{all-caused, rose-before}
 use Rattle.batch_runs.proofs.Answering.{found-asked, found-less}
 use Rattle.batch_runs.proofs.Idling.{idle-found, idle-none, idle-stopped}
 use Rattle.batch_runs.proofs.reading.take_idle.Goals as goal
@@ -24,3 +25,8 @@ returns-in-Ok-None-clause-takes g c =
 
 pub returns-in-Err-clause-takes : goal.returns-in-Err-clause-takes
 returns-in-Err-clause-takes g c = idle-stopped _ _ _ _ _ _ _ c.in-Err.stop c.in-Err.ensures.finds
+
+pub returns-in-Ok-Some-clause-cause : goal.returns-in-Ok-Some-clause-cause
+returns-in-Ok-Some-clause-cause g c =
+    let r = rw c.in-Ok-Some.field-0-is at c.in-Ok-Some.ensures in
+    all-caused _ c.answer_idle.result _ _ _ _ (λ x. absurd x) (λ x. rose-before _ _ _ r.written x) c.answer_idle.ensures.cause

@@ -1,6 +1,5 @@
-use Rattle.std.proofs.Common.{Option, List, arith}
+use Rattle.std.proofs.Common.{ℕ, arith}
 use Rattle.lane_session.proofs.Ports.{keeps_none, keeps_then}
-use Rattle.nfs_script.specs.declared.script.ScriptLine.{ScriptLine}
 use Rattle.batch_runs.proofs.Causing.{caused-behind}
 use Rattle.batch_runs.proofs.InSteps.{in-ends, in-none, in-on, in-stops}
 use Rattle.batch_runs.proofs.running.run_in.Goals as goal
@@ -58,4 +57,4 @@ pub returns-in-Err-clause-dials : goal.returns-in-Err-clause-dials
 returns-in-Err-clause-dials g c = keeps_then _ _ _ _ _ _ c.running.invariant.dials c.in-Err.ensures.dials
 
 pub returns-in-Err-clause-cause : goal.returns-in-Err-clause-cause
-returns-in-Err-clause-cause g c = caused-behind (Option (List ScriptLine)) _ c.in-Err.stop _ _ _ _ _ _ c.running.invariant.read c.running.invariant.written c.in-Err.ensures.cause
+returns-in-Err-clause-cause g c = caused-behind ℕ ℕ c.in-Err.stop _ _ _ _ _ _ c.running.invariant.read c.running.invariant.written c.in-Err.ensures.cause

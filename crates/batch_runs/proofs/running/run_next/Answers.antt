@@ -1,4 +1,4 @@
-use Rattle.std.proofs.Common.{Unit}
+use Rattle.std.proofs.Common.{ℕ}
 use Rattle.batch_runs.proofs.Causing.{all-caused, rose-before, stop-caused}
 use Rattle.batch_runs.proofs.OneRuns.{found-passes, port-same, stop-passes}
 use Rattle.batch_runs.proofs.running.run_next.Goals as goal
@@ -18,4 +18,4 @@ pub returns-in-Err-clause-runs : goal.returns-in-Err-clause-runs
 returns-in-Err-clause-runs g c = stop-passes _ _ _ _ _ _ c.args.count c.args.script.now c.args.session.now c.run_one.new.session c.args.answered.now c.run_one.new.answered _ c.in-Err.stop c.in-Err.ensures.runs
 
 pub returns-in-Err-clause-cause : goal.returns-in-Err-clause-cause
-returns-in-Err-clause-cause g c = stop-caused _ _ c.in-Err.stop _ _ _ _ (λ x. absurd x) (λ x. x) c.in-Err.ensures.cause
+returns-in-Err-clause-cause g c = stop-caused ℕ ℕ c.in-Err.stop _ _ _ _ (λ x. absurd x) (λ x. x) c.in-Err.ensures.cause

@@ -1,4 +1,4 @@
-use Rattle.std.proofs.Common.{Unit}
+use Rattle.std.proofs.Common.{ℕ}
 use Rattle.batch_runs.proofs.Causing.{all-caused, halt-caused, rose-before}
 use Rattle.batch_runs.proofs.Joining.{worst-of}
 use Rattle.batch_runs.proofs.OneRuns.{cut-passes, ran-passes}
@@ -11,7 +11,7 @@ pub returns-in-Err-clause-runs : goal.returns-in-Err-clause-runs
 returns-in-Err-clause-runs g c = cut-passes _ _ _ _ _ _ c.args.count c.args.script.now c.args.session.now c.work.new.self c.args.answered.now c.in-Err.halt c.of_halt.result c.of_halt.ensures c.in-Err.ensures.goes
 
 pub returns-in-Err-clause-cause : goal.returns-in-Err-clause-cause
-returns-in-Err-clause-cause g c = halt-caused _ _ c.in-Err.halt c.of_halt.result _ c.of_halt.ensures c.in-Err.ensures.cause
+returns-in-Err-clause-cause g c = halt-caused ℕ ℕ c.in-Err.halt c.of_halt.result _ c.of_halt.ensures c.in-Err.ensures.cause
 
 pub returns-clause-runs : goal.returns-clause-runs
 returns-clause-runs g c =
