@@ -1,6 +1,7 @@
 #!/usr/bin/env bash
 # Checks what documents name: that each link leads somewhere, that each path of a crate is there, that each definition that
-# docs/CLAIMS.md names is one, that callers are shown as they are, and that README is short. It needs nothing but a shell.
+# docs/CLAIMS.md names is one, that it names each clause of `run` and each field of the headline, that callers are shown as they
+# are, that numbers which can be counted are right, and that README is short. It needs nothing but a shell.
 set -u
 here=$(dirname -- "$(readlink -f -- "${BASH_SOURCE[0]}")")
 . "$here/lib.sh"
@@ -63,6 +64,56 @@ check_claims() {
     done < <(grep -oE '`[A-Z][a-z][A-Za-z]+`' docs/CLAIMS.md | tr -d '`' | sort -u)
 }
 
+# Each clause of `run` and each field of what it promises is named in CLAIMS.md.
+check_clauses() {
+    local name
+    while read -r name; do
+        grep -qF -- "\`$name\`" docs/CLAIMS.md
+        count $? "docs/CLAIMS.md doesn't name $name"
+    done < <({
+        sed -n '/^pub fn run</,/^{/p' crates/nfs_client/src/top.rt | sed -n 's/^ *ensures \([a-z_]*\) {.*/\1/p'
+        sed -n 's/^  pub \([a-z_]*\) :.*/\1/p' crates/nfs_client/specs/Headline.antt | grep -vx first
+    } | sort -u)
+}
+
+# The file of a module: the longest front of its name that is one.
+file_of() {
+    local path=crates/${1//.//}
+    while [ ! -e "$path.antt" ] && [[ $path == */*/* ]]; do path=${path%/*}; done
+    file=$path.antt
+}
+
+# How many files of definitions the imports of one reach, and how many of their lines aren't blank and import nothing.
+reached() {
+    local -A seen=(["$1"]=1)
+    local -a left=("$1")
+    local module file
+    while [ ${#left[@]} -gt 0 ]; do
+        file=${left[-1]}
+        unset 'left[-1]'
+        while read -r module; do
+            file_of "$module"
+            [ -e "$file" ] && [ -z "${seen[$file]:-}" ] || continue
+            seen[$file]=1
+            left+=("$file")
+        done < <(grep -oE 'Rattle\.[a-z_0-9]+\.(specs|proofs)(\.[A-Za-z_0-9]+)+' "$file" | grep -v '\.specs\.\(declared\|contracts\)\.' | sed 's/^Rattle\.//')
+    done
+    echo "${#seen[@]} $(cat "${!seen[@]}" | grep -cvE '^ *$|^ *(pub )?use ')"
+}
+
+check_numbers() {
+    local files lines rounded crate edits told
+    read -r files lines < <(reached crates/nfs_client/specs/Headline.antt)
+    rounded=$(((lines + 50) / 100 * 100))
+    grep -q "reach $files files, with some $((rounded / 1000)),$(printf %03d $((rounded % 1000))) lines" docs/CLAIMS.md
+    count $? "docs/CLAIMS.md: the imports of the headline reach $files files with $lines lines"
+    while read -r crate told; do
+        edits=$(find "crates/$crate/must-fail" -name '*.edit' 2>/dev/null | wc -l)
+        [ "${told:-0}" = "$edits" ]
+        count $? "docs/PERFORMANCE.md: $crate has $edits edits"
+    done < <(sed -n 's/^| `\([a-z_0-9]*\)` |[^|]*|[^|]*| *\([0-9]*\) *|$/\1 \2/p' docs/PERFORMANCE.md)
+}
+
 # What a CALLING.md shows of library_uses: the block behind the file's name.
 block() {
     awk -v name="$2" '$0 == "`" name "`:" { at = 1; next } at == 1 && /^```/ { at = 2; next } at == 2 && /^```$/ { exit } at == 2' "$1"
@@ -82,6 +133,8 @@ check_links
 check_paths
 check_callers
 check_claims
+check_clauses
+check_numbers
 words=$(wc -w <README.md)
 [ "$words" -le 1500 ]
 count $? "README.md has $words words"

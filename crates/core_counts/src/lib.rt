@@ -118,7 +118,7 @@ pub fn written_writes_are_long()
 /// Of a session that was set up, whose operations are all of one lane, and whose writers together write no more than a session holds back: where one operation
 /// was the last to write a place of a file and the one behind it, a WRITE of a later sync, close or put (or of that operation, where it is a put) that has
 /// fewer bytes than it may and ends between the two places ends where an earlier WRITE went on, if no truncate of the file was answered before, and no close or
-/// put of it refused (RFC 1813, section 3.3.7). This is `LongWrites` of `world_model`.
+/// put of it refused (RFC 1813, section 3.3.7). This is `LongWrites` of `claims`.
 pub fn writes_are_long()
     ensures { WritesLong }
 {}

@@ -75,7 +75,7 @@ pub fn refused_closes_are_owed()
     ensures { RefusedClosesAreOwed }
 {}
 
-/// What is owed is owed until the answers are noted; and by the next record the history shows that the last close left the file (`Left` in `world_model`), and
+/// What is owed is owed until the answers are noted; and by the next record the history shows that the last close left the file (`Left` in `claims`), and
 /// that its answer, or one that was noted just before, was a refusal (`GivesUp`).
 pub fn owed_closes_leave()
     ensures { OwedClosesLeave }
@@ -93,7 +93,7 @@ pub fn guards_are_kept()
 /// As long as the session isn't lost, of a byte that a write, fill or put wrote, and that a later sync, close or put of the file settled, or the put itself:
 /// unless this client touched it, it was made stable by the answer, and each WRITE of its place that is sent from its first flight on carries it. What touches
 /// it: another operation writes its place, or cuts it off; or, after the write began and before the answer that settled it, the last close left the file and a
-/// refusal went with it (`Left` and `GivesUp` in `world_model`).
+/// refusal went with it (`Left` and `GivesUp` in `claims`).
 pub fn synced_bytes_were_made_stable()
     ensures { SyncedBytes }
 {}
@@ -123,7 +123,7 @@ pub fn settled_bytes_are_evident()
     ensures { SettledEvident }
 {}
 
-/// Each byte that was settled stays, and stable, unless it was touched: world_model's `Settled`, whatever became of closes and puts (RFC 1813, sections 3.3.7,
+/// Each byte that was settled stays, and stable, unless it was touched: `claims`'s `Settled`, whatever became of closes and puts (RFC 1813, sections 3.3.7,
 /// 3.3.21 and 4.8).
 pub fn settled_bytes_stay()
     ensures { SettledStay }

@@ -19,7 +19,8 @@ use Rattle.core_session.specs.calls.Sessions.{AreAsked}
 use Rattle.core_session.specs.calls.Whole.{IsSetUpFor, GoesFrom}
 use Rattle.core_facts.proofs.Noting.{notes-reach}
 use Rattle.core_session.specs.settled.Settling as settling
-use Rattle.script_runs.specs.LaneRuns.{setup_of}
+use Rattle.script_runs.specs.declared.stock.Stock.{Stock}
+use Rattle.script_runs.specs.Stock.{setup_with}
 
 module _ (s : Settings) (first : ℕ) (v : SetUp) (before : List Entry) (so : SetsUp s first (Ok v) before) (fits : FitsSession s first v) where
   none-began : (i : ℕ) → NoneBegan before i
@@ -43,8 +44,8 @@ module _ (s : Settings) (first : ℕ) (v : SetUp) (before : List Entry) (so : Se
     unrepeated = so.sent.unrepeated;
   }
 
-  set-up-for : IsSetUpFor (mounted_by s (setup_of s v)) (terms_by s first) (setup_of s v) before
-  set-up-for = record {
+  set-up-for : (stock : Stock) → IsSetUpFor (mounted_by s (setup_with stock s v)) (terms_by s first) (setup_with stock s v) before
+  set-up-for stock = record {
     unbegun = so.unmarked.began;
     asked = set-up-asked;
     root = so.ends.rooted;
@@ -54,13 +55,13 @@ module _ (s : Settings) (first : ℕ) (v : SetUp) (before : List Entry) (so : Se
     total = let total = fits.total in omega (arith, total);
   }
 
-  pub goes-from : (h more : List Entry) → h ≡ before ++ more → AreAsked h → (has : HasCore (mounted_by s (setup_of s v)) (setup_of s v) before h)
-      → GoesFrom (mounted_by s (setup_of s v)) (terms_by s first) (setup_of s v) before h has.core
-  goes-from h more is asked has = record {
-    set_up = set-up-for;
+  pub goes-from : (stock : Stock) (h more : List Entry) → h ≡ before ++ more → AreAsked h → (has : HasCore (mounted_by s (setup_with stock s v)) (setup_with stock s v) before h)
+      → GoesFrom (mounted_by s (setup_with stock s v)) (terms_by s first) (setup_with stock s v) before h has.core
+  goes-from stock h more is asked has = record {
+    set_up = set-up-for stock;
     more = more;
     grows = is;
-    goes = record { nocto = refl; reaches = notes-reach (machine_of (mounted_by s (setup_of s v))) (setup_of s v) h has.core has.notes };
+    goes = record { nocto = refl; reaches = notes-reach (machine_of (mounted_by s (setup_with stock s v))) (setup_with stock s v) h has.core has.notes };
     noac = refl;
     some = fits.read;
     cred = refl;

@@ -1,5 +1,6 @@
 -- What a session shows is that it is caused, in the words of the model.
 use Rattle.std.proofs.Common.{◌≡◌, ◌⊎◌, inl, ℕ, List}
+use Rattle.page_cache.specs.Pages.{Pages}
 use Rattle.world_model.specs.declared.answer.Answer.TheVariants.{Refused}
 use Rattle.world_model.specs.declared.answer.Fault.TheVariants as faults
 use Rattle.world_model.specs.declared.entry.Entry.{Entry}
@@ -16,8 +17,8 @@ use Rattle.nfs_client.specs.Shown.{AllRowed, OksShown, SlotsShown}
 abbrev pub AllSpent : Terms → ℕ → List Entry → Type 0
 AllSpent terms status h = (lane x y : ℕ) (op : Op) → (status ≡ 0) ⊎ (status ≡ 1) → Ended h lane x op y (Refused faults.Spent) → calls_in h ≡ terms.calls
 
-module _ (terms : Terms) (script : List Entry) (status : ℕ) (h : List Entry) where
-  pub all-caused : CallsAsked terms h → CallCounts terms script h → OksShown terms h → AllRowed terms h → SlotsShown terms h → StaysLost h → AllSpent terms status h
+module _ (pages : Pages) (terms : Terms) (script : List Entry) (status : ℕ) (h : List Entry) where
+  pub all-caused : CallsAsked terms h → CallCounts terms script h → OksShown terms h → AllRowed terms h → SlotsShown pages terms h → StaysLost h → AllSpent terms status h
       → Caused terms script status h
   all-caused calls counts oks rows slots stays spent = record {
     calls = calls;

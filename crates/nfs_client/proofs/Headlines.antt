@@ -6,6 +6,7 @@ use Rattle.world_model.specs.declared.entry.Entry.TheVariants.{Began, Answered, 
 use Rattle.world_model.specs.declared.tally.Tally.{Tally}
 use Rattle.world_model.specs.Clocked.{clocks}
 use Rattle.world_model.specs.Counts.{tally_of}
+use Rattle.world_model.specs.Entries.{ours}
 use Rattle.world_model.specs.History.{History}
 use Rattle.link_dials.specs.Sendings.{GoesToPorts}
 use Rattle.nfs_script.specs.declared.script.ScriptLine.{ScriptLine}
@@ -112,7 +113,7 @@ quiet-promises s first h quiet t is =
     }
 
 -- its lines were answered that it is lost
-lost-headline : (s : Settings) (lines : List ScriptLine) (first ms : ℕ) (rest : List ℕ) (tally : Tally) (before h : List Entry) (status : ℕ) (text : List ℕ)
+pub lost-headline : (s : Settings) (lines : List ScriptLine) (first ms : ℕ) (rest : List ℕ) (tally : Tally) (before h : List Entry) (status : ℕ) (text : List ℕ)
     → lines ≢ [] → SetsUp s first (Err (Lost tally)) before → SessionIs s.count lines rest before h status text → LosesOnly lines before h → TextOf s.count (tally_of h) h status text
     → Headline s lines (ms ∷ rest) h status text
 lost-headline s lines first ms rest tally before h status text some so is only says =
@@ -133,7 +134,7 @@ lost-headline s lines first ms rest tally before h status text some so is only s
     }
 
 -- no line was begun, as memory ran out in the set-up or the mount was refused
-early-headline : (s : Settings) (lines : List ScriptLine) (first ms : ℕ) (h : List Entry) (status : ℕ) (text : List ℕ) → lines ≢ [] → IsUnmarked h → GoesToPorts s.mount_port s.nfs_port h
+pub early-headline : (s : Settings) (lines : List ScriptLine) (first ms : ℕ) (h : List Entry) (status : ℕ) (text : List ℕ) → lines ≢ [] → IsUnmarked h → GoesToPorts s.mount_port s.nfs_port h
     → IsQuiet (terms_by s first) h → EndsSo s lines h status text → Headline s lines (ms ∷ []) h status text
 early-headline s lines first ms h status text some unmarked ports quiet ends =
     let none = broken-none lines h (fresh h unmarked) in
@@ -160,11 +161,11 @@ early-headline s lines first ms h status text some unmarked ports quiet ends =
       server = quiet-promises s first h quiet;
     }
 
-refused-ends : (s : Settings) (lines : List ScriptLine) (first : ℕ) (fault : Fault) (h : List Entry) (status : ℕ) (text : List ℕ) → SetsUp s first (Err (Refused fault)) h → TellsMount fault status text
+pub refused-ends : (s : Settings) (lines : List ScriptLine) (first : ℕ) (fault : Fault) (h : List Entry) (status : ℕ) (text : List ℕ) → SetsUp s first (Err (Refused fault)) h → TellsMount fault status text
     → EndsSo s lines h status text
 refused-ends s lines first fault h status text so tells = unmounted so.ends.path fault so.ends.mounting so.ends.refused so.unmarked.began tells
 
-unready-ends : (s : Settings) (lines : List ScriptLine) (h : List Entry) (status : ℕ) (text : List ℕ) → IsUnmarked h → status ≡ 7 → text ≡ [] → EndsSo s lines h status text
+pub unready-ends : (s : Settings) (lines : List ScriptLine) (h : List Entry) (status : ℕ) (text : List ℕ) → IsUnmarked h → status ≡ 7 → text ≡ [] → EndsSo s lines h status text
 unready-ends s lines h status text unmarked seven none =
     ran (cut (inr seven)) (cut-text s.count (tally_of h) status text h (inr seven) (subst (IsCutIn [] h) (sym none) (broken-none lines h (fresh h unmarked)).shown))
 
@@ -189,7 +190,7 @@ empty-headline s given h status text none is says =
       };
       ends = ran is.ends says;
       caused = quiet-caused (terms_by s 1) h quiet _ status;
-      ports = empty-ports s h none;
+      ports = empty-ports s h (ap ours none);
       resends = empty-resends h none;
       thrifty = quiet-thrifty (terms_by s 1) h quiet;
       evidence = quiet-evident (terms_by s 1) h quiet (modes_of s) (origin_of s.export);

@@ -12,3 +12,6 @@ pub mod SetUpAlone
 pub mod Headlines
 pub mod UnheardOk
 pub mod Whole
+pub mod NotOwn
+pub mod KeptHeadlines
+pub mod BackPages

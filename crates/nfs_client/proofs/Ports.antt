@@ -26,7 +26,8 @@ use Rattle.session_setup.specs.Outcomes.{SetsUp}
 use Rattle.session_setup.proofs.Calls.{heads_same, same_program}
 use Rattle.lane_session.specs.Bonds.{HasCore}
 use Rattle.lane_session.specs.Running.{mounted_by}
-use Rattle.script_runs.specs.LaneRuns.{setup_of}
+use Rattle.script_runs.specs.declared.stock.Stock.{Stock}
+use Rattle.script_runs.specs.Stock.{setup_with}
 use Rattle.nfs_client.proofs.Hushed.{IsHushed, AreHushed}
 
 -- a call of NFS goes to its port
@@ -37,15 +38,15 @@ nfs-port mount nfs (calls.Mount call) is = absurd (omega (arith, is))
 
 -- ---- a session that was set up
 
-module _ (s : Settings) (first : ℕ) (v : SetUp) (before h : List Entry) (so : SetsUp s first (Ok v) before)
-    (has : HasCore (mounted_by s (setup_of s v)) (setup_of s v) before h) where
+module _ (stock : Stock) (s : Settings) (first : ℕ) (v : SetUp) (before h : List Entry) (so : SetsUp s first (Ok v) before)
+    (has : HasCore (mounted_by s (setup_with stock s v)) (setup_with stock s v) before h) where
   -- a record that the core sends is a call of NFS
-  sent-nfs : (i xid : ℕ) (call : Call) (bytes : List ℕ) → SpellsCall xid call bytes → IsAfterAnswers (machine_of (mounted_by s (setup_of s v))) (setup_of s v) h i (Sent bytes)
+  sent-nfs : (i xid : ℕ) (call : Call) (bytes : List ℕ) → SpellsCall xid call bytes → IsAfterAnswers (machine_of (mounted_by s (setup_with stock s v))) (setup_with stock s v) h i (Sent bytes)
       → program_of call ≡ NFS_PROGRAM
   sent-nfs i xid call bytes spells after =
       let n = sent_now after.old bytes after.new after.step in
-      let rows : Rows (setup_of s v) after.before after.old = reached-rows (machine_of (mounted_by s (setup_of s v))) (setup_of s v) after.before after.old
-      (notes-reach (machine_of (mounted_by s (setup_of s v))) (setup_of s v) after.before after.old after.notes) in
+      let rows : Rows (setup_with stock s v) after.before after.old = reached-rows (machine_of (mounted_by s (setup_with stock s v))) (setup_with stock s v) after.before after.old
+      (notes-reach (machine_of (mounted_by s (setup_with stock s v))) (setup_with stock s v) after.before after.old after.notes) in
       let waits = at_sent after.old.calls.cred after.old.calls.first_xid (next_xid after.old.calls) n.xid after.old.calls.calls n.call rows.sound.calls.each n.due in
       let made = (rows.rows n.xid n.call waits.before).made in
       let spelled : SpellsCall n.xid made.asked bytes = subst (λ (b : List ℕ). SpellsCall n.xid made.asked b) (sym n.bytes_is) made.spells.spells in
@@ -54,7 +55,7 @@ module _ (s : Settings) (first : ℕ) (v : SetUp) (before h : List Entry) (so : 
   goes-to-nfs : (i xid : ℕ) (call : Call) (bytes : List ℕ) → At h i (Sent bytes) → length before ≤ i → SpellsCall xid call bytes → port_for s.mount_port s.nfs_port call ≡ s.nfs_port
   goes-to-nfs i xid call bytes at late spells = elim (has.since i bytes at) [
     | inl early ↦ absurd (omega (arith, early, late))
-    | inr begun ↦ (elim (answers-first (machine_of (mounted_by s (setup_of s v))) (setup_of s v) h has.core has.notes i (Sent bytes) at tt) [
+    | inr begun ↦ (elim (answers-first (machine_of (mounted_by s (setup_with stock s v))) (setup_with stock s v) h has.core has.notes i (Sent bytes) at tt) [
       | inl none ↦ absurd (none begun.at begun.lane begun.line begun.op begun.began begun.before)
       | inr after ↦ nfs-port s.mount_port s.nfs_port call (sent-nfs i xid call bytes spells after)
     ])
@@ -100,5 +101,5 @@ pub lost-ports : (s : Settings) (first : ℕ) (tally : Tally) (before more h : L
 lost-ports s first tally before more h so is each = hushed-ports s first (Err (Lost tally)) before more h so is each
 
 -- there were no lines
-pub empty-ports : (s : Settings) (h : List Entry) → h ≡ [] → GoesToPorts s.mount_port s.nfs_port h
-empty-ports s h none = ports-none s.mount_port s.nfs_port h (ap ours none)
+pub empty-ports : (s : Settings) (h : List Entry) → ours h ≡ [] → GoesToPorts s.mount_port s.nfs_port h
+empty-ports s h none = ports-none s.mount_port s.nfs_port h none

@@ -1,5 +1,5 @@
 -- A session that was set up shows what its core does: its root was known as each operation began, and its terms are those of the settings.
-use Rattle.std.proofs.Common.{◌≡◌, ◌≤◌, ◌<◌, ◌+◌, ◌⊎◌, inl, inr, ℕ, List, [], ◌∷◌, ◌++◌, length, take, Bool, true, false, cond, Some, Ok, refl, sym, ap, subst, arith}
+use Rattle.std.proofs.Common.{◌≡◌, ◌≤◌, ◌<◌, ◌+◌, ◌⊎◌, inl, inr, ℕ, List, [], ◌∷◌, ◌++◌, length, Bool, true, false, cond, Some, Ok, refl, sym, ap, subst, arith}
 use Rattle.std.proofs.lemmas.Bool.{cases_lt, eq-eqb}
 use Rattle.std.proofs.lemmas.List.Elements.{All-nil}
 use Rattle.attr_cache.specs.declared.lives.Lives.{Lives}
@@ -10,8 +10,7 @@ use Rattle.world_model.specs.declared.entry.Entry.{Entry}
 use Rattle.world_model.specs.declared.entry.Entry.TheVariants.{Began, Clock, Sent}
 use Rattle.world_model.specs.declared.op.Op.{Op}
 use Rattle.world_model.specs.declared.op.Op.TheVariants as ops
-use Rattle.world_model.specs.declared.answer.Answer.TheVariants.{Done, Refused}
-use Rattle.world_model.specs.declared.answer.Value.TheVariants.{Bytes}
+use Rattle.world_model.specs.declared.answer.Answer.TheVariants.{Refused}
 use Rattle.world_model.specs.declared.answer.Fault.TheVariants.{Spent}
 use Rattle.claims.specs.CallsAsked.{CallsAsked, NoneBegan}
 use Rattle.claims.specs.Caused.{calls_in}
@@ -44,9 +43,7 @@ use Rattle.core_facts.proofs.Owning.{reached-owned}
 use Rattle.core_facts.proofs.Refusals.{refusals-shown}
 use Rattle.core_facts.proofs.Rows.{reached-rows}
 use Rattle.core_facts.proofs.SlotTheorems.{places-caused, places-exact, slots-hold-opens}
-use Rattle.core_answers.specs.pages.Kept.{IsKeptFrom}
 use Rattle.core_answers.specs.pages.True.{GivenTrue}
-use Rattle.core_answers.specs.reads.From.{ReadGivenFrom}
 use Rattle.core_answers.proofs.answers.LonePuts.{lone-refusals}
 use Rattle.core_answers.proofs.answers.PutRules.{put-faults-few, put-rules-shown}
 use Rattle.core_answers.specs.asks.PutCalls.{IsMadeAlone}
@@ -117,14 +114,16 @@ use Rattle.lane_session.specs.Running.{mounted_by}
 use Rattle.core_counts.proofs.coarse.Along.{writes-were-long}
 use Rattle.law_calls.proofs.CallsWait.{xid_of_call}
 use Rattle.core_counts.specs.coarse.WereLong.{write_call}
+use Rattle.script_runs.specs.declared.stock.Stock.{Stock}
 use Rattle.script_runs.specs.LaneRuns.{setup_of}
-use Rattle.nfs_client.specs.Shown.{AllRowed, CallsShown, CountsShown, OksShown, SlotsShown, PutsShown, CompleteShown, FaultsShown, KeptShown, RestShown, StableShown, HonestShown, RunShows, NoneUnderWay}
+use Rattle.script_runs.specs.Stock.{nothing_stored, pages_for, setup_with}
+use Rattle.nfs_client.specs.Shown.{AllRowed, CallsShown, CountsShown, OksShown, SlotsShown, PutsShown, CompleteShown, FaultsShown, KeptShown, RestShown, StableShown, HonestShown, RunShows, RunShowsOver, NoneUnderWay}
 use Rattle.nfs_client.proofs.AllAsked.{goes-from, only-sets-up}
 use Rattle.nfs_client.proofs.AllOks.{all-oks}
 use Rattle.nfs_client.proofs.Causes.{all-caused}
 use Rattle.nfs_client.proofs.Ports.{ready-ports}
 use Rattle.nfs_client.proofs.Spent.{ended-sent}
-use Rattle.page_cache.specs.Pages.{Pages, nothing_kept, page_of}
+use Rattle.page_cache.specs.Pages.{nothing_kept}
 
 -- ---- the root
 
@@ -148,7 +147,7 @@ puts-named h asked x lane line offset path bytes at = (asked x lane line (ops.Pu
 -- ---- what a core shows
 
 -- no page was kept from the start
-none-given : (t : History) → GivenTrue nothing_kept t
+pub none-given : (t : History) → GivenTrue nothing_kept t
 none-given t = All-nil _
 
 reached-may : (machine : ℕ → Op → Machine) (setup : Setup) (h : List Entry) (v : View) → Reaches machine setup h v → MaySetUp setup
@@ -165,17 +164,9 @@ module _ (m : Mounted) (setup : Setup) (h : List Entry) (core : View) (r : Reach
   goes-with : (terms : Terms) → m.nocto ≡ terms.modes.nocto → GoesWith m terms setup h core
   goes-with terms nocto = record { nocto = nocto; reaches = r }
 
-  -- what is shown of kept pages, and of reads, with the pages that were kept from the start
-  abbrev PagesOver : Pages → Type 0
-  PagesOver p = (file : List ℕ) (index : ℕ) (bytes : List ℕ) → page_of file index core.shelf.pages ≡ Some bytes → IsKeptFrom p h core.shelf.pages file index bytes
-
-  abbrev ReadsOver : Pages → Terms → Type 0
-  ReadsOver p terms = (lane x slot offset count y : ℕ) (bytes : List ℕ) → Ended h lane x (ops.Read slot offset count) y (Done (Bytes bytes))
-      → ReadGivenFrom p terms.modes (take y h) x (ops.Read slot offset count) offset bytes
-
-  kept-shown : setup.pages ≡ nothing_kept → (terms : Terms) → m.nocto ≡ terms.modes.nocto → KnowsRoot terms.origin h m.root → PutsNamed h → KeptShown terms setup h core
-  kept-shown bare terms nocto root named = record {
-    pages = subst (λ (p : Pages). PagesOver p) bare (pages-shown m setup h core r);
+  kept-shown : (terms : Terms) → m.nocto ≡ terms.modes.nocto → KnowsRoot terms.origin h m.root → PutsNamed h → KeptShown terms setup h core
+  kept-shown terms nocto root named = record {
+    pages = pages-shown m setup h core r;
     pending = pending-written m terms setup h core (goes-with terms nocto);
     held_back = λ found told. pending-held m terms setup h core (goes-with terms nocto) found root named told;
     carried = pieces-carried m setup h core r;
@@ -184,11 +175,11 @@ module _ (m : Mounted) (setup : Setup) (h : List Entry) (core : View) (r : Reach
     saved = puts-written m setup h core r;
   }
 
-  slots-shown : setup.pages ≡ nothing_kept → (terms : Terms) → m.nocto ≡ terms.modes.nocto → SlotsShown terms h
-  slots-shown bare terms nocto =
+  slots-shown : (terms : Terms) → m.nocto ≡ terms.modes.nocto → SlotsShown setup.pages terms h
+  slots-shown terms nocto =
       let g : GoesWith m terms setup h core = goes-with terms nocto in
       record {
-        reads = subst (λ (p : Pages). ReadsOver p terms) bare (reads-given m terms setup h core g);
+        reads = reads-given m terms setup h core g;
         held = slots-hold-opens m terms setup h core g;
         places = places-exact m terms setup h core g;
         caused = places-caused m terms setup h core g;
@@ -276,61 +267,61 @@ takes-readings s first v before h so grown timed takes = record {
   ];
 }
 
-module _ (s : Settings) (first : ℕ) (v : SetUp) (t : History) (core : View) (lawful : Lawful t) (fresh : Fresh t) (takes : TakesReadings t.entries) (root : KnowsRoot (origin_of s.export) t.entries v.root)
-    (asked : AreAsked t.entries) (r : Reaches (machine_of (mounted_by s (setup_of s v))) (setup_of s v) t.entries core) where
+module _ (stock : Stock) (s : Settings) (first : ℕ) (v : SetUp) (t : History) (core : View) (given : GivenTrue (pages_for stock v.root) t) (lawful : Lawful t) (fresh : Fresh t) (takes : TakesReadings t.entries) (root : KnowsRoot (origin_of s.export) t.entries v.root)
+    (asked : AreAsked t.entries) (r : Reaches (machine_of (mounted_by s (setup_with stock s v))) (setup_with stock s v) t.entries core) where
   abbrev m : Mounted
-  m = mounted_by s (setup_of s v)
+  m = mounted_by s (setup_with stock s v)
 
-  goes-honestly : GoesHonestly m (setup_of s v) (modes_of s) (origin_of s.export) t core
+  goes-honestly : GoesHonestly m (setup_with stock s v) (modes_of s) (origin_of s.export) t core
   goes-honestly = record { lasts = longest-last s.lives; lawful = lawful; fresh = fresh; takes = takes; root = root; reached = r }
 
   honest-shown : HonestShown s v.root core t
   honest-shown = record {
-    stats = stats-led m (setup_of s v) (longest_of s.lives) t core (longest-last s.lives) lawful fresh r;
-    reads = reads-from m (terms_by s first) (setup_of s v) t core (record { nocto = refl; reaches = r }) lawful fresh (none-given t);
+    stats = stats-led m (setup_with stock s v) (longest_of s.lives) t core (longest-last s.lives) lawful fresh r;
+    reads = reads-from m (terms_by s first) (setup_with stock s v) t core (record { nocto = refl; reaches = r }) lawful fresh given;
     recent =
-        reads-recent m (terms_by s first) (setup_of s v) t core (record { nocto = refl; reaches = r }) refl
-        (λ may. record { takes = takes; lasts = longest-last s.lives }) lawful fresh (none-given t);
+        reads-recent m (terms_by s first) (setup_with stock s v) t core (record { nocto = refl; reaches = r }) refl
+        (λ may. record { takes = takes; lasts = longest-last s.lives }) lawful fresh given;
     read_true =
-        reads-current m (terms_by s first) (setup_of s v) t core (record { nocto = refl; reaches = r }) refl
-        (λ may. record { takes = takes; lasts = longest-last s.lives }) root (puts-named t.entries asked) lawful fresh (none-given t);
-    read_back = λ asks. stable-read m (terms_by s first) (setup_of s v) t core (record { nocto = refl; reaches = r }) refl asks lawful fresh (none-given t);
-    stood = names-stood m (setup_of s v) (longest_of s.lives) t core (longest-last s.lives) lawful fresh r;
-    pages = pages-true m (setup_of s v) t core lawful fresh r (none-given t);
-    ages = attrs-aged m (setup_of s v) (modes_of s) (origin_of s.export) t core (longest-last s.lives) lawful fresh takes root r;
-    names = names-held m (setup_of s v) (modes_of s) (origin_of s.export) t core goes-honestly;
-    lists = lists-whole m (setup_of s v) (modes_of s) (origin_of s.export) t core goes-honestly;
+        reads-current m (terms_by s first) (setup_with stock s v) t core (record { nocto = refl; reaches = r }) refl
+        (λ may. record { takes = takes; lasts = longest-last s.lives }) root (puts-named t.entries asked) lawful fresh given;
+    read_back = λ asks. stable-read m (terms_by s first) (setup_with stock s v) t core (record { nocto = refl; reaches = r }) refl asks lawful fresh given;
+    stood = names-stood m (setup_with stock s v) (longest_of s.lives) t core (longest-last s.lives) lawful fresh r;
+    pages = pages-true m (setup_with stock s v) t core lawful fresh r given;
+    ages = attrs-aged m (setup_with stock s v) (modes_of s) (origin_of s.export) t core (longest-last s.lives) lawful fresh takes root r;
+    names = names-held m (setup_with stock s v) (modes_of s) (origin_of s.export) t core goes-honestly;
+    lists = lists-whole m (setup_with stock s v) (modes_of s) (origin_of s.export) t core goes-honestly;
   }
 
 -- ---- all
 
 -- ---- stable bytes
 
-module _ (s : Settings) (first : ℕ) (v : SetUp) (t : History) (core : View) (lawful : Lawful t) (once : Once t.entries) (takes : TakesReadings t.entries) (root : KnowsRoot (origin_of s.export) t.entries v.root)
-    (only : OnlySetsUp t.entries) (asked : AreAsked t.entries) (notes : Notes (machine_of (mounted_by s (setup_of s v))) (setup_of s v) t.entries core) where
+module _ (stock : Stock) (s : Settings) (first : ℕ) (v : SetUp) (t : History) (core : View) (given : GivenTrue (pages_for stock v.root) t) (lawful : Lawful t) (once : Once t.entries) (takes : TakesReadings t.entries) (root : KnowsRoot (origin_of s.export) t.entries v.root)
+    (only : OnlySetsUp t.entries) (asked : AreAsked t.entries) (notes : Notes (machine_of (mounted_by s (setup_with stock s v))) (setup_with stock s v) t.entries core) where
   abbrev mount : Mounted
-  mount = mounted_by s (setup_of s v)
+  mount = mounted_by s (setup_with stock s v)
 
-  with-core : GoesWith mount (terms_by s first) (setup_of s v) t.entries core
-  with-core = record { nocto = refl; reaches = notes-reach (machine_of mount) (setup_of s v) t.entries core notes }
+  with-core : GoesWith mount (terms_by s first) (setup_with stock s v) t.entries core
+  with-core = record { nocto = refl; reaches = notes-reach (machine_of mount) (setup_with stock s v) t.entries core notes }
 
-  briefly : (modes_of s).nocto ≡ true → KeepsBriefly (modes_of s) (setup_of s v) t.entries
+  briefly : (modes_of s).nocto ≡ true → KeepsBriefly (modes_of s) (setup_with stock s v) t.entries
   briefly may = record { takes = takes; lasts = longest-last s.lives }
 
   stable-shown : StableShown s t
   stable-shown =
       let named : PutsNamed t.entries = puts-named t.entries asked in
       record {
-        lone_puts = lone-puts-stay mount (terms_by s first) (setup_of s v) t core with-core root only lawful once;
-        synced = synced-stay mount (terms_by s first) (setup_of s v) t core with-core root named only lawful once;
-        settled = settled-stay mount (terms_by s first) (setup_of s v) t core with-core root named only lawful once;
-        cuts_stay = cuts-stay mount (terms_by s first) (setup_of s v) t core refl notes root named only lawful once;
+        lone_puts = lone-puts-stay mount (terms_by s first) (setup_with stock s v) t core with-core root only lawful once;
+        synced = synced-stay mount (terms_by s first) (setup_with stock s v) t core with-core root named only lawful once;
+        settled = settled-stay mount (terms_by s first) (setup_with stock s v) t core with-core root named only lawful once;
+        cuts_stay = cuts-stay mount (terms_by s first) (setup_with stock s v) t core refl notes root named only lawful once;
         reads = λ fresh. record {
-          current = reads-current mount (terms_by s first) (setup_of s v) t core with-core refl briefly root named lawful fresh (none-given t);
-          own = own-bytes-read mount (terms_by s first) (setup_of s v) t core with-core refl briefly root named only lawful fresh (none-given t) once;
-          cut = cuts-read mount (terms_by s first) (setup_of s v) t core refl refl notes briefly root named only lawful fresh (none-given t) once;
+          current = reads-current mount (terms_by s first) (setup_with stock s v) t core with-core refl briefly root named lawful fresh given;
+          own = own-bytes-read mount (terms_by s first) (setup_with stock s v) t core with-core refl briefly root named only lawful fresh given once;
+          cut = cuts-read mount (terms_by s first) (setup_with stock s v) t core refl refl notes briefly root named only lawful fresh given once;
         };
-        ends = λ fresh. reads-end-rightly mount (terms_by s first) (setup_of s v) t core with-core refl briefly root named only lawful fresh (none-given t) once;
+        ends = λ fresh. reads-end-rightly mount (terms_by s first) (setup_with stock s v) t core with-core refl briefly root named only lawful fresh given once;
       }
 
 -- ---- complete sessions
@@ -352,69 +343,98 @@ module _ (s : Settings) (first : ℕ) (v : SetUp) (before h : List Entry) (so : 
       let at : At h w.at (Sent w.bytes) = subst (λ (k : List Entry). At k w.at (Sent w.bytes)) (sym grown.1) (At-grow before grown.0 w.at (Sent w.bytes) w.sent) in
       record { at = w.at; bytes = w.bytes; sent = at; under = w.under; before = At-below h w.at (Sent w.bytes) at }
 
+  -- one that began with a stock of pages
+  module _ (stock : Stock) where
+    pub shows-over : AllTimed h → AreAsked h → HasCore (mounted_by s (setup_with stock s v)) (setup_with stock s v) before h → Dials s.nfs_port before h
+        → RunShowsOver stock s first v before h
+    shows-over timed asked has dials =
+        let root = root-known s first v before so h grown in
+        let takes : TakesReadings h = takes-readings s first v before h so grown timed has.takes in
+        let mounted : Mounted = mounted_by s (setup_with stock s v) in
+        let reaches : Reaches (machine_of mounted) (setup_with stock s v) h has.core = notes-reach (machine_of mounted) (setup_with stock s v) h has.core has.notes in
+        let terms : Terms = terms_by s first in
+        let from : GoesFrom mounted terms (setup_with stock s v) before h has.core = goes-from s first v before so fits stock h grown.0 grown.1 asked has in
+        let calls : CallsShown terms (setup_with stock s v) before h =
+        calls-shown mounted (setup_with stock s v) h has.core reaches before has.since terms refl root (all-asked mounted terms (setup_with stock s v) before h has.core from has.notes) in
+        let counts : CountsShown terms h =
+        λ script follows. record {
+          equal = equal-few mounted terms (setup_with stock s v) before h has.core from has.notes;
+          reads = few-reads-made mounted terms (setup_with stock s v) before h has.core from has.notes;
+          writes = few-writes-made mounted terms (setup_with stock s v) before h has.core from has.notes;
+          commits = few-commits mounted terms (setup_with stock s v) before h has.core from has.notes;
+          pages = pages-few mounted terms (setup_with stock s v) before h has.core from has.notes;
+          hidden = hidden-few mounted terms (setup_with stock s v) before h has.core from has.notes script follows;
+        } in
+        let oks : OksShown terms h = all-oks mounted terms (setup_with stock s v) h has.core (record { nocto = refl; reaches = reaches }) root asked in
+        let slots : SlotsShown (pages_for stock v.root) terms h = slots-shown mounted (setup_with stock s v) h has.core reaches terms refl in
+        let rows : AllRowed terms h = refusals-all-rowed mounted terms (setup_with stock s v) before h has.core from has.notes in
+        record {
+          has = has;
+          calls = calls;
+          counts = counts;
+          ports = ready-ports stock s first v before h so has dials;
+          writes = λ i xid offset how file bytes rec at spells late.
+              writes-were-long mounted (setup_with stock s v) h has.core reaches i xid offset how file bytes rec at spells (elim (calls.among i xid rec at (xid_of_call xid (write_call file offset how bytes) rec spells)) [
+                | inl early ↦ absurd (omega (arith, early, late))
+                | inr among ↦ among.low
+              ]);
+          oks = oks;
+          slots = slots;
+          puts = puts-refused mounted (setup_with stock s v) h has.core reaches terms root asked;
+          faults = faults-shown mounted (setup_with stock s v) h has.core reaches before has.since terms calls sent-early fits.total asked
+              (record { goes = record { nocto = refl; reaches = reaches }; noac = refl; some = (reached-may (machine_of mounted) (setup_with stock s v) h has.core reaches).sizes.read; known = root })
+              rows;
+          rest = rest-shown mounted (setup_with stock s v) h has.core reaches;
+          caused = λ lines status follows ends.
+              all-caused (pages_for stock v.root) terms (entries_of lines) status h calls.asked (counts (entries_of lines) follows) oks rows slots has.stays
+              (λ lane x y op by_itself ended.
+              calls-sent mounted (setup_with stock s v) h has.core reaches before has.since terms calls sent-early fits.total lane x op y ended
+              (ended-sent mounted (setup_with stock s v) h has.core reaches lines status ends by_itself));
+          evidence = settled-evident mounted terms (setup_with stock s v) h has.core (record { nocto = refl; reaches = reaches }) root (puts-named h asked);
+          kept = kept-shown mounted (setup_with stock s v) h has.core reaches terms refl root (puts-named h asked);
+          complete = λ t is. complete-shown mounted terms (setup_with stock s v) before t has.core (subst (λ (k : List Entry). GoesFrom mounted terms (setup_with stock s v) before k has.core) (sym is) from)
+              (subst (λ (k : List Entry). Notes (machine_of mounted) (setup_with stock s v) k has.core) (sym is) has.notes);
+          stable = λ t is lawful once given.
+              stable-shown stock s first v t has.core given lawful once (subst TakesReadings (sym is) takes)
+              (subst (λ (k : List Entry). KnowsRoot (origin_of s.export) k v.root) (sym is) root)
+              (subst OnlySetsUp (sym is) (only-sets-up s first v before so fits h grown.0 grown.1 has.since))
+              (subst AreAsked (sym is) asked)
+              (subst (λ (k : List Entry). Notes (machine_of mounted) (setup_with stock s v) k has.core) (sym is) has.notes);
+          honest = λ t is lawful fresh given.
+              honest-shown stock s first v t has.core given lawful fresh
+              (subst TakesReadings (sym is) takes)
+              (subst (λ (k : List Entry). KnowsRoot (origin_of s.export) k v.root) (sym is) root)
+              (subst AreAsked (sym is) asked)
+              (subst (λ (k : List Entry). Reaches (machine_of mounted) (setup_with stock s v) k has.core) (sym is) reaches);
+        }
+
+  -- one that began without
   pub run-shows : AllTimed h → AreAsked h → HasCore (mounted_by s (setup_of s v)) (setup_of s v) before h → Dials s.nfs_port before h → RunShows s first v before h
   run-shows timed asked has dials =
-      let root = root-known s first v before so h grown in
-      let takes : TakesReadings h = takes-readings s first v before h so grown timed has.takes in
+      let over : RunShowsOver nothing_stored s first v before h = shows-over nothing_stored timed asked has dials in
       let mounted : Mounted = mounted_by s (setup_of s v) in
-      let reaches : Reaches (machine_of mounted) (setup_of s v) h has.core = notes-reach (machine_of mounted) (setup_of s v) h has.core has.notes in
       let terms : Terms = terms_by s first in
-      let from : GoesFrom mounted terms (setup_of s v) before h has.core = goes-from s first v before so fits h grown.0 grown.1 asked has in
-      let calls : CallsShown terms (setup_of s v) before h =
-      calls-shown mounted (setup_of s v) h has.core reaches before has.since terms refl root (all-asked mounted terms (setup_of s v) before h has.core from has.notes) in
-      let counts : CountsShown terms h =
-      λ script follows. record {
-        equal = equal-few mounted terms (setup_of s v) before h has.core from has.notes;
-        reads = few-reads-made mounted terms (setup_of s v) before h has.core from has.notes;
-        writes = few-writes-made mounted terms (setup_of s v) before h has.core from has.notes;
-        commits = few-commits mounted terms (setup_of s v) before h has.core from has.notes;
-        pages = pages-few mounted terms (setup_of s v) before h has.core from has.notes;
-        hidden = hidden-few mounted terms (setup_of s v) before h has.core from has.notes script follows;
-      } in
-      let oks : OksShown terms h = all-oks mounted terms (setup_of s v) h has.core (record { nocto = refl; reaches = reaches }) root asked in
-      let slots : SlotsShown terms h = slots-shown mounted (setup_of s v) h has.core reaches refl terms refl in
-      let rows : AllRowed terms h = refusals-all-rowed mounted terms (setup_of s v) before h has.core from has.notes in
+      let from : GoesFrom mounted terms (setup_of s v) before h has.core = goes-from s first v before so fits nothing_stored h grown.0 grown.1 asked has in
       record {
-        has = has;
-        calls = calls;
-        counts = counts;
-        ports = ready-ports s first v before h so has dials;
+        has = over.has;
+        calls = over.calls;
+        counts = over.counts;
+        ports = over.ports;
         thrift = record {
           reads = reads-long mounted terms (setup_of s v) before h has.core from refl;
           pages = kept-once mounted terms (setup_of s v) before h has.core from refl;
           writes = long-writes mounted terms (setup_of s v) before h has.core from has.notes;
         };
-        writes = λ i xid offset how file bytes rec at spells late.
-            writes-were-long mounted (setup_of s v) h has.core reaches i xid offset how file bytes rec at spells (elim (calls.among i xid rec at (xid_of_call xid (write_call file offset how bytes) rec spells)) [
-              | inl early ↦ absurd (omega (arith, early, late))
-              | inr among ↦ among.low
-            ]);
-        oks = oks;
-        slots = slots;
-        puts = puts-refused mounted (setup_of s v) h has.core reaches terms root asked;
-        faults = faults-shown mounted (setup_of s v) h has.core reaches before has.since terms calls sent-early fits.total asked
-            (record { goes = record { nocto = refl; reaches = reaches }; noac = refl; some = (reached-may (machine_of mounted) (setup_of s v) h has.core reaches).sizes.read; known = root })
-            rows;
-        rest = rest-shown mounted (setup_of s v) h has.core reaches;
-        caused = λ lines status follows ends.
-            all-caused terms (entries_of lines) status h calls.asked (counts (entries_of lines) follows) oks rows slots has.stays
-            (λ lane x y op by_itself ended.
-            calls-sent mounted (setup_of s v) h has.core reaches before has.since terms calls sent-early fits.total lane x op y ended
-            (ended-sent mounted (setup_of s v) h has.core reaches lines status ends by_itself));
-        evidence = settled-evident mounted terms (setup_of s v) h has.core (record { nocto = refl; reaches = reaches }) root (puts-named h asked);
-        kept = kept-shown mounted (setup_of s v) h has.core reaches refl terms refl root (puts-named h asked);
-        complete = λ t is. complete-shown mounted terms (setup_of s v) before t has.core (subst (λ (k : List Entry). GoesFrom mounted terms (setup_of s v) before k has.core) (sym is) from)
-            (subst (λ (k : List Entry). Notes (machine_of mounted) (setup_of s v) k has.core) (sym is) has.notes);
-        stable = λ t is lawful once.
-            stable-shown s first v t has.core lawful once (subst TakesReadings (sym is) takes)
-            (subst (λ (k : List Entry). KnowsRoot (origin_of s.export) k v.root) (sym is) root)
-            (subst OnlySetsUp (sym is) (only-sets-up s first v before so fits h grown.0 grown.1 has.since))
-            (subst AreAsked (sym is) asked)
-            (subst (λ (k : List Entry). Notes (machine_of mounted) (setup_of s v) k has.core) (sym is) has.notes);
-        honest = λ t is lawful fresh.
-            honest-shown s first v t has.core lawful fresh
-            (subst TakesReadings (sym is) takes)
-            (subst (λ (k : List Entry). KnowsRoot (origin_of s.export) k v.root) (sym is) root)
-            (subst AreAsked (sym is) asked)
-            (subst (λ (k : List Entry). Reaches (machine_of mounted) (setup_of s v) k has.core) (sym is) reaches);
+        writes = over.writes;
+        oks = over.oks;
+        slots = over.slots;
+        puts = over.puts;
+        faults = over.faults;
+        rest = over.rest;
+        caused = over.caused;
+        evidence = over.evidence;
+        kept = over.kept;
+        complete = over.complete;
+        stable = λ t is lawful once. over.stable t is lawful once (none-given t);
+        honest = λ t is lawful fresh. over.honest t is lawful fresh (none-given t);
       }

@@ -1,3 +1,5 @@
 pub mod Headline
 pub mod Shown
 pub mod Run
+pub mod KeptHeadline
+pub mod KeptPages

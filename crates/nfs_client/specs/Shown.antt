@@ -7,7 +7,7 @@ use Rattle.nfs_types.specs.declared.attr.Attr.{Attr}
 use Rattle.nfs_types.specs.declared.wcc.Stamp.{Stamp}
 use Rattle.nfs_types.specs.Stamps.{stamp_of}
 use Rattle.page_cache.specs.Bytes.{page_at}
-use Rattle.page_cache.specs.Pages.{known_of, page_of}
+use Rattle.page_cache.specs.Pages.{Pages, nothing_kept, known_of, page_of}
 use Rattle.write_back.specs.Files.{of_file}
 use Rattle.write_back.specs.Segments.{newest_at}
 use Rattle.write_back.specs.Pieces.{piece_under}
@@ -67,8 +67,9 @@ use Rattle.op_machines.specs.declared.begun.Mounted.{Mounted}
 use Rattle.core_counts.specs.coarse.WereLong.{write_call, WasLong}
 use Rattle.core_session.specs.current.Recent.{ReadRecent}
 use Rattle.core_session.specs.current.Steady.{IsStable}
-use Rattle.core_answers.specs.pages.Kept.{IsKept}
-use Rattle.core_answers.specs.reads.From.{ReadFrom, ReadGiven}
+use Rattle.core_answers.specs.pages.Kept.{IsKeptFrom}
+use Rattle.core_answers.specs.pages.True.{GivenTrue}
+use Rattle.core_answers.specs.reads.From.{ReadFrom, ReadGivenFrom}
 use Rattle.core_facts.specs.Notes.{NoneReady}
 use Rattle.core_session.specs.outcomes.Complete.{IsServed}
 use Rattle.core_session.specs.outcomes.Refusals.{IsItsOwn}
@@ -84,7 +85,9 @@ use Rattle.link_dials.specs.Sendings.{GoesToPorts}
 use Rattle.nfs_script.specs.declared.script.ScriptLine.{ScriptLine}
 use Rattle.session_words.specs.declared.settings.Settings.{Settings}
 use Rattle.session_setup.specs.declared.opening.SetUp.{SetUp}
+use Rattle.script_runs.specs.declared.stock.Stock.{Stock}
 use Rattle.script_runs.specs.LaneRuns.{setup_of}
+use Rattle.script_runs.specs.Stock.{pages_for, setup_with}
 use Rattle.session_setup.specs.Origins.{origin_of, longest_of, modes_of, terms_by}
 use Rattle.lane_session.specs.Bonds.{HasCore}
 use Rattle.lane_session.specs.Running.{mounted_by}
@@ -102,7 +105,7 @@ pub record CallsShown (terms : Terms) (setup : Setup) (before h : List Entry) : 
   pub among : (i xid : ℕ) (bytes : List ℕ) → At h i (Sent bytes) → HasXid bytes xid → (i < length before) ⊎ IsAmong setup.first_xid setup.limit xid
   pub lone_puts : (i : ℕ) (bytes : List ℕ) → At h i (Sent bytes) → (i < length before) ⊎ IsMadeAlone terms terms.cred h i bytes
 
--- Of a session that follows a script no more calls are made than its operations need, by `CallCounts` of `world_model`, each at most four times where a busy
+-- Of a session that follows a script no more calls are made than its operations need, by `CallCounts` of `claims`, each at most four times where a busy
 -- server puts it off: of equal plain calls, for each operation that asks, as many as its paths have names and three more; of a file as many READs as the pages
 -- take that its reads ask for, and one more for each short reply; of WRITEs that cover a place of it, one for each operation that writes it, for each reply
 -- that leaves it unwritten, and for each COMMIT of the file; two COMMITs for each sync, close and put of it, and 32 for each writer where these may have no
@@ -124,10 +127,10 @@ OksShown terms h = (lane x y : ℕ) (op : Op) (value : Value) → Ended h lane x
 
 -- An operation on a slot goes well only where the slot holds an open as it begins, for reading or writing as it needs. One that finds no such place is
 -- refused so, and no other is. Each byte that a read answers is one that an operation gave to its place, or that a kept page or the reply to a READ of its own
--- had, or a zero past the end of these.
-pub record SlotsShown (terms : Terms) (h : List Entry) : Type 0 where
+-- had, or a zero past the end of these. These pages were kept from the start.
+pub record SlotsShown (pages : Pages) (terms : Terms) (h : List Entry) : Type 0 where
   pub reads : (lane x slot offset count y : ℕ) (bytes : List ℕ) → Ended h lane x (ops.Read slot offset count) y (Done (Bytes bytes))
-      → ReadGiven terms.modes (take y h) x (ops.Read slot offset count) offset bytes
+      → ReadGivenFrom pages terms.modes (take y h) x (ops.Read slot offset count) offset bytes
   pub held : (lane x slot y : ℕ) (value : Value) → HoldOpens terms h lane x slot y value
   pub places : (lane x y : ℕ) (op : Op) (answer : Answer) → Ended h lane x op y answer → IsTried answer → FindsPlace terms h lane x op answer
   pub caused : (lane x y : ℕ) (op : Op) → PlaceRows terms h lane x y op
@@ -172,13 +175,14 @@ pub record RestShown (core : View) : Type 0 where
 
 -- ---- what is kept
 
--- Each page that the core keeps is one that a READ gave, with what the client wrote and cut since. As long as the session isn't lost, each byte that is pending
+-- Each page that the core keeps is one that was kept from the start or that a READ gave, with what the client wrote and cut since. As long as the session isn't lost, each byte that is pending
 -- is one that an operation gave to its place, and the newest of each place is `Pending` by the history, where each answer that is ready was noted: nothing that
 -- went well since has covered, cut or settled it, and no last close left it alone; what is in flight is what a WRITE carries that waits, and of each WRITE that
 -- waits it is in flight; and a COMMIT waits while nothing of its file does. And each byte of a put that went well, as the only operation until then, was made
 -- stable within it: a WRITE carried it, and was answered as stable or followed by a COMMIT of the whole file under the same verifier.
 pub record KeptShown (terms : Terms) (setup : Setup) (h : List Entry) (core : View) : Type 0 where
-  pub pages : (file : List ℕ) (index : ℕ) (bytes : List ℕ) → page_of file index core.shelf.pages ≡ Some bytes → IsKept h core.shelf.pages file index bytes
+  pub pages : (file : List ℕ) (index : ℕ) (bytes : List ℕ) → page_of file index core.shelf.pages ≡ Some bytes
+      → IsKeptFrom setup.pages h core.shelf.pages file index bytes
   pub pending : core.lost ≡ false → (f : List ℕ) (place : ℕ) → PlaceWritten terms.modes h core.shelf.back f place
   pub held_back : core.lost ≡ false → NoneReady core → (f : List ℕ) (place byte : ℕ) → newest_at (of_file f core.shelf.back).segments place ≡ Some byte
       → Pending terms.modes terms.origin h f place (length h) byte
@@ -192,7 +196,7 @@ pub record KeptShown (terms : Terms) (setup : Setup) (h : List Entry) (core : Vi
 
 -- ---- in the words of the model
 
--- The history of a session that follows a script and ends with a status is `Caused`, by `world_model`: each call was asked for, and not too many were made;
+-- The history of a session that follows a script and ends with a status is `Caused`, by `claims`: each call was asked for, and not too many were made;
 -- each answer has its row; a missing place or right is answered so; a session that is lost stays lost; and where an operation was refused since all calls
 -- were made, at status 0 or 1, they were.
 abbrev pub CausedShown : Terms → List Entry → Type 0
@@ -207,7 +211,7 @@ CausedShown terms h = (lines : List ScriptLine) (status : ℕ) → Follows (entr
 -- file at every moment at which the file has the known stamp. The attributes of a stat are as old at most as the lifetimes allow, and an open or put
 -- found its file under its name. Where cookies rise too, a list shows what its directory held. What is stable when an open begins, and stays, is in the
 -- answers of its reads, where this client gave its place no other byte. And each byte of a read is current, by
--- `world_model`: one that may be pending at a moment of the read, one that the file had at a moment of which the read may show bytes, or a zero in a hole.
+-- `claims`: one that may be pending at a moment of the read, one that the file had at a moment of which the read may show bytes, or a zero in a hole.
 pub record HonestShown (s : Settings) (root : List ℕ) (core : View) (t : History) : Type 0 where
   pub stats : (lane x y : ℕ) (path : List (List ℕ)) (attr : Attr) → Ended t.entries lane x (ops.Stat path) y (Done (Attrs attr))
       → HadWhereLed t (longest_of s.lives) x y root path attr
@@ -232,9 +236,9 @@ pub record HonestShown (s : Settings) (root : List ℕ) (core : View) (t : Histo
 
 -- Of an honest server that executes no late copies: each byte of a put that went well, as the only operation until then, is in its file from the answer
 -- on, and stable; and so is each byte of a write, fill or put from the answer on that settled it: of a sync, close or put that went well and began after the
--- write was answered, or of the put itself: `world_model`'s `Settled`. (`synced` says it without the server's objects: as long as no other operation of this
+-- write was answered, or of the put itself: `claims`'s `Settled`. (`synced` says it without the server's objects: as long as no other operation of this
 -- client, and no other client, changes its place; and before it was settled no last close left the file, with a refusal.) Past the size of a truncate that went
--- well there is no byte but a zero, unless the place was touched. Where each change of an object gives it another stamp, too, reads are true, by `world_model`:
+-- well there is no byte but a zero, unless the place was touched. Where each change of an object gives it another stamp, too, reads are true, by `claims`:
 -- each shows the bytes of the writes, fills and puts that went well before it, settled or not, and zeros past the sizes of truncates, unless these places were
 -- touched; and a short answer ends where the file did, and past all that this client wrote.
 pub record StableShown (s : Settings) (t : History) : Type 0 where
@@ -260,7 +264,7 @@ pub record CompleteShown (terms : Terms) (t : History) : Type 0 where
 -- ---- all
 
 -- A core goes with the history of a session that was set up so, with the history before, and this is what the history shows: among it that it is `Thrifty`, by
--- `world_model`: READs are long, and in one lane kept pages aren't asked for again, and WRITEs end only where they must; and of the server, where
+-- `claims`: READs are long, and in one lane kept pages aren't asked for again, and WRITEs end only where they must; and of the server, where
 -- it is honest and gives each change another stamp.
 pub record RunShows (s : Settings) (first : ℕ) (v : SetUp) (before h : List Entry) : Type 0 where
   pub has : HasCore (mounted_by s (setup_of s v)) (setup_of s v) before h
@@ -270,7 +274,7 @@ pub record RunShows (s : Settings) (first : ℕ) (v : SetUp) (before h : List En
   pub thrift : Thrifty (terms_by s first) h
   pub writes : WritesShown (mounted_by s (setup_of s v)) (setup_of s v) before h
   pub oks : OksShown (terms_by s first) h
-  pub slots : SlotsShown (terms_by s first) h
+  pub slots : SlotsShown nothing_kept (terms_by s first) h
   pub puts : PutsShown (terms_by s first) h
   pub faults : FaultsShown (terms_by s first) (setup_of s v) h has.core
   pub rest : RestShown has.core
@@ -280,3 +284,23 @@ pub record RunShows (s : Settings) (first : ℕ) (v : SetUp) (before h : List En
   pub complete : (t : History) → t.entries ≡ h → CompleteShown (terms_by s first) t
   pub stable : (t : History) → t.entries ≡ h → Lawful t → Once t.entries → StableShown s t
   pub honest : (t : History) → t.entries ≡ h → Lawful t → Fresh t → HonestShown s v.root has.core t
+
+-- The same of a session that began with a stock of pages, but that kept pages aren't asked for again. What an honest server makes true of reads and of kept
+-- pages asks for pages that were true: each file had its page at a moment with the stamp, before any operation began.
+pub record RunShowsOver (stock : Stock) (s : Settings) (first : ℕ) (v : SetUp) (before h : List Entry) : Type 0 where
+  pub has : HasCore (mounted_by s (setup_with stock s v)) (setup_with stock s v) before h
+  pub calls : CallsShown (terms_by s first) (setup_with stock s v) before h
+  pub counts : CountsShown (terms_by s first) h
+  pub ports : GoesToPorts s.mount_port s.nfs_port h
+  pub writes : WritesShown (mounted_by s (setup_with stock s v)) (setup_with stock s v) before h
+  pub oks : OksShown (terms_by s first) h
+  pub slots : SlotsShown (pages_for stock v.root) (terms_by s first) h
+  pub puts : PutsShown (terms_by s first) h
+  pub faults : FaultsShown (terms_by s first) (setup_with stock s v) h has.core
+  pub rest : RestShown has.core
+  pub caused : CausedShown (terms_by s first) h
+  pub evidence : Evident (modes_of s) (origin_of s.export) h
+  pub kept : KeptShown (terms_by s first) (setup_with stock s v) h has.core
+  pub complete : (t : History) → t.entries ≡ h → CompleteShown (terms_by s first) t
+  pub stable : (t : History) → t.entries ≡ h → Lawful t → Once t.entries → GivenTrue (pages_for stock v.root) t → StableShown s t
+  pub honest : (t : History) → t.entries ≡ h → Lawful t → Fresh t → GivenTrue (pages_for stock v.root) t → HonestShown s v.root has.core t

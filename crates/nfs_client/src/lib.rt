@@ -4,4 +4,5 @@
 
 mod top;
 
-pub use top::{run, run_with};
+pub use script_runs::Stock;
+pub use top::{run, run_stocked, run_with};

@@ -2,18 +2,23 @@
 
 ghost use Rattle.std.specs.Prelude.{◌≡◌, ◌≢◌, ◌≤◌, ◌<◌, ◌^◌, ◌⊎◌, [], map, take, IfSome};
 ghost use Rattle.std.specs.String.{string_bytes};
+ghost use Rattle.world_model.specs.Entries.{ours};
 ghost use Rattle.world_model.specs.Told.{Relates};
 ghost use Rattle.outside.specs.Causes.{Rose};
 ghost use Rattle.session_words.specs.declared.settings.Settings.{Settings as SettingsOf};
 ghost use Rattle.session_words.specs.Words.{IsCommand};
 ghost use Rattle.session_setup.specs.Outcomes.{IsOptions};
+ghost use Rattle.core_answers.specs.pages.True.{GivenTrue};
 ghost use Rattle.script_runs.specs.Streams.{script_limit};
 ghost use Rattle.script_runs.specs.Readings.{Reads};
 ghost use Rattle.script_runs.specs.Run.{IsXidOption, IsScript, Refuses, RefusalIs, RunOf, RunWith, Says};
 ghost use Rattle.nfs_client.specs.Headline.{Headline};
+ghost use Rattle.nfs_client.specs.KeptHeadline.{KeptRun};
+ghost use Rattle.nfs_client.specs.KeptPages.{TrueBack};
 ghost use Rattle.nfs_client.specs.Run.{RunIs, RunsWith};
 
 use outside::{Clock, Link, Sink, Source};
+use script_runs::Stock;
 use session_words::Settings;
 use std::alloc::Global;
 
@@ -98,4 +103,41 @@ pub fn run_with<S: Source, L: Link, C: Clock, K: Sink>(
         RunsWith given settings.now (S.left script.old) h result text))) }
 {
     script_runs::run_with(alloc, settings, script, link, clock, out)
+}
+
+/// Runs the script that the source gives as `run_with` does. The session begins with the pages of the stock, if they are of its root. Then, where each line had
+/// its answer, the pages that are kept at the end come with the status. The server may have served others before.
+pub fn run_stocked<S: Source, L: Link, C: Clock, K: Sink>(
+    alloc: Global,
+    settings: &Settings,
+    stock: Stock,
+    script: &mut S,
+    link: &mut L,
+    clock: &mut C,
+    out: &mut K,
+) -> (u8, Option<Stock>)
+    requires options { IsOptions settings.now }
+    requires most { settings.now.calls < 2 ^ 31 }
+    requires xid { IsXidOption settings.now.xid }
+    ensures statuses { result.0 ≤ 8 }
+    ensures taken { result.0 ≢ 2 }
+    ensures script { IfSome (S.left script.old) (λ left. result.0 ≡ 3 → IsScript (take script_limit left) → ⊥) }
+    ensures unspelled { IfSome (S.left script.old) (λ left. (IsScript (take script_limit left) → ⊥) → Refuses result.0) }
+    ensures unread { result.0 ≡ 4 → Says (K.written out.old) (K.written out.new) (λ text. text ≡ []) }
+    ensures refused { result.0 ≡ 3 → Says (K.written out.old) (K.written out.new) (RefusalIs (S.left script.old)) }
+    ensures source { result.0 ≡ 4 → Rose (S.faults script.old) (S.faults script.new) }
+    ensures sink { result.0 ≡ 5 → Rose (K.faults out.old) (K.faults out.new) }
+    ensures stays { (first : L) → L.stays first link.old → L.stays first link.new }
+    ensures honest { L.honest link.old → L.honest link.new }
+
+    // What a session promises, in the words of the model: `KeptHeadline` of specs/KeptHeadline.
+    ensures headline { Says (K.written out.old) (K.written out.new) (λ text.
+        Reads (C.readings clock.old) (C.readings clock.new) (λ given.
+        Relates (L.told link.old) (L.told link.new) (λ before h. ours before ≡ [] →
+        KeptRun (λ t. GivenTrue stock.pages t) given settings.now (S.left script.old) before h result.0 text))) }
+
+    // The pages that come back are pages of their files, and of the root that the session found.
+    ensures pages { Relates (L.told link.old) (L.told link.new) (λ before h. ours before ≡ [] → IfSome result.1 (λ back. TrueBack stock back h)) }
+{
+    script_runs::run_stocked(alloc, settings, stock, script, link, clock, out)
 }

@@ -2,6 +2,7 @@
 use Rattle.std.proofs.Common.{inl, inr, ◌≡◌, ℕ, Bool, true, false, List, [], take, Option, Some, None, Result, Ok, Err, refl, sym, ap, subst, ◌∙◌, arith}
 use Rattle.std.specs.Prelude.{IfSome}
 use Rattle.world_model.specs.declared.entry.Entry.{Entry}
+use Rattle.world_model.specs.Entries.{ours}
 use Rattle.world_model.specs.History.{History}
 use Rattle.world_model.specs.Told.{Relates}
 use Rattle.nfs_script.specs.declared.script.ScriptLine.{ScriptLine}
@@ -11,8 +12,10 @@ use Rattle.nfs_script.specs.RefusalText.{refusal_text}
 use Rattle.session_words.specs.declared.settings.Settings.{Settings}
 use Rattle.session_words.specs.Words.{IsCommand, IsNocto}
 use Rattle.script_runs.specs.Readings.{Reads}
-use Rattle.script_runs.specs.LaneRuns.{Leaves, SessionBy, RunLeaves, LeavesWith}
+use Rattle.script_runs.specs.declared.stock.Stock.{Stock}
+use Rattle.script_runs.specs.LaneRuns.{LeavesOver, SessionFrom, RunLeaves, LeavesFrom, LeavesWith}
 use Rattle.script_runs.specs.Run.{IsScript, IsReadAs, IsFaultOf, RefusesWith, no_script, whole, cut, Unbegun, Refuses, RefusalIs, KeepsForOpens, RunOf, session, unbegun, RunWith, session_with, unbegun_with, Says}
+use Rattle.script_runs.specs.Stock.{nothing_stored}
 use Rattle.script_runs.specs.Streams.{script_limit, TakesAll}
 use Rattle.script_runs.proofs.Readings.{reads_none}
 use Rattle.script_runs.proofs.StreamLaws.{appends_none}
@@ -43,44 +46,73 @@ read_for (Some l) text items read e v t = ap script_of (sym (v ∙ t)) ∙ e
 
 -- ---- what a run says
 
-relates_session : (old new : Option History) (given : List ℕ) (left : Option (List ℕ)) (s : Settings) (lines : List ScriptLine) (status : ℕ) (text : List ℕ) → IsReadAs left (Ok lines)
-    → Relates old new (λ before h. before ≡ [] → SessionBy Leaves s lines given h status text) → Relates old new (λ before h. before ≡ [] → LeavesWith given s left h status text)
-relates_session None new given left s lines status text a r = tt
-relates_session (Some x) None given left s lines status text a r = absurd r
-relates_session (Some x) (Some y) given left s lines status text a r = λ e. session_with lines a (r e)
+-- what is said of a run that began with this stock
+abbrev pub RunSaid : Stock → Option (List ℕ) → Option (List ℕ) → Option (List ℕ) → Option (List ℕ) → Option History → Option History → Settings → Option (List ℕ) → ℕ → Type 0
+RunSaid stock v w a b old new s left status =
+    Says v w (λ text. Reads a b (λ given. Relates old new (λ before h. ours before ≡ [] → LeavesFrom stock given s left before h status text)))
+
+relates_session : (stock : Stock) (old new : Option History) (given : List ℕ) (left : Option (List ℕ)) (s : Settings) (lines : List ScriptLine) (status : ℕ) (text : List ℕ) → IsReadAs left (Ok lines)
+    → Relates old new (λ before h. ours before ≡ [] → SessionFrom (LeavesOver stock) s lines given before h status text)
+    → Relates old new (λ before h. ours before ≡ [] → LeavesFrom stock given s left before h status text)
+relates_session stock None new given left s lines status text a r = tt
+relates_session stock (Some x) None given left s lines status text a r = absurd r
+relates_session stock (Some x) (Some y) given left s lines status text a r = λ e. session_with lines a (r e)
 
 -- there was a session
-pub run_says : (v w : Option (List ℕ)) (a b : Option (List ℕ)) (old new : Option History) (left : Option (List ℕ)) (s : Settings) (lines : List ScriptLine) (status : ℕ) → IsReadAs left (Ok lines)
-    → Says v w (λ text. Reads a b (λ given. Relates old new (λ before h. before ≡ [] → SessionBy Leaves s lines given h status text)))
-    → Says v w (λ text. Reads a b (λ given. Relates old new (λ before h. before ≡ [] → LeavesWith given s left h status text)))
-run_says v w a b old new left s lines status read said = record {
+pub run_says : (stock : Stock) (v w : Option (List ℕ)) (a b : Option (List ℕ)) (old new : Option History) (left : Option (List ℕ)) (s : Settings) (lines : List ScriptLine) (status : ℕ) → IsReadAs left (Ok lines)
+    → Says v w (λ text. Reads a b (λ given. Relates old new (λ before h. ours before ≡ [] → SessionFrom (LeavesOver stock) s lines given before h status text)))
+    → RunSaid stock v w a b old new s left status
+run_says stock v w a b old new left s lines status read said = record {
   text = said.text;
   added = said.added;
-  is = (said.is.0, said.is.1, relates_session old new said.is.0 left s lines status said.text read said.is.2);
+  is = (said.is.0, said.is.1, relates_session stock old new said.is.0 left s lines status said.text read said.is.2);
 }
 
-relates_none : (old : Option History) (s : Settings) (left : Option (List ℕ)) (status : ℕ) (text : List ℕ) → Unbegun left status text
-    → Relates old old (λ before h. before ≡ [] → LeavesWith [] s left h status text)
-relates_none None s left status text u = tt
-relates_none (Some x) s left status text u = λ e. unbegun_with e u
+relates_none : (stock : Stock) (old : Option History) (s : Settings) (left : Option (List ℕ)) (status : ℕ) (text : List ℕ) → Unbegun left status text
+    → Relates old old (λ before h. ours before ≡ [] → LeavesFrom stock [] s left before h status text)
+relates_none stock None s left status text u = tt
+relates_none stock (Some x) s left status text u = λ e. unbegun_with refl u
 
 -- the script was refused
-pub refuse_says : (v w : Option (List ℕ)) (a : Option (List ℕ)) (old : Option History) (s : Settings) (left : Option (List ℕ)) (fault : ScriptFault) (status : ℕ) → IsFaultOf left fault → Says v w (RefusesWith fault status)
-    → Says v w (λ text. Reads a a (λ given. Relates old old (λ before h. before ≡ [] → LeavesWith given s left h status text)))
-refuse_says v w a old s left fault status f said = record {
+pub refuse_says : (stock : Stock) (v w : Option (List ℕ)) (a : Option (List ℕ)) (old : Option History) (s : Settings) (left : Option (List ℕ)) (fault : ScriptFault) (status : ℕ) → IsFaultOf left fault → Says v w (RefusesWith fault status)
+    → RunSaid stock v w a a old old s left status
+refuse_says stock v w a old s left fault status f said = record {
   text = said.text;
   added = said.added;
-  is = ([], reads_none a, relates_none old s left status said.text (no_script fault f said.is));
+  is = ([], reads_none a, relates_none stock old s left status said.text (no_script fault f said.is));
 }
 
 -- nothing was begun, and nothing written
-pub none_says : (v : Option (List ℕ)) (a : Option (List ℕ)) (old : Option History) (s : Settings) (left : Option (List ℕ)) (status : ℕ) → Unbegun left status []
-    → Says v v (λ text. Reads a a (λ given. Relates old old (λ before h. before ≡ [] → LeavesWith given s left h status text)))
-none_says v a old s left status u = record {
+pub none_says : (stock : Stock) (v : Option (List ℕ)) (a : Option (List ℕ)) (old : Option History) (s : Settings) (left : Option (List ℕ)) (status : ℕ) → Unbegun left status []
+    → RunSaid stock v v a a old old s left status
+none_says stock v a old s left status u = record {
   text = [];
   added = appends_none v;
-  is = ([], reads_none a, relates_none old s left status [] u);
+  is = ([], reads_none a, relates_none stock old s left status [] u);
 }
+
+-- ---- a run without pages, and without a history before
+
+abbrev Said : Option (List ℕ) → Option (List ℕ) → Option (List ℕ) → Option (List ℕ) → Option History → Option History → Settings → Option (List ℕ) → ℕ → Type 0
+Said v w a b old new s left status = Says v w (λ text. Reads a b (λ given. Relates old new (λ before h. before ≡ [] → LeavesWith given s left h status text)))
+
+relates_alone : (old new : Option History) (given : List ℕ) (s : Settings) (left : Option (List ℕ)) (status : ℕ) (text : List ℕ)
+    → Relates old new (λ before h. ours before ≡ [] → LeavesFrom nothing_stored given s left before h status text) → Relates old new (λ before h. before ≡ [] → LeavesWith given s left h status text)
+relates_alone None new given s left status text r = tt
+relates_alone (Some x) None given s left status text r = absurd r
+relates_alone (Some x) (Some y) given s left status text r = λ e. subst (λ (k : List Entry). LeavesFrom nothing_stored given s left k y.entries status text) e (r (ap ours e))
+
+-- a run with no stock
+pub alone_says : (stock : Stock) (v w a b : Option (List ℕ)) (old new : Option History) (s : Settings) (left : Option (List ℕ)) (status : ℕ) → stock ≡ nothing_stored
+    → RunSaid stock v w a b old new s left status → Said v w a b old new s left status
+alone_says stock v w a b old new s left status none said =
+    let bare : RunSaid nothing_stored v w a b old new s left status = subst (λ (t : Stock). RunSaid t v w a b old new s left status) none said in
+    record { text = bare.text; added = bare.added; is = (bare.is.0, bare.is.1, relates_alone old new bare.is.0 s left status bare.text bare.is.2) }
+
+-- nothing was begun for want of memory
+pub nothing_says : (v : Option (List ℕ)) (a : Option (List ℕ)) (old : Option History) (s : Settings) (left : Option (List ℕ)) (status : ℕ) → Unbegun left status []
+    → Said v v a a old old s left status
+nothing_says v a old s left status u = alone_says nothing_stored v v a a old old s left status refl (none_says nothing_stored v a old s left status u)
 
 -- ---- what words say by their settings
 

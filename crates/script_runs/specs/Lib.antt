@@ -3,3 +3,4 @@ pub mod Streams
 pub mod Run
 pub mod Ends
 pub mod LaneRuns
+pub mod Stock

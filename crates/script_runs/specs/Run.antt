@@ -72,11 +72,15 @@ pub data RunOf (Is : Settings → List ScriptLine → List ℕ → List Entry �
   session : (s : Settings) (lines : List ScriptLine) → IsCommand words s → KeepsForOpens s → IsReadAs left (Ok lines) → Is s lines given h status text
       → RunOf Is given words left h status text
 
--- The same by these settings, whatever words gave them.
-pub data RunWith (Is : Settings → List ScriptLine → List ℕ → List Entry → ℕ → List ℕ → Type 0) (given : List ℕ) (s : Settings) (left : Option (List ℕ))
-    (h : List Entry) (status : ℕ) (text : List ℕ) : Type 0 where
-  unbegun_with : h ≡ [] → Unbegun left status text → RunWith Is given s left h status text
-  session_with : (lines : List ScriptLine) → IsReadAs left (Ok lines) → Is s lines given h status text → RunWith Is given s left h status text
+-- The same by these settings, whatever words gave them, of a run that began with the history before.
+pub data RunFrom (Is : Settings → List ScriptLine → List ℕ → List Entry → ℕ → List ℕ → Type 0) (given : List ℕ) (s : Settings) (left : Option (List ℕ))
+    (before h : List Entry) (status : ℕ) (text : List ℕ) : Type 0 where
+  unbegun_with : h ≡ before → Unbegun left status text → RunFrom Is given s left before h status text
+  session_with : (lines : List ScriptLine) → IsReadAs left (Ok lines) → Is s lines given h status text → RunFrom Is given s left before h status text
+
+-- of one that began with an empty history
+abbrev pub RunWith : (Settings → List ScriptLine → List ℕ → List Entry → ℕ → List ℕ → Type 0) → List ℕ → Settings → Option (List ℕ) → List Entry → ℕ → List ℕ → Type 0
+RunWith Is given s left h status text = RunFrom Is given s left [] h status text
 
 -- no operation was answered: the words or the script were refused, the source failed, or the session was cut off
 abbrev pub Refuses : ℕ → Type 0

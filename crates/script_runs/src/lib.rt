@@ -7,10 +7,12 @@ mod lanes;
 mod mount;
 mod output;
 mod status;
+mod stock;
 mod top;
 
 pub use input::{ReadFault, read_script};
 pub use lanes::first_xid;
 pub use mount::refuse_mount;
 pub use output::write_all;
-pub use top::{run, run_with};
+pub use stock::Stock;
+pub use top::{run, run_stocked, run_with};

@@ -2,6 +2,7 @@
 
 ghost use Rattle.std.specs.Prelude.{◌≡◌, ◌≢◌, ◌≤◌, ◌<◌, ◌^◌, ◌⊎◌, [], map, take, IfOk, IfSome};
 ghost use Rattle.std.specs.String.{string_bytes};
+ghost use Rattle.world_model.specs.Entries.{ours};
 ghost use Rattle.world_model.specs.Told.{Relates};
 ghost use Rattle.outside.specs.Causes.{Rose};
 ghost use Rattle.nfs_script.specs.RefusalText.{refusal_text};
@@ -10,13 +11,15 @@ ghost use Rattle.session_words.specs.Words.{IsCommand};
 ghost use Rattle.session_setup.specs.Outcomes.{IsOptions};
 ghost use Rattle.script_runs.specs.Streams.{script_limit};
 ghost use Rattle.script_runs.specs.Readings.{Reads};
-ghost use Rattle.script_runs.specs.LaneRuns.{RunLeaves, LeavesWith};
+ghost use Rattle.script_runs.specs.LaneRuns.{RunLeaves, LeavesFrom, LeavesWith};
+ghost use Rattle.script_runs.specs.Stock.{HandsBack};
 ghost use Rattle.script_runs.specs.Run.{IsXidOption, IsCutOff, IsScript, Refuses, RefusesWith, RefusalIs, Says};
 
 use crate::input::{ReadFault, read_script};
 use crate::lanes::run_lanes;
 use crate::output::write_all;
 use crate::status;
+use crate::stock::Stock;
 use nfs_script::{ParseFault, ScriptFault, parse, refusal_line};
 use outside::{Clock, Link, LinkFault, Sink, Source};
 use session_words::{Settings, WordsFault, read_words};
@@ -97,15 +100,52 @@ pub fn run_with<S: Source, L: Link, C: Clock, K: Sink>(
         Relates (L.told link.old) (L.told link.new) (λ before h. before ≡ [] →
         LeavesWith given settings.now (S.left script.old) h result text))) }
 {
+    let Ok(stock) = Stock::empty(alloc) else {
+        return status::NO_MEMORY;
+    };
+    let (status, _) = run_stocked(alloc, settings, stock, script, link, clock, out);
+    status
+}
+
+/// Runs the script that the source gives as `run_with` does. The session begins with the pages of the stock, if they are of its root; then, where each line had
+/// its answer, the pages that are kept at the end come with the status.
+pub fn run_stocked<S: Source, L: Link, C: Clock, K: Sink>(
+    alloc: Global,
+    settings: &Settings,
+    stock: Stock,
+    script: &mut S,
+    link: &mut L,
+    clock: &mut C,
+    out: &mut K,
+) -> (u8, Option<Stock>)
+    requires options { IsOptions settings.now }
+    requires most { settings.now.calls < 2 ^ 31 }
+    requires xid { IsXidOption settings.now.xid }
+    ensures statuses { result.0 ≤ 8 }
+    ensures taken { result.0 ≢ 2 }
+    ensures script { IfSome (S.left script.old) (λ left. result.0 ≡ 3 → IsScript (take script_limit left) → ⊥) }
+    ensures unspelled { IfSome (S.left script.old) (λ left. (IsScript (take script_limit left) → ⊥) → Refuses result.0) }
+    ensures unread { result.0 ≡ 4 → Says (K.written out.old) (K.written out.new) (λ text. text ≡ []) }
+    ensures refused { result.0 ≡ 3 → Says (K.written out.old) (K.written out.new) (RefusalIs (S.left script.old)) }
+    ensures source { result.0 ≡ 4 → Rose (S.faults script.old) (S.faults script.new) }
+    ensures sink { result.0 ≡ 5 → Rose (K.faults out.old) (K.faults out.new) }
+    ensures stays { (first : L) → L.stays first link.old → L.stays first link.new }
+    ensures honest { L.honest link.old → L.honest link.new }
+    ensures pages { Relates (L.told link.old) (L.told link.new) (λ before h. ours before ≡ [] → IfSome result.1 (λ back. HandsBack stock settings.now back h)) }
+    ensures shown { Says (K.written out.old) (K.written out.new) (λ text.
+        Reads (C.readings clock.old) (C.readings clock.new) (λ given.
+        Relates (L.told link.old) (L.told link.new) (λ before h. ours before ≡ [] →
+        LeavesFrom stock given settings.now (S.left script.old) before h result.0 text))) }
+{
     let text = match read_script(alloc, script) {
         Ok(text) => text,
-        Err(ReadFault::Failed) => return status::READ_FAULT,
-        Err(ReadFault::Memory) => return status::NO_MEMORY,
+        Err(ReadFault::Failed) => return (status::READ_FAULT, None),
+        Err(ReadFault::Memory) => return (status::NO_MEMORY, None),
     };
     match parse(alloc, text.as_slice()) {
-        Ok(script) => run_lanes(alloc, settings, &script, link, clock, out),
-        Err(ParseFault::Script(fault)) => refuse(alloc, &fault, out),
-        Err(ParseFault::Memory) => status::NO_MEMORY,
+        Ok(script) => run_lanes(alloc, settings, stock, &script, link, clock, out),
+        Err(ParseFault::Script(fault)) => (refuse(alloc, &fault, out), None),
+        Err(ParseFault::Memory) => (status::NO_MEMORY, None),
     }
 }
 

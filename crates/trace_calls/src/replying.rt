@@ -1,10 +1,13 @@
 //! The reply that a record is.
 
 ghost use Rattle.std.specs.Prelude.{◌≡◌, ◌↔◌, true, false, IsTrue, IfOk, MatchOption};
+ghost use Rattle.std.specs.Option.{option_map};
+ghost use Rattle.rpc_message.specs.Reply.{reply_at};
 ghost use Rattle.export_fs.specs.Spelling.{HasSpellingReply};
 ghost use Rattle.export_serve.specs.Spelling.{RepliesTo};
 ghost use Rattle.world_model.specs.declared.message.Call.TheVariants.{File, Dir, Mount};
 ghost use Rattle.trace_calls.specs.Coming.{HasResults, NoResults, FindsResult, FindsReplyTo};
+ghost use Rattle.trace_calls.specs.ReplyReading.{result_at, results_in, reply_by};
 
 use crate::procedures::replies_to;
 use crate::spellable::is_spellable_reply;
@@ -19,7 +22,8 @@ use xdr_codec::{CodecFault, Memory};
 
 /// The reply to a call that a record is under the xid. None exactly where it is none.
 pub fn reply_to(alloc: Global, xid: u32, call: &Call, rec: &[u8]) -> Result<Option<Reply>, Memory>
-    ensures { IfOk result (FindsReplyTo xid call.now rec.now) }
+    ensures finds { IfOk result (FindsReplyTo xid call.now rec.now) }
+    ensures exact { IfOk result (λ reply. reply ≡ reply_by xid call.now rec.now) }
 {
     match results_under(xid, rec) {
         Some(results) => results_of(alloc, call, results),
@@ -29,7 +33,8 @@ pub fn reply_to(alloc: Global, xid: u32, call: &Call, rec: &[u8]) -> Result<Opti
 
 /// The results of a record that is an accepted reply under the xid.
 fn results_under<'a>(xid: u32, rec: &'a [u8]) -> Option<&'a [u8]>
-    ensures { MatchOption result (NoResults xid rec.entry.now) (λ results. HasResults xid rec.entry.now results.now) }
+    ensures finds { MatchOption result (NoResults xid rec.entry.now) (λ results. HasResults xid rec.entry.now results.now) }
+    ensures exact { option_map (λ results. results.now) result ≡ results_in xid (reply_at rec.entry.now) }
 {
     match read_reply(rec) {
         Ok(
@@ -53,7 +58,8 @@ fn results_if<'a>(wanted: bool, results: &'a [u8]) -> Option<&'a [u8]>
 
 /// The reply to a call that results spell.
 fn results_of(alloc: Global, call: &Call, results: &[u8]) -> Result<Option<Reply>, Memory>
-    ensures { IfOk result (FindsResult call.now results.now) }
+    ensures finds { IfOk result (FindsResult call.now results.now) }
+    ensures exact { IfOk result (λ reply. reply ≡ result_at call.now results.now) }
 {
     match call {
         Call::File(call) => file_results(alloc, call, results),
@@ -63,7 +69,8 @@ fn results_of(alloc: Global, call: &Call, results: &[u8]) -> Result<Option<Reply
 }
 
 fn file_results(alloc: Global, call: &FileCall, results: &[u8]) -> Result<Option<Reply>, Memory>
-    ensures { IfOk result (FindsResult (File call.now) results.now) }
+    ensures finds { IfOk result (FindsResult (File call.now) results.now) }
+    ensures exact { IfOk result (λ reply. reply ≡ result_at (File call.now) results.now) }
 {
     match read_file_reply(file_proc(call), results) {
         Ok(reply) => Ok(Some(Reply::File(kept_file(alloc, &reply)?))),
@@ -72,7 +79,8 @@ fn file_results(alloc: Global, call: &FileCall, results: &[u8]) -> Result<Option
 }
 
 fn dir_results(alloc: Global, call: &DirCall, results: &[u8]) -> Result<Option<Reply>, Memory>
-    ensures { IfOk result (FindsResult (Dir call.now) results.now) }
+    ensures finds { IfOk result (FindsResult (Dir call.now) results.now) }
+    ensures exact { IfOk result (λ reply. reply ≡ result_at (Dir call.now) results.now) }
 {
     match read_dir_reply(dir_proc(call), results) {
         Ok(reply) => Ok(Some(Reply::Dir(kept_dir(alloc, &reply)?))),
@@ -81,7 +89,8 @@ fn dir_results(alloc: Global, call: &DirCall, results: &[u8]) -> Result<Option<R
 }
 
 fn mount_results(alloc: Global, call: &MountCall, results: &[u8]) -> Result<Option<Reply>, Memory>
-    ensures { IfOk result (FindsResult (Mount call.now) results.now) }
+    ensures finds { IfOk result (FindsResult (Mount call.now) results.now) }
+    ensures exact { IfOk result (λ reply. reply ≡ result_at (Mount call.now) results.now) }
 {
     match read_mount_reply(alloc, mount_proc(call), results) {
         Ok(reply) => Ok(Some(Reply::Mount(reply))),

@@ -1,6 +1,7 @@
 //! A link over datagrams.
 
 ghost use Rattle.std.specs.Prelude.{◌≡◌, ◌≤◌, ◌<◌, ◌+◌, None};
+ghost use Rattle.std.specs.Bool.{OnFalse};
 ghost use Rattle.world_model.specs.Told.{Tells};
 ghost use Rattle.outside.specs.Causes.{HasCause, HasCauseReceived};
 ghost use Rattle.outside.specs.Link.{NotesOnly, dialed_as, sent_as, received_as, noted_as};

@@ -42,7 +42,7 @@ page-later first h (e ∷ more) file stamp index bytes p =
     (page-later first (h ++ e ∷ []) more file stamp index bytes (page-grows first h e file stamp index bytes p))
 
 module _ (first : Pages) (t : History) (given : GivenTrue first t) (l : Lawful t) (fresh : Fresh t) (numbered : Numbered t.entries) (before after : List Entry) (is : t.entries ≡ before ++ after)
-    (begun : (n : ℕ) → IsEarly t n → n ≤ length before) (file : List ℕ) where
+    (begun : (n : ℕ) → IsEarly t n → n ≤ length t.entries → n ≤ length before) (file : List ℕ) where
   -- the call was executed with this reply, before the end of the part
   record DoneBy (from : ℕ) (call : FileCall) (reply : FileKept) : Type 0 where
     exec : Done t call reply
@@ -58,11 +58,11 @@ module _ (first : Pages) (t : History) (given : GivenTrue first t) (l : Lawful t
       record { exec = (ran.place, ran.xid, ran.at); since = ran.late; soon = ran.before }
 
   -- the file had the stamp at a moment before
-  record HadIt (stamp : Stamp) : Type 0 where
-    n : ℕ
-    soon : n ≤ length before
-    now : List ℕ
-    has : HasStamp t n file stamp now
+  pub record HadIt (stamp : Stamp) : Type 0 where
+    pub n : ℕ
+    pub soon : n ≤ length before
+    pub now : List ℕ
+    pub has : HasStamp t n file stamp now
 
   read-had : (stamp : Stamp) (index : ℕ) (bytes : List ℕ) → WasRead before file stamp index bytes → HadIt stamp
   read-had stamp index bytes o =
@@ -125,10 +125,10 @@ module _ (first : Pages) (t : History) (given : GivenTrue first t) (l : Lawful t
       by (Entries list) held sized = absurd sized
       by (Text text) held sized = absurd sized
 
-  page-had : (stamp : Stamp) (index : ℕ) (bytes : List ℕ) → IsPage first before file stamp index bytes → HadIt stamp
+  pub page-had : (stamp : Stamp) (index : ℕ) (bytes : List ℕ) → IsPage first before file stamp index bytes → HadIt stamp
   page-had _ _ _ (pages.from_start stamp index bytes found known fits) =
       let g : HadPage t file stamp index bytes = true-page (HadPage t) file index first bytes stamp given found known in
-      record { n = g.n; soon = begun g.n g.early; now = g.now; has = g.has }
+      record { n = g.n; soon = begun g.n g.early g.has.moment; now = g.now; has = g.has }
   page-had _ _ _ (pages.read stamp index bytes r) = read-had stamp index bytes r
   page-had _ _ _ (pages.written old stamp index offset count bytes page now had w same) = written-had old stamp offset count bytes w
   page-had _ _ _ (pages.cut old stamp index size page now had w same) = cut-had old stamp size w
@@ -176,8 +176,8 @@ reads-held m terms setup t v g lawful fresh given lane x slot offset count y byt
     let numbered = (reached-rows (machine_of m) setup t.entries v g.reaches).numbered in
     let part = sym (until t.entries s.before s.after y s.is s.there) in
     let r = s.shown in
-    let begun : (n : ℕ) → IsEarly t n → n ≤ length s.before =
-    λ n early. let low = early x lane ended.line (ops.Read slot offset count) ended.began in let later = ended.later in let there = s.there in omega (arith, low, later, there) in
+    let begun : (n : ℕ) → IsEarly t n → n ≤ length t.entries → n ≤ length s.before =
+    λ n early within. let low = early x lane ended.line (ops.Read slot offset count) ended.began in let later = ended.later in let there = s.there in omega (arith, low, later, there) in
     record {
       file = r.file;
       of = subst (λ (k : List Entry). IsOf terms.modes k x (ops.Read slot offset count) r.file) part r.of;

@@ -1,4 +1,4 @@
--- How old the names and attributes are that a stat goes by, as world_model says it (nfs(5), acregmax and acdirmax).
+-- How old the names and attributes are that a stat goes by, as `claims` says it (nfs(5), acregmax and acdirmax).
 use Rattle.std.specs.Prelude.{◌<◌, ℕ, suc, List}
 use Rattle.world_model.specs.declared.entry.Entry.{Entry}
 use Rattle.world_model.specs.declared.entry.Entry.TheVariants.{Began, Clock}

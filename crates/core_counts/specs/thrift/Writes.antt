@@ -145,7 +145,7 @@ abbrev pub WrittenWritesLong : Type 0
 WrittenWritesLong = (m : Mounted) (setup : Setup) (h : List Entry) (v : View) → Notes (machine_of m) setup h v → OneLane h → NeverFull h
     → (i x w end : ℕ) (f : List ℕ) → ShortWrittenWrite setup h i x w f end → CoveredEarlier h i f (end + 1)
 
--- So `LongWrites` of `world_model` holds of each session that was set up and whose operations are all of one lane.
+-- So `LongWrites` of `claims` holds of each session that was set up and whose operations are all of one lane.
 abbrev pub WritesLong : Type 0
 WritesLong = (m : Mounted) (terms : Terms) (setup : Setup) (start h : List Entry) (v : View) → GoesFrom m terms setup start h v
     → Notes (machine_of m) setup h v → OneLane h → LongWrites terms h

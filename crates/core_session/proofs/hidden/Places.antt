@@ -7,7 +7,7 @@ use Rattle.claims.specs.Hidden.{IsHidden, HiddenAt}
 use Rattle.name_ops.specs.Looking.{look_up}
 use Rattle.name_ops.specs.Moving.{move_call}
 
--- A remove moved the file there, as `HiddenAt` of world_model has it: the root is known.
+-- A remove moved the file there, as `HiddenAt` of `claims` has it: the root is known.
 pub record WasHidden (top : List ℕ) (h : List Entry) (f d name : List ℕ) : Type 0 where
   pub x : ℕ
   pub lane : ℕ

@@ -278,7 +278,7 @@ began-op : (a b c d : ℕ) (o p : Op) → Began a b o ≡ Began c d p → o ≡ 
 began-op a b c d o p e = cc
 
 module _ (m : Mounted) (modes : Modes) (origin : Origin) (setup : Setup) (whole : List Entry) (known : KnowsRoot origin whole m.root) (f : List ℕ) (i : ℕ) where
-  -- With its bytes come in so that world_model says that it writes them to the file.
+  -- With its bytes come in so that `claims` says that it writes them to the file.
   pub put-giving : (h more rest : List Entry) (rec : List ℕ) (old : View) → whole ≡ (h ++ Delivered rec ∷ []) ++ more → whole ≡ h ++ rest → Reaches (machine_of m) setup h old
       → (lane x offset : ℕ) (path : List (List ℕ)) (text : List ℕ) → UnderWay h lane x (length h) (ops.Put path offset text) → (file : List ℕ) → LeadsTo m.root (h ++ Delivered rec ∷ []) path file
       → Giving modes origin whole f i x file offset text

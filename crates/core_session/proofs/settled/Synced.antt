@@ -49,7 +49,7 @@ synced-stay m terms setup t v g roots named alone lawful once w y f i byte j p w
 
 -- ---- all of them
 
--- nothing touches a byte but what world_model says
+-- nothing touches a byte but what `claims` says
 touched-so : (m : Modes) (origin : Origin) (t : History) (w j p : ℕ) (f : List ℕ) (i : ℕ) → ((k : ℕ) → w < k → k < j → Left m t.entries k f → GivesUp m t.entries k f → ⊥) → TouchedUntil m origin t.entries w j p f i
     → Touched m origin t w p f i
 touched-so m origin t w j p f i none (until.written x v apart low open_ writes kept) = touched.written x v apart low open_ writes kept

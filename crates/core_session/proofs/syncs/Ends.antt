@@ -71,7 +71,7 @@ has-covers offset i byte bytes c =
     from-at offset i bytes (omega (arith, place)) ∙ ap (slice_get bytes) number ∙ c.byte
 
 module _ (mt : Mounted) (terms : Terms) (setup : Setup) (H : List Entry) (w y s j p : ℕ) (f : List ℕ) (i byte : ℕ) where
-  -- what wrote it, of which world_model's words say no more
+  -- what wrote it, of which `claims`'s words say no more
   record Writing : Type 0 where
     lane : ℕ
     op : Op

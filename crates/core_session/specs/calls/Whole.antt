@@ -64,7 +64,7 @@ pub record IsCausedBeside (terms : Terms) (h : List Entry) (i : ℕ) (bytes : Li
   pub beside : IsBeside terms h x i op call
   pub keeps : KeepsTo terms h x i call
 
--- As `CallsAsked` of `world_model`, but that a call may be such a one.
+-- As `CallsAsked` of `claims`, but that a call may be such a one.
 pub record CallsAskedBut (terms : Terms) (h : List Entry) : Type 0 where
   pub caused : (i : ℕ) (bytes : List ℕ) → At h i (Sent bytes) → IsCaused terms h i bytes ⊎ IsCausedBeside terms h i bytes
   pub among : (i xid : ℕ) (bytes : List ℕ) → At h i (Sent bytes) → HasXid bytes xid → (terms.first ≤ xid) × (xid < terms.first + terms.calls)

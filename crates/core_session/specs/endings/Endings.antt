@@ -22,7 +22,7 @@ abbrev pub RefusalsAllRowed : Type 0
 RefusalsAllRowed = (m : Mounted) (terms : Terms) (setup : Setup) (before h : List Entry) (v : View) → GoesFrom m terms setup before h v
     → Notes (machine_of m) setup h v → (lane x y : ℕ) (op : Op) (fault : Fault) → Ended h lane x op y (Refused fault) → RefusalRow terms h lane x y op fault
 
--- A session that nothing disturbs completes (`Completes` of `world_model`): the server is honest, the link isn't lost, and each call is executed with status 0,
+-- A session that nothing disturbs completes (`Completes` of `claims`): the server is honest, the link isn't lost, and each call is executed with status 0,
 -- or with one from which its operation goes on.
 abbrev pub SessionsComplete : Type 0
 SessionsComplete = (m : Mounted) (terms : Terms) (setup : Setup) (before : List Entry) (t : History) (v : View) → GoesFrom m terms setup before t.entries v

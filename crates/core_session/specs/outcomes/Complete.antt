@@ -45,7 +45,7 @@ ServedComplete = (m : Mounted) (terms : Terms) (setup : Setup) (before : List En
     → Notes (machine_of m) setup t.entries v → CarriesBytes t.entries → IsServed t
     → (lane x y : ℕ) (op : Op) (answer : Answer) → Ended t.entries lane x op y answer → IsOwn answer
 
--- The same in a session that nothing disturbs (`world_model`), where operations may go on from a status; but for refusals by a status that have no row yet.
+-- The same in a session that nothing disturbs (`claims`), where operations may go on from a status; but for refusals by a status that have no row yet.
 abbrev pub UndisturbedComplete : Type 0
 UndisturbedComplete = (m : Mounted) (terms : Terms) (setup : Setup) (before : List Entry) (t : History) (v : View) → GoesFrom m terms setup before t.entries v
     → Notes (machine_of m) setup t.entries v → CarriesBytes t.entries → Undisturbed terms t

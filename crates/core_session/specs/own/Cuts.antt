@@ -24,7 +24,7 @@ abbrev pub CutsStayBare : Type 0
 CutsStayBare = (m : Mounted) (terms : Terms) (setup : Setup) (t : History) (v : View) → m.nocto ≡ terms.modes.nocto → Notes (machine_of m) setup t.entries v
     → KnowsRoot terms.origin t.entries m.root → PutsNamed t.entries → OnlySetsUp t.entries → Lawful t → Once t.entries → CutsStay terms.modes terms.origin t
 
--- So a read shows zeros past the size of each truncate that went well before it began, by world_model, where the server gives each change of a file another
+-- So a read shows zeros past the size of each truncate that went well before it began, by `claims`, where the server gives each change of a file another
 -- stamp.
 abbrev pub CutsRead : Type 0
 CutsRead = (m : Mounted) (terms : Terms) (setup : Setup) (t : History) (v : View) → m.nocto ≡ terms.modes.nocto → m.noac ≡ terms.modes.noac

@@ -36,7 +36,7 @@ PendingUnsettled = (m : Mounted) (terms : Terms) (setup : Setup) (h : List Entry
     → KnowsRoot terms.origin h m.root → PutsNamed h → (f : List ℕ) (i byte : ℕ)
     → newest_at (of_file f v.shelf.back).segments i ≡ Some byte → IsUnsettled terms.modes terms.origin h f i (length h) byte
 
--- Where each answer that is ready was noted, it may be pending at this moment, in world_model's words.
+-- Where each answer that is ready was noted, it may be pending at this moment, in `claims`'s words.
 abbrev pub PendingHeldBack : Type 0
 PendingHeldBack = (m : Mounted) (terms : Terms) (setup : Setup) (h : List Entry) (v : View) → GoesWith m terms setup h v → v.lost ≡ false
     → KnowsRoot terms.origin h m.root → PutsNamed h → NoneReady v → (f : List ℕ) (i byte : ℕ)

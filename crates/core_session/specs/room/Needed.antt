@@ -58,7 +58,7 @@ pub record IsCausedInNeed (terms : Terms) (h : List Entry) (i : ℕ) (bytes : Li
   pub left : IsLeft terms h x i op call
   pub keeps : KeepsTo terms h x i call
 
--- As `CallsAsked` of `world_model`, but that a call may be such a one.
+-- As `CallsAsked` of `claims`, but that a call may be such a one.
 pub record CallsAskedInNeed (terms : Terms) (h : List Entry) : Type 0 where
   pub caused : (i : ℕ) (bytes : List ℕ) → At h i (Sent bytes) → IsCaused terms h i bytes ⊎ IsCausedInNeed terms h i bytes
   pub among : (i xid : ℕ) (bytes : List ℕ) → At h i (Sent bytes) → HasXid bytes xid → (terms.first ≤ xid) × (xid < terms.first + terms.calls)

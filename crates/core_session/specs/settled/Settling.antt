@@ -66,7 +66,7 @@ abbrev pub SavedStay : Type 0
 SavedStay = (m : Mounted) (terms : Terms) (setup : Setup) (t : History) (v : View) → GoesWith m terms setup t.entries v → OnlySetsUp t.entries
     → Lawful t → Once t.entries → AreSaved terms.modes terms.origin t → Settled terms.modes terms.origin t
 
--- and each is: so all that was settled stays, unless it was touched, as world_model says.
+-- and each is: so all that was settled stays, unless it was touched, as `claims` says.
 abbrev pub SettledStay : Type 0
 SettledStay = (m : Mounted) (terms : Terms) (setup : Setup) (t : History) (v : View) → GoesWith m terms setup t.entries v
     → KnowsRoot terms.origin t.entries m.root → PutsNamed t.entries → OnlySetsUp t.entries → Lawful t → Once t.entries → Settled terms.modes terms.origin t

@@ -14,7 +14,7 @@ use Rattle.core_session.specs.current.Recent.{KeepsBriefly}
 use Rattle.core_session.specs.syncs.Synced.{PutsNamed}
 use Rattle.core_answers.specs.pages.True.{GivenTrue}
 
--- Each byte of each answer to a read is current, by world_model, where the server is honest and gives each change of a file another stamp, the root's handle is
+-- Each byte of each answer to a read is current, by `claims`, where the server is honest and gives each change of a file another stamp, the root's handle is
 -- known and the paths of puts name a file.
 abbrev pub ReadsCurrent : Type 0
 ReadsCurrent = (m : Mounted) (terms : Terms) (setup : Setup) (t : History) (v : View) → GoesWith m terms setup t.entries v → m.noac ≡ terms.modes.noac

@@ -10,4 +10,4 @@ came_bytes-requires c = at-below c.args.entries.now c.args.place c.args.last.now
 pub returns : goal.returns
 returns c m same = subst (λ (z : Option (List ℕ)). FindsFile m c.args.entries.now c.args.place z) (sym c.file_in.ensures)
     (subst (λ (b : Bool). FindsFile m c.args.entries.now c.args.place (file_in b c.args.last.now.call c.in_ok-reply.reply)) same
-    (finds-by m c.args.entries.now c.args.place c.args.last.now c.requires c.in_ok-reply.reply (rw c.came_bytes.ensures at c.in_ok-reply.ensures)))
+    (finds-by m c.args.entries.now c.args.place c.args.last.now c.requires c.in_ok-reply.reply (rw c.came_bytes.ensures at c.in_ok-reply.ensures.finds)))

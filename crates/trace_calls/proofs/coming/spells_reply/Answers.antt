@@ -8,4 +8,4 @@ pub returns-then-ne : goal.returns-then-ne
 returns-then-ne c = no-xid-reply c.args.xid c.args.call.now c.args.reply.now c.args.rec.now (λ has. absurd (grind (arith, common_steps, has)))
 
 pub returns-in-None : goal.returns-in-None
-returns-in-None c = no-reply c.args.xid c.args.call.now c.args.reply.now c.args.rec.now (rw c.in-None.is at c.in_ok-came.ensures)
+returns-in-None c = no-reply c.args.xid c.args.call.now c.args.reply.now c.args.rec.now (rw c.in-None.is at c.in_ok-came.ensures.finds)

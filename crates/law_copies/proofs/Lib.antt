@@ -1,0 +1,4 @@
+pub mod Marks
+pub mod Doing
+pub mod Places
+pub mod Lasting
