@@ -6,7 +6,7 @@ use Rattle.world_model.specs.declared.entry.Entry.TheVariants.{Began}
 use Rattle.world_model.specs.declared.op.Op.{Op}
 use Rattle.world_model.specs.declared.tally.Tally.{Tally}
 use Rattle.world_model.specs.Clocked.{clocks}
-use Rattle.world_model.specs.Entries.{At}
+use Rattle.world_model.specs.Entries.{At, ours}
 use Rattle.world_model.specs.Follows.{Follows, begun}
 use Rattle.world_model.specs.Lost.{IsLost}
 use Rattle.link_dials.specs.Sendings.{GoesToPorts}
@@ -139,7 +139,7 @@ empty-headline s left given h status text none session =
         timed = session.timed;
       };
       caused = λ how ends. quiet-caused (terms_by s 1) h quiet _ how;
-      ports = empty-ports s h none;
+      ports = empty-ports s h (ap ours none);
       resends = empty-resends h none;
       thrifty = quiet-thrifty (terms_by s 1) h quiet;
       evidence = quiet-evident (terms_by s 1) h quiet (modes_of s) (origin_of s.export);
