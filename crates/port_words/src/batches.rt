@@ -1,10 +1,10 @@
 //! The words of a session of batches.
 
-ghost use Rattle.std.specs.Prelude.{◌≡◌, IfOk, map, string_bytes};
-ghost use Rattle.port_words.specs.Texts.{with_calls};
+ghost use Rattle.std.specs.Prelude.{◌≡◌, ◌++◌, IfOk, map, string_bytes};
+ghost use Rattle.port_words.specs.Texts.{missing_calls, with_calls};
 
 use crate::texts::{add, add_all, are_named};
-use std::alloc::Global;
+use std::alloc::{AllocError, Global};
 use xdr_codec::Memory;
 
 /// The most calls that a session can make.
@@ -18,11 +18,19 @@ pub fn batch_words(alloc: Global, words: &[String]) -> Result<Vec<String>, Memor
     let mut all = Vec::new(alloc);
     if let Some((first, rest)) = words.split_first() {
         add(alloc, &mut all, first.as_str())?;
-        if !are_named(words, "--calls") {
-            add(alloc, &mut all, "--calls")?;
-            add(alloc, &mut all, CALLS)?;
-        }
+        add_calls(alloc, &mut all, words)?;
         add_all(alloc, &mut all, rest)?;
     }
     Ok(all)
+}
+
+/// Adds the most calls that there can be, where no word is or begins with the option.
+fn add_calls(alloc: Global, all: &mut Vec<String>, words: &[String]) -> Result<(), AllocError>
+    ensures { IfOk result (λ _. map string_bytes all.new.items ≡ map string_bytes all.old.items ++ missing_calls (map string_bytes words.now)) }
+{
+    if are_named(words, "--calls") {
+        return Ok(());
+    }
+    add(alloc, all, "--calls")?;
+    add(alloc, all, CALLS)
 }
