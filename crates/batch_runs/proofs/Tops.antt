@@ -7,7 +7,7 @@ use Rattle.nfs_script.specs.declared.script.ScriptLine.{ScriptLine}
 use Rattle.session_words.specs.declared.settings.Settings.{Settings}
 use Rattle.session_words.specs.Words.{IsCommand, IsNocto}
 use Rattle.session_setup.specs.declared.opening.SetUp.{SetUp}
-use Rattle.script_batches.specs.Batches.{Read}
+use Rattle.script_batches.specs.Batches.{InputView, Read}
 use Rattle.script_runs.specs.LaneRuns.{Leaves}
 use Rattle.script_runs.specs.Readings.{Reads}
 use Rattle.script_runs.specs.Run.{IsCutOff, KeepsForOpens, Says}
@@ -18,7 +18,7 @@ use Rattle.batch_runs.specs.declared.stop.Stop.{Stop}
 use Rattle.batch_runs.specs.declared.stop.Stop.TheVariants as stops
 use Rattle.batch_runs.specs.Opening.{IsEnding, OpensWith}
 use Rattle.batch_runs.specs.Parts.{AreIdleFrom, IsWorst}
-use Rattle.batch_runs.specs.Reading.{FindsScript, StopsIdle}
+use Rattle.batch_runs.specs.Reading.{FindsScript, StopsIdle, left_in}
 use Rattle.batch_runs.specs.Running.{IsRead, ended_with, in_front}
 use Rattle.batch_runs.specs.Runs.{BatchesBy, RunOf, batches, cut_before, no_words}
 use Rattle.batch_runs.specs.Stops.{CausedBy, status_of}
@@ -35,6 +35,19 @@ BatchesSay v w a b old new s left status =
 abbrev pub RunSays : (v w a b : Option (List ℕ)) (old new : Option History) (words : List (List ℕ)) (left : Option (List ℕ)) (status : ℕ) → Type 0
 RunSays v w a b old new words left status =
     Says v w (λ text. Reads a b (λ given. Relates old new (λ before h. before ≡ [] → RunOf (BatchesBy Leaves) given words left h status text)))
+
+-- ---- where it begins
+
+-- nothing was read of the input
+abbrev pub unread_view : InputView
+unread_view = record { held = record { bytes = []; reads = 18446744073709551615 }; lines = 0 }
+
+pub begun-finds : (count : Bool) (start now : Answered) (view : InputView) (v w : Option (List ℕ)) (left : Option (List ℕ)) (rest : Option (List Read)) (result : Result (Option (List ScriptLine)) Stop)
+    → start ≡ nothing → view ≡ unread_view → Says v w (FindsScript (AreIdleFrom count) (StopsIdle count) start now (left_in left view) rest result)
+    → Says v w (FindsScript (AreIdleFrom count) (StopsIdle count) nothing now (first_left left) rest result)
+begun-finds count start now view v w left rest result start_is view_is said =
+    subst (λ (a : Answered). Says v w (FindsScript (AreIdleFrom count) (StopsIdle count) a now (first_left left) rest result)) start_is
+    (subst (λ (i : InputView). Says v w (FindsScript (AreIdleFrom count) (StopsIdle count) start now (left_in left i) rest result)) view_is said)
 
 -- ---- no batch has a line, or none could be read
 

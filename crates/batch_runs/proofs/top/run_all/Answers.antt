@@ -1,11 +1,12 @@
 use Rattle.batch_runs.proofs.Causing.{all-caused, rose-before}
-use Rattle.batch_runs.proofs.Tops.{none-says, some-says, stop-says, worst-ends, never-five}
+use Rattle.batch_runs.proofs.Tops.{begun-finds, never-five, none-says, some-says, stop-says, worst-ends}
 use Rattle.batch_runs.proofs.top.run_all.Goals as goal
 
 pub returns-in-Ok-Some-clause-shown : goal.returns-in-Ok-Some-clause-shown
 returns-in-Ok-Some-clause-shown g c =
     let r = rw c.in-Ok-Some.field-0-is at c.in-Ok-Some.ensures in
-    some-says _ _ _ _ _ _ _ c.args.settings.now (g.S.Source.left c.args.source.now) _ c.first_script.new.answered c.in-Ok-Some.script c.open.result r.finds c.open.ensures.shown
+    some-says _ _ _ _ _ _ _ c.args.settings.now (g.S.Source.left c.args.source.now) _ c.first_script.new.answered c.in-Ok-Some.script c.open.result
+    (begun-finds c.args.settings.now.count _ _ _ _ _ _ _ _ c.none-answered.ensures c.new-batches.ensures r.finds) c.open.ensures.shown
 
 pub returns-in-Ok-Some-clause-cause : goal.returns-in-Ok-Some-clause-cause
 returns-in-Ok-Some-clause-cause g c =
@@ -20,7 +21,8 @@ returns-in-Ok-Some-clause-sink g c =
 pub returns-in-Ok-None-clause-shown : goal.returns-in-Ok-None-clause-shown
 returns-in-Ok-None-clause-shown g c =
     let r = rw c.in-Ok-None.field-0-is at c.in-Ok-None.ensures in
-    none-says _ _ _ _ c.args.settings.now (g.S.Source.left c.args.source.now) _ c.first_script.new.answered r.finds
+    none-says _ _ _ _ c.args.settings.now (g.S.Source.left c.args.source.now) _ c.first_script.new.answered
+    (begun-finds c.args.settings.now.count _ _ _ _ _ _ _ _ c.none-answered.ensures c.new-batches.ensures r.finds)
 
 pub returns-in-Ok-None-clause-statuses : goal.returns-in-Ok-None-clause-statuses
 returns-in-Ok-None-clause-statuses g c = worst-ends _ c.in-Ok-None.ensures.worst
@@ -28,8 +30,10 @@ returns-in-Ok-None-clause-statuses g c = worst-ends _ c.in-Ok-None.ensures.worst
 pub returns-in-Ok-None-clause-sink : goal.returns-in-Ok-None-clause-sink
 returns-in-Ok-None-clause-sink g c = λ five. absurd (never-five _ c.in-Ok-None.ensures.worst cc)
 
-pub returns-in-Err-clause-shown : goal.returns-in-Err-clause-shown
-returns-in-Err-clause-shown g c = stop-says _ _ _ _ c.args.settings.now (g.S.Source.left c.args.source.now) _ c.first_script.new.answered c.in-Err.stop c.in-Err.ensures.finds
+pub returns-clause-shown : goal.returns-clause-shown
+returns-clause-shown g c =
+    stop-says _ _ _ _ c.args.settings.now (g.S.Source.left c.args.source.now) _ c.first_script.new.answered c.in-Err.stop
+    (begun-finds c.args.settings.now.count _ _ _ _ _ _ _ _ c.none-answered.ensures c.new-batches.ensures c.in-Err.ensures.finds)
 
-pub returns-in-Err-clause-sink : goal.returns-in-Err-clause-sink
-returns-in-Err-clause-sink g c = λ five. absurd cc
+pub returns-clause-sink : goal.returns-clause-sink
+returns-clause-sink g c = λ five. absurd cc
