@@ -6,4 +6,4 @@ pub returns-clause-takes : goal.returns-clause-takes
 returns-clause-takes c = search rules
 
 pub returns-clause-sound : goal.returns-clause-sound
-returns-clause-sound c = takes-sound c.args.self.now _ c.args.rec.now c.in-Took.purpose (returns-clause-takes c) c.requires.sound
+returns-clause-sound c = takes-sound c.args.self.now _ c.args.rec.now _ (returns-clause-takes c) c.requires.sound
