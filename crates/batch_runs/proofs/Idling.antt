@@ -36,16 +36,19 @@ idle-cut count v w (l ∷ ls) stop old new none said = absurd (omega (arith, non
 
 -- ---- batches that were refused, and the one that was found
 
+abbrev found_of : List ScriptLine → Result (Option (List ScriptLine)) Stop
+found_of lines = Ok (Some lines)
+
+same-found : (lines : List ScriptLine) (r : Result (Option (List ScriptLine)) Stop) → IfOk r (λ o. o ≡ Some lines) → IfOk r (λ o. found_of lines ≡ Ok o)
+same-found lines (Ok o) e = ap (λ (x : Option (List ScriptLine)). Ok x) (sym e)
+same-found lines (Err stop) e = tt
+
 module _ (count : Bool) (u v w : Option (List ℕ)) (old mid new : Answered) (left rest : Option (List Read)) where
   pub idle-found : (lines : List ScriptLine) (result : Result (Option (List ScriptLine)) Stop) → IfOk result (λ r. r ≡ Some lines)
       → Says u v (FindsScript RefusedFrom StopsAt old mid left rest (Ok (Some lines))) → Says v w (AnswersIdle count lines mid new result) → Says u w (TakesIdle count old new left rest result)
   idle-found lines result same finds answers =
       says-then u v w (FindsScript RefusedFrom StopsAt old mid left rest (Ok (Some lines))) (AnswersIdle count lines mid new result) (TakesIdle count old new left rest result)
-      (λ f b x y. record { found = Ok (Some lines); mid = mid; front = f; back = b; finds = x; answers = y; same = same-found result same; text_is = refl }) finds answers
-    where
-      same-found : (r : Result (Option (List ScriptLine)) Stop) → IfOk r (λ o. o ≡ Some lines) → IfOk r (λ o. Ok (Some lines) ≡ Ok o)
-      same-found (Ok o) e = ap (λ (x : Option (List ScriptLine)). Ok x) (sym e)
-      same-found (Err stop) e = tt
+      (λ f b x y. record { found = Ok (Some lines); mid = mid; front = f; back = b; finds = x; answers = y; same = same-found lines result same; text_is = refl }) finds answers
 
 module _ (count : Bool) (v w : Option (List ℕ)) (old new : Answered) (left rest : Option (List Read)) where
   pub idle-none : Says v w (FindsScript RefusedFrom StopsAt old new left rest (Ok None)) → Says v w (TakesIdle count old new left rest (Ok None))

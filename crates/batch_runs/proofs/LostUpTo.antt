@@ -82,7 +82,7 @@ module _ (script : List ScriptLine) (asked : All IsAskedLine script) (given told
     (told_is : told ≡ told_by [] es) where
   pub own-status : HasStatus es (status_of script)
   own-status =
-      (lost-ends (by_lanes 16 script) script (lanes-same script asked) (record { status = status_of script; tally = tally_of [] }) given told [] es es refl (λ lane. refl) refl lines given_is told_is).status
+      (lost-ends (by_lanes 16 script) script (lanes-same script asked) (record { status = status_of script; tally = tally_of []; pages = None }) given told [] es es refl (λ lane. refl) refl lines given_is told_is).status
 
   loses : LosesBy [] (by_lanes 16 script) (Ok tt) given told k l
   loses = (es, is, lines, given_is, told_is)
@@ -98,4 +98,4 @@ module _ (script : List ScriptLine) (asked : All IsAskedLine script) (given told
 
   pub same-calls : tally_of k ≡ tally_of l
   same-calls =
-      told-lost-counted (Some (history k)) (Some (history l)) [] (by_lanes 16 script) given told (record { status = 0; tally = tally_of k }) (tally_of k) refl loses tt refl
+      told-lost-counted (Some (history k)) (Some (history l)) [] (by_lanes 16 script) given told (record { status = 0; tally = tally_of k; pages = None }) (tally_of k) refl loses tt refl
