@@ -122,8 +122,7 @@ module _ (count : Bool) (old mid new : Answered) (left between rest : Option (Li
       by : (found : Result (Option (List ScriptLine)) Stop) → FindsScript RefusedFrom StopsAt mid t.mid between rest found t.front → AnswersFound count found t.mid new (Err stop) t.back
           → FindsScript (AreIdleFrom count) (StopsIdle count) old new left rest (Err stop) (text ++ one)
       by (Ok (Some [])) f b =
-          let number : t.mid.count + 1 ≡ suc new.count = (let n = ap (λ (x : Answered). x.count) b.0 in omega (arith, n)) in
-          (
+          let number : t.mid.count + 1 ≡ suc new.count = (let n = ap (λ (x : Answered). x.count) b.0 in omega (arith, n)) in (
             f.0,
             (
               text ++ t.front,
@@ -138,8 +137,7 @@ module _ (count : Bool) (old mid new : Answered) (left between rest : Option (Li
       by (Err other) f b =
           let same : stop ≡ other = (let e = b.0 in cc) in
           let stops : StopsAt (suc t.mid.count) stop f.0 f.1.1 = subst (λ (x : Stop). StopsAt (suc t.mid.count) x f.0 f.1.1) (sym same) f.1.4 in
-          let number : suc t.mid.count ≡ suc new.count = (let n = ap (λ (x : Answered). x.count) b.1 in omega (arith, n)) in
-          (
+          let number : suc t.mid.count ≡ suc new.count = (let n = ap (λ (x : Answered). x.count) b.1 in omega (arith, n)) in (
             f.0,
             (
               text ++ f.1.0,
