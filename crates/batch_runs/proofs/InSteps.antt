@@ -1,5 +1,5 @@
 -- A session of batches goes on by a script, or ends so, with what the clock gave and what was written.
-use Rattle.std.proofs.Common.{◌≡◌, ℕ, List, ◌++◌, All, length, Bool, true, Option, Some, None, Result, Ok, Err}
+use Rattle.std.proofs.Common.{ℕ, List, All, Bool, Option, Some, None, Result, Ok, Err}
 use Rattle.world_model.specs.declared.entry.Entry.{Entry}
 use Rattle.world_model.specs.History.{History}
 use Rattle.nfs_script.specs.Asked.{IsAskedLine}

@@ -1,5 +1,5 @@
 -- A script of a session that was lost in its set-up, and what is found behind it, with what the clock gave and what was written.
-use Rattle.std.proofs.Common.{◌≡◌, ◌+◌, ℕ, inl, inr, List, [], ◌∷◌, ◌++◌, All, length, Bool, Option, Some, None, Result, Ok, Err, refl, sym, subst, arith}
+use Rattle.std.proofs.Common.{◌≡◌, ◌+◌, ℕ, inl, inr, List, [], ◌∷◌, ◌++◌, All, length, Bool, Option, Some, None, Result, Ok, Err, refl, subst, arith}
 use Rattle.world_model.specs.declared.entry.Entry.{Entry}
 use Rattle.world_model.specs.declared.tally.Tally.{Tally}
 use Rattle.world_model.specs.Counts.{tally_of}

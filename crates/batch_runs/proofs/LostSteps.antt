@@ -27,8 +27,8 @@ use Rattle.batch_runs.specs.declared.answered.Answered.{Answered}
 use Rattle.batch_runs.specs.declared.stop.Stop.{Stop}
 use Rattle.batch_runs.specs.declared.stop.Stop.TheVariants as stops
 use Rattle.batch_runs.specs.Parts.{Part, PartIs, RefusedFrom, asked_in, entries_in, lines_in, ran_part, ran_text, refused_text, text_in, worst_in}
-use Rattle.batch_runs.specs.Reading.{AnswersAll, IsAtEnd, IsFirst, StopsAt, Takes, in_refusal, no_batch}
-use Rattle.batch_runs.specs.Running.{FromBatch, IsLostCut, LosesNext, LosesOn, LosesScripts, LosesWhole, ended_with, in_front}
+use Rattle.batch_runs.specs.Reading.{AnswersAll, IsAtEnd, StopsAt, Takes, in_refusal, no_batch}
+use Rattle.batch_runs.specs.Running.{FromBatch, LosesNext, LosesOn, LosesScripts, LosesWhole, ended_with, in_front}
 use Rattle.batch_runs.specs.Runs.{EndsBatches, IsNone, Rest, at_end, cut_between, cut_done, cut_in, cut_refused, no_source}
 use Rattle.batch_runs.specs.Stops.{of_halt, status_of}
 use Rattle.batch_runs.proofs.LeftOf.{from-current, from-end, from-left, from-refusal, halt-off, last-few, last-none, left_of, stop-off}

@@ -1,37 +1,29 @@
 -- A session that was lost in its set-up, on its way: each batch so far was answered so.
-use Rattle.std.proofs.Common.{◌≡◌, ◌≤◌, ◌<◌, ◌+◌, ℕ, zero, suc, List, [], ◌∷◌, ◌++◌, All, length, map, max, Bool, Option, Some, None, Ok, refl, sym, ap, subst, ◌∙◌, append-nil, append_assoc, arith}
-use Rattle.std.proofs.lemmas.List.{length-append}
+use Rattle.std.proofs.Common.{◌≡◌, ◌≤◌, ◌+◌, ℕ, zero, suc, List, [], ◌∷◌, ◌++◌, All, length, Bool, Some, None, Ok, refl, sym, ap, subst, ◌∙◌, arith}
 use Rattle.world_model.specs.declared.entry.Entry.{Entry}
 use Rattle.world_model.specs.declared.entry.Entry.TheVariants.{Delivered}
 use Rattle.world_model.specs.declared.tally.Tally.{Tally}
 use Rattle.world_model.specs.Clocked.{clocks}
 use Rattle.world_model.specs.Counts.{tally_of}
 use Rattle.world_model.specs.Entries.{At}
-use Rattle.world_model.specs.Follows.{Finishes, begun}
+use Rattle.world_model.specs.Follows.{begun}
 use Rattle.world_model.specs.History.{history}
-use Rattle.world_model.specs.Transcript.{transcript}
 use Rattle.nfs_script.specs.Asked.{IsAskedLine}
-use Rattle.nfs_script.specs.DoneText.{done_text}
 use Rattle.nfs_script.specs.declared.script.ScriptLine.{ScriptLine}
-use Rattle.script_batches.specs.Batches.{Read}
-use Rattle.lane_session.specs.Endings.{counts_text, entries_of}
+use Rattle.lane_session.specs.Endings.{entries_of}
 use Rattle.lane_session.specs.Labels.{told_by}
 use Rattle.lane_session.specs.Losing.{IsLosing, LosesBy, LosesOnly, LostLines, by_lanes, status_of}
 use Rattle.lane_session.specs.Statuses.{HasStatus}
 use Rattle.lane_session.specs.TogetherFrom.{TogetherFrom}
 use Rattle.lane_session.proofs.CoreEnds.{told-lost-counted}
-use Rattle.lane_session.proofs.Labels.{told-plain}
 use Rattle.lane_session.proofs.LaneOrder.{by-empty, lanes-same}
 use Rattle.lane_session.proofs.LostAdds.{told-loses}
 use Rattle.lane_session.proofs.LostLaws.{entries-both, lost-ends}
-use Rattle.lane_session.proofs.Pushes.{begun-append, clocks-append}
+use Rattle.lane_session.proofs.Pushes.{begun-append}
 use Rattle.batch_runs.specs.declared.answered.Answered.{Answered}
-use Rattle.batch_runs.specs.Parts.{ArePartsFrom, Part, PartIs, asked_in, entries_in, lines_in, ran_part, ran_text, text_in, worst_in}
-use Rattle.batch_runs.specs.Reading.{Counts, Takes}
-use Rattle.batch_runs.specs.Running.{LosesWhole}
-use Rattle.batch_runs.proofs.LostSo.{IsLostTo, lost-finishes, lost-lines}
-use Rattle.batch_runs.proofs.Parts.{entries-append, length-append as parts-length, lines-append, parts-append, reads-append, text-append, worst-append}
-use Rattle.batch_runs.proofs.UpTo.{all-append, max-none, max-one, reads_in}
+use Rattle.batch_runs.specs.Parts.{ArePartsFrom, Part, entries_in, lines_in, text_in}
+use Rattle.batch_runs.specs.Reading.{Counts}
+use Rattle.batch_runs.proofs.LostSo.{IsLostTo}
 
 abbrev pub EachLosing : List Entry → Type 0
 EachLosing es = (i : ℕ) (e : Entry) → At es i e → IsLosing e

@@ -1,6 +1,5 @@
 -- A script that is run and answered, and what is found behind it, with what the clock gave and what was written.
-use Rattle.std.proofs.Common.{◌≡◌, ◌+◌, ℕ, inl, inr, List, [], ◌++◌, Bool, Option, Some, None, IfOk, Result, Ok, Err, refl, sym, ap, subst, ◌∙◌}
-use Rattle.world_model.specs.declared.entry.Entry.{Entry}
+use Rattle.std.proofs.Common.{◌≡◌, ◌+◌, ℕ, inr, List, [], ◌++◌, Bool, Option, Some, IfOk, Result, Ok, Err, refl, sym, ap, subst, ◌∙◌}
 use Rattle.world_model.specs.declared.tally.Tally.{Tally}
 use Rattle.world_model.specs.History.{History}
 use Rattle.nfs_script.specs.declared.script.ScriptLine.{ScriptLine}
@@ -18,7 +17,7 @@ use Rattle.batch_runs.specs.declared.answered.Answered.{Answered}
 use Rattle.batch_runs.specs.declared.stop.Stop.{Stop}
 use Rattle.batch_runs.specs.Parts.{RefusedFrom}
 use Rattle.batch_runs.specs.Reading.{AnswersOne, FindsScript, StopsAt}
-use Rattle.batch_runs.specs.Running.{IfNext, IsOver, RunsNext, RunsOne, RunsWhole, StandsBefore}
+use Rattle.batch_runs.specs.Running.{IfNext, IsOver, RunsNext, RunsOne}
 use Rattle.batch_runs.specs.Stops.{of_halt}
 use Rattle.batch_runs.proofs.Joining.{found-or-not, one-cut, one-ran, runs-found}
 use Rattle.batch_runs.proofs.Saying.{passes-on, says-less}

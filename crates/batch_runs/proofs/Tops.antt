@@ -1,16 +1,15 @@
 -- What a whole run of batches says.
-use Rattle.std.proofs.Common.{◌≡◌, ◌≢◌, ◌≤◌, ◌⊎◌, inl, inr, ℕ, List, [], ◌∷◌, ◌++◌, Bool, true, false, Option, Some, None, IfOk, Result, Ok, Err, refl, sym, ap, subst, ◌∙◌, arith}
+use Rattle.std.proofs.Common.{◌≡◌, ◌≢◌, ◌≤◌, ◌⊎◌, inl, inr, ℕ, List, [], ◌++◌, Bool, true, false, Option, Some, None, IfOk, Result, Ok, Err, refl, sym, subst, ◌∙◌, arith}
 use Rattle.world_model.specs.declared.entry.Entry.{Entry}
 use Rattle.world_model.specs.History.{History}
 use Rattle.world_model.specs.Told.{Relates}
 use Rattle.nfs_script.specs.declared.script.ScriptLine.{ScriptLine}
 use Rattle.session_words.specs.declared.settings.Settings.{Settings}
 use Rattle.session_words.specs.Words.{IsCommand, IsNocto}
-use Rattle.session_setup.specs.declared.opening.SetUp.{SetUp}
 use Rattle.script_batches.specs.Batches.{InputView, Read}
 use Rattle.script_runs.specs.LaneRuns.{Leaves}
 use Rattle.script_runs.specs.Readings.{Reads}
-use Rattle.script_runs.specs.Run.{IsCutOff, KeepsForOpens, Says}
+use Rattle.script_runs.specs.Run.{IsCutOff, Says}
 use Rattle.script_runs.proofs.Readings.{reads_none}
 use Rattle.script_runs.proofs.StreamLaws.{appends_none}
 use Rattle.batch_runs.specs.declared.answered.Answered.{Answered}
@@ -19,8 +18,8 @@ use Rattle.batch_runs.specs.declared.stop.Stop.TheVariants as stops
 use Rattle.batch_runs.specs.Opening.{IsEnding, OpensWith}
 use Rattle.batch_runs.specs.Parts.{AreIdleFrom, IsWorst}
 use Rattle.batch_runs.specs.Reading.{FindsScript, StopsIdle, left_in}
-use Rattle.batch_runs.specs.Running.{IsRead, ended_with, in_front}
-use Rattle.batch_runs.specs.Runs.{BatchesBy, RunOf, batches, cut_before, no_words}
+use Rattle.batch_runs.specs.Running.{IsRead, ended_with}
+use Rattle.batch_runs.specs.Runs.{BatchesBy, RunOf, batches}
 use Rattle.batch_runs.specs.Stops.{CausedBy, status_of}
 use Rattle.batch_runs.proofs.Opens.{OpenSays}
 use Rattle.batch_runs.proofs.Saying.{appends-then}

@@ -21,7 +21,8 @@ use Rattle.batch_runs.specs.Running.{LosesScripts, RunsAll, ended_with}
 abbrev pub IsEnding : ℕ → Type 0
 IsEnding status = (status ≡ 0) ⊎ (status ≡ 1) ⊎ (status ≡ 3) ⊎ (status ≡ 6) ⊎ (status ≡ 8) ⊎ (status ≡ 5) ⊎ (status ≡ 7)
 
--- The session was set up, and all batches from the first one with a line on were run; or it was lost in its set-up; or the mount was refused, or memory ran out.
+-- The session was set up, and all batches from the first one with a line on were run; or it was lost in its set-up; or the mount was refused, or memory ran
+-- out.
 pub data OpensWith (R : Settings → List ScriptLine → ℕ → SetUp → List Entry → List Entry → Type 0) (s : Settings) (old : Answered)
     (left : Option (List Read)) (given : List ℕ) (h : List Entry) (result : Result ℕ Stop) (text : List ℕ) : Type 0 where
   opened : (ms xid : ℕ) (later : List ℕ) → given ≡ ms ∷ later → IsFirst given s.xid xid → (v : SetUp) (before : List Entry) → SetsUp s xid (Ok v) before

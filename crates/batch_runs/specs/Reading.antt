@@ -91,8 +91,8 @@ pub record AnswersAll (Are : ℕ → List Part → Type 0) (old new : Answered) 
 -- The source failed; or memory ran out; or the text that refuses a batch was cut off.
 pub data StopsAt (number : ℕ) (stop : Stop) (left : Option (List Read)) (rest : List ℕ) : Type 0 where
   no_batch : rest ≡ [] → StopsAt number stop left rest
-  in_refusal : stop ≢ stops.Source → (batch : Read) (fault : ScriptFault) → IsFirst left batch → IsRefusalOf batch fault → IsFront rest (refused_text number fault)
-      → StopsAt number stop left rest
+  in_refusal : stop ≢ stops.Source → (batch : Read) (fault : ScriptFault) → IsFirst left batch → IsRefusalOf batch fault
+      → IsFront rest (refused_text number fault) → StopsAt number stop left rest
 
 -- no call was made
 abbrev pub no_calls : Tally
@@ -105,8 +105,8 @@ pub data StopsIdle (count : Bool) (number : ℕ) (stop : Stop) (left : Option (L
       → StopsIdle count number stop left rest
 
 -- Batches of this kind were answered. Then one was read that may be run, or there is none; or no further one could be read or answered.
-abbrev pub FindsScript : (ℕ → List Part → Type 0) → (ℕ → Stop → Option (List Read) → List ℕ → Type 0) → Answered → Answered → Option (List Read) → Option (List Read)
-    → Result (Option (List ScriptLine)) Stop → List ℕ → Type 0
+abbrev pub FindsScript : (ℕ → List Part → Type 0) → (ℕ → Stop → Option (List Read) → List ℕ → Type 0) → Answered → Answered → Option (List Read)
+    → Option (List Read) → Result (Option (List ScriptLine)) Stop → List ℕ → Type 0
 FindsScript Are Stops old new left rest (Ok (Some lines)) text =
     (mid : Option (List Read)) × AnswersAll Are old new left mid text × ((batch : Read) × Takes mid rest (batch ∷ []) × (asked_in batch ≡ Ok lines))
 FindsScript Are Stops old new left rest (Ok None) text = (mid : Option (List Read)) × AnswersAll Are old new left mid text × IsAtEnd mid rest
@@ -120,9 +120,11 @@ AnswersOne status whole old new (Err stop) text = (new ≡ old) × (stop ≢ sto
 
 -- The next batch was read, and answered if it is refused. Or there is none; or it could not be read or answered.
 abbrev pub TakesOne : Answered → Answered → Option (List Read) → Option (List Read) → Result Next Stop → List ℕ → Type 0
-TakesOne old new left rest (Ok (nexts.Script lines)) text = (batch : Read) × Takes left rest (batch ∷ []) × (asked_in batch ≡ Ok lines) × (text ≡ []) × (new ≡ old)
+TakesOne old new left rest (Ok (nexts.Script lines)) text =
+    (batch : Read) × Takes left rest (batch ∷ []) × (asked_in batch ≡ Ok lines) × (text ≡ []) × (new ≡ old)
 TakesOne old new left rest (Ok (nexts.Refused fault)) text =
-    (batch : Read) × Takes left rest (batch ∷ []) × (asked_in batch ≡ Err fault) × AnswersOne {T = Unit {0}} 3 (refused_text (old.count + 1) fault) old new (Ok tt) text
+    (batch : Read) × Takes left rest (batch ∷ []) × (asked_in batch ≡ Err fault)
+    × AnswersOne {T = Unit {0}} 3 (refused_text (old.count + 1) fault) old new (Ok tt) text
 TakesOne old new left rest (Ok nexts.End) text = IsAtEnd left rest × (text ≡ []) × (new ≡ old)
 TakesOne old new left rest (Err stop) text = (new ≡ old) × StopsAt (old.count + 1) stop left text
 
@@ -153,7 +155,8 @@ AnswersFound count (Ok None) old new result text = (result ≡ Ok None) × (new 
 AnswersFound count (Err stop) old new result text = (result ≡ Err stop) × (new ≡ old) × (text ≡ [])
 
 -- Batches were refused. Then one was read that may be run, and answered if it has no line; or there is none; or it came to an end.
-pub record TakesIdle (count : Bool) (old new : Answered) (left rest : Option (List Read)) (result : Result (Option (List ScriptLine)) Stop) (text : List ℕ) : Type 0 where
+pub record TakesIdle (count : Bool) (old new : Answered) (left rest : Option (List Read)) (result : Result (Option (List ScriptLine)) Stop)
+    (text : List ℕ) : Type 0 where
   pub found : Result (Option (List ScriptLine)) Stop
   pub mid : Answered
   pub front : List ℕ

@@ -34,8 +34,8 @@ pub record IsOver (script : List ScriptLine) (s : Session) : Type 0 where
   pub held : IsHeld script s
 
 -- The lines of a script were run, and then what ends its batch was written, or a front of that.
-pub record RunsWhole (count : Bool) (lines : List ScriptLine) (old new : Session) (before after : Answered) (result : Result (Unit {0}) Stop) (given text : List ℕ)
-    (h k : List Entry) : Type 0 where
+pub record RunsWhole (count : Bool) (lines : List ScriptLine) (old new : Session) (before after : Answered) (result : Result (Unit {0}) Stop)
+    (given text : List ℕ) (h k : List Entry) : Type 0 where
   pub told : List ℕ
   pub ended : List ℕ
   pub text_is : text ≡ told ++ ended
@@ -57,8 +57,8 @@ RunsOne count lines old new before after (Err stop) given text h k =
     IsCut lines old before after stop given text h k ⊎ RunsWhole count lines old new before after (Err stop) given text h k
 
 -- The same of a session that its set-up lost: each line was begun and answered so.
-pub record LosesWhole (count : Bool) (lines : List ScriptLine) (tally : Tally) (before after : Answered) (result : Result (Unit {0}) Stop) (given text : List ℕ)
-    (h k : List Entry) : Type 0 where
+pub record LosesWhole (count : Bool) (lines : List ScriptLine) (tally : Tally) (before after : Answered) (result : Result (Unit {0}) Stop)
+    (given text : List ℕ) (h k : List Entry) : Type 0 where
   pub told : List ℕ
   pub ended : List ℕ
   pub text_is : text ≡ told ++ ended
@@ -119,7 +119,8 @@ IfNext script (Ok (Some next)) old new = StandsBefore script next old new
 IfNext script (Ok None) old new = Unit {0}
 IfNext script (Err stop) old new = Unit {0}
 
--- The lines of a script were run and its batch was answered. Then batches were refused, and one was read that may be run; or there is none; or it came to an end.
+-- The lines of a script were run and its batch was answered. Then batches were refused, and one was read that may be run; or there is none; or it came to an
+-- end.
 pub record RunsOn (count : Bool) (lines : List ScriptLine) (old new : Session) (before after : Answered) (left rest : Option (List Read))
     (result : Result (Option (List ScriptLine)) Stop) (given text : List ℕ) (h k : List Entry) : Type 0 where
   pub told : List ℕ
@@ -168,12 +169,13 @@ RunsIn count first session old left result given text h k =
     → RunsTo count old left start.from m setup result given text h k
 
 -- The same over a set-up: a core goes with the whole history.
-pub record RunsOver (s : Settings) (setup : Setup) (old : Answered) (left : Option (List Read)) (result : Result ℕ Stop) (given text : List ℕ) (h k : List Entry)
-    : Type 0 where
+pub record RunsOver (s : Settings) (setup : Setup) (old : Answered) (left : Option (List Read)) (result : Result ℕ Stop) (given text : List ℕ)
+    (h k : List Entry) : Type 0 where
   pub runs : RunsAll s.count old left result given text h k
   pub core : HasCore (mounted_by s setup) setup h k
 
 -- The same of a session that its set-up lost: each line is answered so.
-pub record LosesScripts (count : Bool) (old : Answered) (left : Option (List Read)) (result : Result ℕ Stop) (given text : List ℕ) (h k : List Entry) : Type 0 where
+pub record LosesScripts (count : Bool) (old : Answered) (left : Option (List Read)) (result : Result ℕ Stop) (given text : List ℕ)
+    (h k : List Entry) : Type 0 where
   pub runs : RunsAll count old left result given text h k
   pub only : LosesOnly (lines_in runs.parts ++ runs.rest.lines) h k

@@ -1,11 +1,10 @@
 -- What a run of batches comes to.
-use Rattle.std.specs.Prelude.{◌≡◌, ◌≢◌, ◌+◌, ℕ, suc, Bool, List, [], ◌∷◌, ◌++◌, length, Option, Some, None, Result, Ok, Err}
+use Rattle.std.specs.Prelude.{◌≡◌, ◌+◌, ℕ, suc, Bool, List, [], ◌∷◌, ◌++◌, length, Option, Ok, Err}
 use Rattle.world_model.specs.declared.answer.Fault.{Fault}
 use Rattle.world_model.specs.declared.entry.Entry.{Entry}
 use Rattle.world_model.specs.declared.tally.Tally.{Tally}
 use Rattle.world_model.specs.Follows.{Follows, IsFront}
 use Rattle.world_model.specs.Lost.{IsLost}
-use Rattle.world_model.specs.Transcript.{transcript}
 use Rattle.nfs_script.specs.declared.fault.ScriptFault.{ScriptFault}
 use Rattle.nfs_script.specs.declared.script.ScriptLine.{ScriptLine}
 use Rattle.script_batches.specs.Batches.{Read}

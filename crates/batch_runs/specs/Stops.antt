@@ -1,5 +1,5 @@
 -- Why no further batch is run.
-use Rattle.std.specs.Prelude.{◌≡◌, ℕ, Result, Ok, Err}
+use Rattle.std.specs.Prelude.{ℕ, Result, Ok, Err}
 use Rattle.outside.specs.declared.link.LinkFault.{LinkFault}
 use Rattle.outside.specs.declared.link.LinkFault.TheVariants as links
 use Rattle.lane_session.specs.declared.halt.Halt.{Halt}

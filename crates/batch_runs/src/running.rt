@@ -93,7 +93,8 @@ fn run_in<S: Source, L: Link, C: Clock, K: Sink>(
     requires held { IsHeld first session.old }
     requires worst { IsWorst answered.old.status }
     ensures runs { Passes (C.readings clock.old) (C.readings clock.new) (L.told link.old) (L.told link.new) (K.written out.old) (K.written out.new)
-        (λ given text h k. IsRead first (left_in (S.left source.old) batches.old) (λ left. RunsIn count first session.old answered.old left result given text h k)) }
+        (λ given text h k. IsRead first (left_in (S.left source.old) batches.old)
+        (λ left. RunsIn count first session.old answered.old left result given text h k)) }
     ensures statuses { IfOk result IsWorst }
     ensures dials { KeepsPort session.old.port session.new.port (L.told link.old) (L.told link.new) }
     ensures stays { (first : L) → L.stays first link.old → L.stays first link.new }

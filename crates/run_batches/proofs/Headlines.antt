@@ -1,20 +1,16 @@
 -- What a session of batches leaves is what the headline says of it.
-use Rattle.std.proofs.Common.{◌≡◌, ◌≢◌, ◌⊎◌, ℕ, List, [], ◌∷◌, ◌++◌, Option, Ok, Err, refl, sym, ap, subst, ◌∙◌, arith, append-nil}
-use Rattle.world_model.specs.declared.answer.Fault.{Fault}
+use Rattle.std.proofs.Common.{◌≡◌, ℕ, List, [], ◌∷◌, ◌++◌, Option, Ok, Err, refl, sym, ap, subst, ◌∙◌, arith}
 use Rattle.world_model.specs.declared.entry.Entry.{Entry}
 use Rattle.world_model.specs.declared.entry.Entry.TheVariants.{Began}
 use Rattle.world_model.specs.declared.op.Op.{Op}
 use Rattle.world_model.specs.declared.tally.Tally.{Tally}
-use Rattle.world_model.specs.Clocked.{clocks}
 use Rattle.world_model.specs.Entries.{At, ours}
 use Rattle.world_model.specs.Follows.{Follows, begun}
-use Rattle.world_model.specs.Lost.{IsLost}
 use Rattle.link_dials.specs.Sendings.{GoesToPorts}
 use Rattle.nfs_script.specs.declared.script.ScriptLine.{ScriptLine}
 use Rattle.session_words.specs.declared.settings.Settings.{Settings}
-use Rattle.script_batches.specs.Batches.{Read}
 use Rattle.session_setup.specs.declared.opening.SetUp.{SetUp}
-use Rattle.session_setup.specs.declared.opening.SetUpFault.TheVariants.{Lost, Memory, Refused}
+use Rattle.session_setup.specs.declared.opening.SetUpFault.TheVariants.{Lost}
 use Rattle.session_setup.specs.Origins.{modes_of, origin_of, terms_by}
 use Rattle.session_setup.specs.Outcomes.{SetsUp}
 use Rattle.session_setup.specs.Sendings.{IsUnmarked}
@@ -22,7 +18,6 @@ use Rattle.lane_session.specs.Endings.{entries_of}
 use Rattle.lane_session.specs.Losing.{LosesOnly}
 use Rattle.lane_session.proofs.Ending.{broken-none}
 use Rattle.lane_session.proofs.Together.{none-began}
-use Rattle.script_runs.specs.Ends.{IsClocked, TellsMount}
 use Rattle.script_runs.specs.LaneRuns.{Leaves}
 use Rattle.script_runs.proofs.LaneRuns.{fresh}
 use Rattle.nfs_client.proofs.Headlines.{clocked, no-clocks, quiet-promises, ready-promises}
@@ -34,7 +29,7 @@ use Rattle.nfs_client.proofs.ScriptAsked.{script-asked}
 use Rattle.nfs_client.proofs.SetUpAlone.{early-quiet, empty-quiet, lost-quiet}
 use Rattle.nfs_client.proofs.Showing.{run-shows}
 use Rattle.nfs_client.specs.Shown.{RunShows}
-use Rattle.batch_runs.specs.Parts.{ArePartsFrom, AreRead, Part, entries_in, lines_in, text_in}
+use Rattle.batch_runs.specs.Parts.{entries_in}
 use Rattle.batch_runs.specs.Runs.{BatchesBy, SessionOf, lines_of, lost, no_lines, ready, unmounted as by_refusal, unready as by_memory}
 use Rattle.run_batches.specs.Headline.{AnswersBatches, Headline, answered, unmounted, unready}
 

@@ -1,4 +1,4 @@
-use Rattle.std.proofs.Common.{arith, refl}
+use Rattle.std.proofs.Common.{arith}
 use Rattle.batch_runs.proofs.LostRuns.{status-none, status-some}
 use Rattle.batch_runs.proofs.lost.lost_status.Goals as goal
 

@@ -1,4 +1,3 @@
-use Rattle.std.proofs.Common.{refl}
 use Rattle.batch_runs.proofs.Answering.{answers-cut, answers-end, answers-refused, answers-script}
 use Rattle.batch_runs.proofs.reading.answer_next.Goals as goal
 

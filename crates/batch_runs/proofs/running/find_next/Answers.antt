@@ -1,4 +1,3 @@
-use Rattle.std.proofs.Common.{refl}
 use Rattle.batch_runs.proofs.Answering.{found-asked, found-less, found-so}
 use Rattle.batch_runs.proofs.Causing.{all-caused}
 use Rattle.batch_runs.proofs.Joining.{next-or-not}

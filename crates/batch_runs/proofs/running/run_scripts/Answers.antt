@@ -1,6 +1,4 @@
-use Rattle.std.proofs.Common.{refl}
 use Rattle.lane_session.proofs.Ending.{fresh-held}
-use Rattle.lane_session.proofs.Passing.{passes_less}
 use Rattle.lane_session.proofs.Ports.{only_as}
 use Rattle.link_dials.proofs.Dialing.{dials_same}
 use Rattle.batch_runs.proofs.Over.{none-passes, over-passes}

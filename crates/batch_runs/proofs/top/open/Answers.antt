@@ -1,4 +1,4 @@
-use Rattle.std.proofs.Common.{arith, refl}
+use Rattle.std.proofs.Common.{refl}
 use Rattle.batch_runs.proofs.Opens.{lost-says, ready-says, refused-says, unready-says}
 use Rattle.batch_runs.proofs.Tops.{all-end, mount-ends, worst-five}
 use Rattle.batch_runs.proofs.top.open.Goals as goal

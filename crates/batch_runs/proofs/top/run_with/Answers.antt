@@ -1,5 +1,5 @@
 use Rattle.batch_runs.proofs.Tops.{ended-says, ends-most, never-four, never-two, stop-five, stop-four, stop-most, stop-two}
-use Rattle.std.proofs.Common.{ap, Ok, ℕ, ◌∙◌}
+use Rattle.std.proofs.Common.{ap, Ok, ℕ}
 use Rattle.batch_runs.proofs.top.run_with.Goals as goal
 
 pub returns-in-Ok-clause-statuses : goal.returns-in-Ok-clause-statuses
