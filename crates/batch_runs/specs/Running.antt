@@ -51,7 +51,8 @@ pub record IsCut (lines : List ScriptLine) (old : Session) (before after : Answe
   pub cuts : CutsOff [] lines old halt given text h k
 
 -- The lines of a script were run, and its batch was answered. Or the run was cut off in its lines, or behind them.
-abbrev pub RunsOne : Bool → List ScriptLine → Session → Session → Answered → Answered → Result (Unit {0}) Stop → List ℕ → List ℕ → List Entry → List Entry → Type 0
+abbrev pub RunsOne : Bool → List ScriptLine → Session → Session → Answered → Answered → Result (Unit {0}) Stop
+    → List ℕ → List ℕ → List Entry → List Entry → Type 0
 RunsOne count lines old new before after (Ok u) given text h k = RunsWhole count lines old new before after (Ok u) given text h k
 RunsOne count lines old new before after (Err stop) given text h k =
     IsCut lines old before after stop given text h k ⊎ RunsWhole count lines old new before after (Err stop) given text h k
