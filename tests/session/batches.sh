@@ -122,10 +122,10 @@ size_of() {
 try_memory() {
     local few many
     : >"$work/schedule"
-    few=$(size_of 10)
-    many=$(size_of 200)
-    [ "$(tail -n 1 "$work/said")" = 'done 201 0' ] && [ "$few" -gt 0 ] && [ "$many" -le $((few + 1024)) ]
-    count $? "200 batches of 1 MiB take as much memory as 10: $many and $few KiB"
+    few=$(size_of 5)
+    many=$(size_of 100)
+    [ "$(tail -n 1 "$work/said")" = 'done 101 0' ] && [ "$few" -gt 0 ] && [ "$many" -le $((few + 1024)) ]
+    count $? "100 batches of 1 MiB take as much memory as 5: $many and $few KiB"
 }
 
 # The command lines that are no session of batches.

@@ -399,7 +399,7 @@ try_a_late_server
 try_refusals
 try_made_scripts
 try_page_files
-for part in launcher examples; do
+for part in launcher examples batches; do
     "$here/$part.sh"
     count $? "$part.sh"
 done
