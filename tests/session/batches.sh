@@ -131,7 +131,7 @@ try_memory() {
 # The command lines that are no session of batches.
 try_refusals() {
     local words
-    for words in 'run --batches' 'run --batches 127.0.0.1 --portmap 111 /srv' 'replay --batches' 'make --batches 1 /srv'; do
+    for words in 'run --batches' 'run --batches 127.0.0.1 --portmap 111 /srv' 'make --batches 1 /srv'; do
         # shellcheck disable=SC2086
         "$nfs3" $words </dev/null >"$work/said" 2>&1
         [ $? -eq 2 ]
