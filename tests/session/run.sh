@@ -377,6 +377,31 @@ try_page_files() {
     formats 2 'nfs3: usage' "$work/pages" 1024
 }
 
+# Reads a file in a session that keeps its pages: the counts that are wanted.
+kept_session() {
+    printf '1 open 1 r /a\n1 read 1 0 10\n1 close 1' |
+        "$nfs3" run --fsc "$work/kept" 127.0.0.1 /srv --mount-port "$port" --nfs-port "$port" --count >"$work/said" 2>&1
+    comes_to 0 $'1 1 ok\n1 2 ok 6869\n1 3 ok\n'"calls $1" $? 'a session that keeps its pages'
+}
+
+# The second session makes no READ: MNT, FSINFO, LOOKUP and GETATTR come after the five calls of the first.
+try_kept_pages() {
+    printf 'file /a 6869\n' >"$work/schedule"
+    "$nfs3" fsc-make "$work/kept"
+    serve 9 "$work/schedule"
+    kept_session '4 getattr 1 lookup 1 read 1 write 0 commit 0'
+    kept_session '3 getattr 1 lookup 1 read 0 write 0 commit 0'
+    ended 0
+    "$nfs3" run --fsc "$work/kept" localhost /srv >"$work/said" 2>&1 </dev/null
+    comes_to 9 'nfs3: store' $? 'a file of pages of another host'
+    "$nfs3" run --fsc "$work/missing" 127.0.0.1 /srv >"$work/said" 2>&1 </dev/null
+    comes_to 9 'nfs3: store' $? 'a file of pages that is not there'
+    flock "$work/kept" "$nfs3" run --fsc "$work/kept" 127.0.0.1 /srv >"$work/said" 2>&1 </dev/null
+    comes_to 9 'nfs3: store' $? 'a file of pages that is in use'
+    "$nfs3" run --fsc "$work/kept" 127.0.0.1 srv >"$work/said" 2>&1 </dev/null
+    comes_to 2 'nfs3: usage' $? 'words of no known form'
+}
+
 trap end_all EXIT
 "$nfs3" >"$work/build.log" 2>&1
 [ $? -eq 2 ] || {
@@ -399,6 +424,7 @@ try_a_late_server
 try_refusals
 try_made_scripts
 try_page_files
+try_kept_pages
 for part in launcher examples batches; do
     "$here/$part.sh"
     count $? "$part.sh"

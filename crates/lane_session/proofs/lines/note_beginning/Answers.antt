@@ -1,5 +1,8 @@
-use Rattle.std.proofs.Common.{◌≡◌, ℕ, List, Option, Result, Ok, Err, IfOk, inl, refl, sym, subst}
+use Rattle.std.proofs.Common.{◌≡◌, ◌++◌, ◌⊎◌, [], ◌∷◌, ℕ, List, Option, None, Some, Result, Ok, Err, IfOk, inl, refl, sym, subst}
 use Rattle.outside.specs.Clock.{ReadsClock}
+use Rattle.world_model.specs.History.{History}
+use Rattle.world_model.specs.declared.entry.Entry.{Entry}
+use Rattle.world_model.specs.declared.entry.Entry.TheVariants.{Clock}
 use Rattle.world_model.specs.declared.op.Op.{Op}
 use Rattle.world_model.specs.Told.{Relates}
 use Rattle.lane_session.specs.Going.{NotesBeginning}
@@ -10,8 +13,19 @@ reads-as : {E : Type 0} (r0 r1 : Option (List ℕ)) (ms : ℕ) (result : Result 
 reads-as r0 r1 ms (Ok now) is read = subst (ReadsClock r0 r1) (sym is) read
 reads-as r0 r1 ms (Err e) is read = tt
 
+untold : (t : Option History) (R : List Entry → List Entry → Type 0) → t ≡ None → Relates t t R
+untold None R e = tt
+untold (Some h) R e = absurd (cc)
+
+none-noted : (t : Option History) (ms : ℕ) → Relates t t (λ (h k : List Entry). (k ≡ h) ⊎ (k ≡ h ++ Clock ms ∷ []))
+none-noted t ms = relates_same t (λ (h k : List Entry). (k ≡ h) ⊎ (k ≡ h ++ Clock ms ∷ [])) (λ h. inl refl)
+
 pub returns-then-not-tells-clause-goes : goal.returns-then-not-tells-clause-goes
-returns-then-not-tells-clause-goes g c = record { ms = c.now-ms.result; reads = c.now-ms.ensures; is = rw (rw c.if-not-tells.true at c.if-not-tells.ensures) tt }
+returns-then-not-tells-clause-goes g c = record {
+  ms = c.now-ms.result;
+  reads = c.now-ms.ensures;
+  is = untold (g.L.Link.told c.args.link.now) (NotesBeginning c.args.lane c.args.line c.args.op.now c.now-ms.result (Ok c.now-ms.result)) c.if-not-tells.ensures;
+}
 
 pub returns-in-Ok-clause-goes : goal.returns-in-Ok-clause-goes
 returns-in-Ok-clause-goes g c = record {
@@ -21,7 +35,7 @@ returns-in-Ok-clause-goes g c = record {
 }
 
 pub returns-in-Err-clause-goes : goal.returns-in-Err-clause-goes
-returns-in-Err-clause-goes g c = record { ms = c.now-ms.result; reads = c.now-ms.ensures; is = relates_same _ _ (λ h. inl refl) }
+returns-in-Err-clause-goes g c = record { ms = c.now-ms.result; reads = c.now-ms.ensures; is = none-noted (g.L.Link.told c.args.link.now) c.now-ms.result }
 
 pub returns-in-Ok-clause-reading : goal.returns-in-Ok-clause-reading
 returns-in-Ok-clause-reading g c = reads-as _ _ c.now-ms.result c.note_at.result c.note_at.ensures.is c.now-ms.ensures

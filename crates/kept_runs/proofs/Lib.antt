@@ -1,0 +1,4 @@
+pub mod StoredPages
+pub mod Rounds
+pub mod KeptRuns
+pub mod Anewed
