@@ -1,4 +1,4 @@
-use Rattle.std.proofs.Common.{refl}
+use Rattle.std.proofs.Common.{None, refl}
 use Rattle.batch_runs.proofs.Opens.{lost-says, ready-says, refused-says, unready-says}
 use Rattle.batch_runs.proofs.Tops.{all-end, mount-ends, worst-five}
 use Rattle.batch_runs.proofs.top.open.Goals as goal
@@ -29,7 +29,7 @@ returns-in-Err-Lost-clause-sink g c = worst-five c.lose_scripts.result _ c.lose_
 pub returns-in-Err-Refused-clause-shown : goal.returns-in-Err-Refused-clause-shown
 returns-in-Err-Refused-clause-shown g c =
     let e = rw c.in-Err-Refused.field-0-is at c.in-Err-Refused.ensures.goes in
-    refused-says c.args.settings.now c.args.script c.args.answered.now _ _ c.first_xid-first.result _ _ _ _ _ _ _ _ c.first_xid-first.ensures.read c.in-Err-Refused.fault e c.refuse_mount.ensures.said
+    refused-says c.args.settings.now c.args.script c.args.answered.now _ _ c.first_xid-first.result _ _ _ _ None _ _ None c.first_xid-first.ensures.read c.in-Err-Refused.fault e c.refuse_mount.ensures.said
 
 pub returns-in-Err-Refused-clause-statuses : goal.returns-in-Err-Refused-clause-statuses
 returns-in-Err-Refused-clause-statuses g c = mount-ends c.refuse_mount.result c.refuse_mount.ensures.status
@@ -40,7 +40,7 @@ returns-in-Err-Refused-clause-sink g c = λ five. c.refuse_mount.ensures.sink cc
 pub returns-in-Err-Memory-clause-shown : goal.returns-in-Err-Memory-clause-shown
 returns-in-Err-Memory-clause-shown g c =
     let e = rw c.in-Err-Memory.field-0-is at c.in-Err-Memory.ensures.goes in
-    unready-says c.args.settings.now c.args.script c.args.answered.now _ _ c.first_xid-first.result _ _ _ _ _ _ _ _ c.first_xid-first.ensures.read e refl
+    unready-says c.args.settings.now c.args.script c.args.answered.now _ _ c.first_xid-first.result _ None _ _ None _ _ None c.first_xid-first.ensures.read e refl
 
 pub returns-in-Err-Memory-clause-sink : goal.returns-in-Err-Memory-clause-sink
 returns-in-Err-Memory-clause-sink g c = λ five. absurd cc

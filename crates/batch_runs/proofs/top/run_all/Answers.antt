@@ -1,3 +1,5 @@
+use Rattle.std.proofs.Common.{Ok, Err, Some, None}
+use Rattle.batch_runs.specs.Reading.{left_in}
 use Rattle.batch_runs.proofs.Causing.{all-caused, rose-before}
 use Rattle.batch_runs.proofs.Tops.{begun-finds, never-five, none-says, some-says, stop-says, worst-ends}
 use Rattle.batch_runs.proofs.top.run_all.Goals as goal
@@ -5,8 +7,10 @@ use Rattle.batch_runs.proofs.top.run_all.Goals as goal
 pub returns-in-Ok-Some-clause-shown : goal.returns-in-Ok-Some-clause-shown
 returns-in-Ok-Some-clause-shown g c =
     let r = rw c.in-Ok-Some.field-0-is at c.in-Ok-Some.ensures in
-    some-says _ _ _ _ _ _ _ c.args.settings.now (g.S.Source.left c.args.source.now) _ c.first_script.new.answered c.in-Ok-Some.script c.open.result
-    (begun-finds c.args.settings.now.count _ _ _ _ _ _ _ _ c.none-answered.ensures c.new-batches.ensures r.finds) c.open.ensures.shown
+    let finds = begun-finds c.args.settings.now.count c.none-answered.result c.first_script.new.answered c.new-batches.result (g.K.Sink.written c.args.out.now) (g.K.Sink.written c.first_script.new.out)
+    (g.S.Source.left c.args.source.now) (left_in (g.S.Source.left c.first_script.new.source) c.first_script.new.batches) (Ok (Some c.in-Ok-Some.script)) c.none-answered.ensures c.new-batches.ensures r.finds in
+    some-says _ _ _ _ _ _ _ c.args.settings.now (g.S.Source.left c.args.source.now) (left_in (g.S.Source.left c.first_script.new.source) c.first_script.new.batches) c.first_script.new.answered
+    c.in-Ok-Some.script c.open.result finds c.open.ensures.shown
 
 pub returns-in-Ok-Some-clause-cause : goal.returns-in-Ok-Some-clause-cause
 returns-in-Ok-Some-clause-cause g c =
@@ -21,8 +25,9 @@ returns-in-Ok-Some-clause-sink g c =
 pub returns-in-Ok-None-clause-shown : goal.returns-in-Ok-None-clause-shown
 returns-in-Ok-None-clause-shown g c =
     let r = rw c.in-Ok-None.field-0-is at c.in-Ok-None.ensures in
-    none-says _ _ _ _ c.args.settings.now (g.S.Source.left c.args.source.now) _ c.first_script.new.answered
-    (begun-finds c.args.settings.now.count _ _ _ _ _ _ _ _ c.none-answered.ensures c.new-batches.ensures r.finds)
+    let finds = begun-finds c.args.settings.now.count c.none-answered.result c.first_script.new.answered c.new-batches.result (g.K.Sink.written c.args.out.now) (g.K.Sink.written c.first_script.new.out)
+    (g.S.Source.left c.args.source.now) (left_in (g.S.Source.left c.first_script.new.source) c.first_script.new.batches) (Ok None) c.none-answered.ensures c.new-batches.ensures r.finds in
+    none-says _ _ _ _ c.args.settings.now (g.S.Source.left c.args.source.now) (left_in (g.S.Source.left c.first_script.new.source) c.first_script.new.batches) c.first_script.new.answered finds
 
 pub returns-in-Ok-None-clause-statuses : goal.returns-in-Ok-None-clause-statuses
 returns-in-Ok-None-clause-statuses g c = worst-ends _ c.in-Ok-None.ensures.worst
@@ -32,8 +37,9 @@ returns-in-Ok-None-clause-sink g c = λ five. absurd (never-five _ c.in-Ok-None.
 
 pub returns-clause-shown : goal.returns-clause-shown
 returns-clause-shown g c =
-    stop-says _ _ _ _ c.args.settings.now (g.S.Source.left c.args.source.now) _ c.first_script.new.answered c.in-Err.stop
-    (begun-finds c.args.settings.now.count _ _ _ _ _ _ _ _ c.none-answered.ensures c.new-batches.ensures c.in-Err.ensures.finds)
+    let finds = begun-finds c.args.settings.now.count c.none-answered.result c.first_script.new.answered c.new-batches.result (g.K.Sink.written c.args.out.now) (g.K.Sink.written c.first_script.new.out)
+    (g.S.Source.left c.args.source.now) (left_in (g.S.Source.left c.first_script.new.source) c.first_script.new.batches) (Err c.in-Err.stop) c.none-answered.ensures c.new-batches.ensures c.in-Err.ensures.finds in
+    stop-says _ _ _ _ c.args.settings.now (g.S.Source.left c.args.source.now) (left_in (g.S.Source.left c.first_script.new.source) c.first_script.new.batches) c.first_script.new.answered c.in-Err.stop finds
 
 pub returns-clause-sink : goal.returns-clause-sink
 returns-clause-sink g c = λ five. absurd cc
