@@ -1,9 +1,10 @@
 //! A user-space client of NFS version 3. `nfs3 run HOST WORDS` runs the script on standard input with the server at HOST over
-//! TCP, `nfs3 run --udp HOST WORDS` over UDP, `nfs3 run --fsc FILE HOST WORDS` over TCP with pages that are kept in FILE, and
-//! `nfs3 replay SCHEDULE WORDS` over a simulated server, which the file SCHEDULE describes. `nfs3 make N WORDS` runs a script that
-//! is made over such a server without a file. `nfs3 pair SCHEDULE SCRIPT` runs two scripts as two clients of a simulated server.
-//! `nfs3 export PORT CALLS`, with or without a SCHEDULE, serves a test export, over UDP
-//! with `--udp` before the port. `nfs3 fsc-make FILE` makes a file of kept pages.
+//! TCP, `nfs3 run --udp HOST WORDS` over UDP, and `nfs3 run --fsc FILE HOST WORDS` over TCP with pages that are kept in FILE. With
+//! `--batches` before the host it runs batch after batch. `nfs3 replay SCHEDULE WORDS` runs over a simulated server, which the file
+//! SCHEDULE describes, with `--batches` before it batch after batch. `nfs3 make N WORDS` runs a script that is made over such a
+//! server without a file. `nfs3 pair SCHEDULE SCRIPT` runs two scripts as two clients of a simulated server. `nfs3 export PORT
+//! CALLS`, with or without a SCHEDULE, serves a test export, over UDP with `--udp` before the port. `nfs3 fsc-make FILE` makes a
+//! file of kept pages.
 #![tactic(auto)]
 
 mod connections;
@@ -51,6 +52,11 @@ fn program(rt: &HostRuntime) -> Ending {
 /// Runs the command that the first word names.
 fn command(rt: &HostRuntime, mut words: Vec<String>) -> Ending {
     match words.as_slice() {
+        [name, batches, _, ..] if name.as_str() == "replay" && batches.as_str() == "--batches" => {
+            words.remove(1);
+            let path = words.remove(1);
+            replay::replay_batches(rt, path.as_str(), words.as_slice())
+        }
         [name, _, ..] if name.as_str() == "replay" => {
             let path = words.remove(1);
             replay::replay(rt, path.as_str(), words.as_slice())
@@ -62,11 +68,6 @@ fn command(rt: &HostRuntime, mut words: Vec<String>) -> Ending {
             let size = words.remove(1);
             make::make(rt, size.as_str(), words.as_slice())
         }
-        [name, udp, _, ..] if name.as_str() == "run" && udp.as_str() == "--udp" => {
-            words.remove(1);
-            let host = words.remove(1);
-            run::run_over_udp(rt, host.as_str(), words.as_slice())
-        }
         [name, fsc, _, _, ..] if name.as_str() == "run" && fsc.as_str() == "--fsc" => {
             words.remove(1);
             let path = words.remove(1);
@@ -74,14 +75,40 @@ fn command(rt: &HostRuntime, mut words: Vec<String>) -> Ending {
             kept::run(rt, path.as_str(), host.as_str(), words.as_slice())
         }
         [name, fsc, ..] if name.as_str() == "run" && fsc.as_str() == "--fsc" => Ending::Usage,
-        [name, _, ..] if name.as_str() == "run" => {
-            let host = words.remove(1);
-            run::run(rt, host.as_str(), words.as_slice())
-        }
+        [name, _, ..] if name.as_str() == "run" => run_command(rt, words),
         [name, words @ ..] if name.as_str() == "export" => export::export(rt, words),
         [name, words @ ..] if name.as_str() == "fsc-make" => page_file::make(rt, words),
         _ => Ending::Usage,
     }
+}
+
+/// Runs a session with a server. `--udp` and `--batches` may stand behind the first word, in either order.
+fn run_command(rt: &HostRuntime, mut words: Vec<String>) -> Ending {
+    let early = take_word(&mut words, "--batches");
+    let udp = take_word(&mut words, "--udp");
+    let batches = early || (udp && take_word(&mut words, "--batches"));
+    if words.len() < 2 {
+        return Ending::Usage;
+    }
+    let host = words.remove(1);
+    match (udp, batches) {
+        (false, false) => run::run(rt, host.as_str(), words.as_slice()),
+        (true, false) => run::run_over_udp(rt, host.as_str(), words.as_slice()),
+        (false, true) => run::run_batches(rt, host.as_str(), words.as_slice()),
+        (true, true) => run::run_batches_over_udp(rt, host.as_str(), words.as_slice()),
+    }
+}
+
+/// Takes the second word away where it is this one and another one follows: whether it was.
+fn take_word(words: &mut Vec<String>, word: &str) -> bool {
+    let is_there = match words.as_slice() {
+        [_, second, _, ..] => second.as_str() == word,
+        _ => false,
+    };
+    if is_there && words.len() > 1 {
+        words.remove(1);
+    }
+    is_there
 }
 
 /// Says on standard error how the program ends. Where that can't be written, nothing is said.

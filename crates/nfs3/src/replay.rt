@@ -3,6 +3,7 @@
 use crate::ending::Ending;
 use crate::schedule_file::{refused, schedule_text};
 use net_edge::{StandardInput, StandardOutput};
+use port_words::batch_words;
 
 /// Runs the words over the simulated server of the schedule in the file of that name.
 pub fn replay(rt: &HostRuntime, path: &str, words: &[String]) -> Ending {
@@ -14,6 +15,30 @@ pub fn replay(rt: &HostRuntime, path: &str, words: &[String]) -> Ending {
     let mut source = StandardInput::new(rt.stdin());
     let mut sink = StandardOutput::new(rt.stdout());
     match run_replay::replay(alloc, text.as_slice(), words, &mut source, &mut sink) {
+        Ok((_, status)) => Ending::Ran(status),
+        Err(fault) => refused(fault),
+    }
+}
+
+/// Runs the batches on standard input over the simulated server of the schedule in the file of that name.
+pub fn replay_batches(rt: &HostRuntime, path: &str, words: &[String]) -> Ending {
+    let alloc = rt.alloc();
+    let text = match schedule_text(rt, path) {
+        Ok(text) => text,
+        Err(ending) => return ending,
+    };
+    let Ok(words) = batch_words(alloc, words) else {
+        return Ending::Memory;
+    };
+    let mut source = StandardInput::new(rt.stdin());
+    let mut sink = StandardOutput::new(rt.stdout());
+    match run_replay::replay_batches(
+        alloc,
+        text.as_slice(),
+        words.as_slice(),
+        &mut source,
+        &mut sink,
+    ) {
         Ok((_, status)) => Ending::Ran(status),
         Err(fault) => refused(fault),
     }

@@ -2,7 +2,7 @@
 //! prints each line and what comes of it:
 //!
 //! - `portmap WORDS` prints the port mapper that the words name and the other words, `ports MOUNT NFS WORDS` the words with these
-//!   ports, and `udp WORDS` those of a session over UDP
+//!   ports, `udp WORDS` those of a session over UDP, and `batches WORDS` those of a session of batches
 //! - `words WORDS`, `script LINE` and `schedule LINE` describe a session: its words, lines of its script, and lines of the schedule
 //!   of a simulated server; `write N` makes that call of the sink fail
 //! - `told PORT HEX` is a datagram that comes from the port mapper, and `fail N` a call of the link to it that fails, counted from 1;
@@ -32,6 +32,7 @@ fn row(rt: &impl Print, alloc: Global, case: &Case, word: &str, rest: &str) -> i
         "portmap" => words::show_portmap(rt, alloc, rest)?,
         "ports" => words::show_with_ports(rt, alloc, rest)?,
         "udp" => words::show_udp(rt, alloc, rest)?,
+        "batches" => words::show_batches(rt, alloc, rest)?,
         "found" => session::run_over_world(rt, alloc, case)?,
         "dialed" => session::run_by_portmap(rt, alloc, case)?,
         "datagrams" => session::run_over_datagrams(rt, alloc, case)?,

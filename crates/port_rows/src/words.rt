@@ -1,7 +1,7 @@
-//! Words of a port mapper, and of a session over UDP.
+//! Words of a port mapper, of a session over UDP, and of one with batches.
 
 use crate::text::{port_of, words_of};
-use port_words::{PortmapFault, take_portmap, udp_words, with_ports};
+use port_words::{PortmapFault, batch_words, take_portmap, udp_words, with_ports};
 use std::alloc::Global;
 use std::io;
 
@@ -40,6 +40,17 @@ pub fn show_udp(rt: &impl Print, alloc: Global, rest: &str) -> io::Result<()> {
         return println!(rt; "  out of memory");
     };
     match udp_words(alloc, words.as_slice()) {
+        Ok(words) => show_words(rt, words.as_slice()),
+        Err(_) => println!(rt; "  out of memory"),
+    }
+}
+
+/// Prints the words of a session of batches.
+pub fn show_batches(rt: &impl Print, alloc: Global, rest: &str) -> io::Result<()> {
+    let Ok(words) = words_of(alloc, rest) else {
+        return println!(rt; "  out of memory");
+    };
+    match batch_words(alloc, words.as_slice()) {
         Ok(words) => show_words(rt, words.as_slice()),
         Err(_) => println!(rt; "  out of memory"),
     }

@@ -14,3 +14,12 @@ missing_size option words = if names option words then [] else option ∷ codes 
 abbrev pub with_sizes : List (List ℕ) → List (List ℕ)
 with_sizes [] = []
 with_sizes (w ∷ ws) = w ∷ (missing_size (codes "--rsize") (w ∷ ws) ++ (missing_size (codes "--wsize") (w ∷ ws) ++ ws))
+
+-- the most calls that there can be, where no word is or begins with `--calls`
+abbrev pub missing_calls : List (List ℕ) → List (List ℕ)
+missing_calls words = if names (codes "--calls") words then [] else codes "--calls" ∷ codes "2147483647" ∷ []
+
+-- they stand after the first word
+abbrev pub with_calls : List (List ℕ) → List (List ℕ)
+with_calls [] = []
+with_calls (w ∷ ws) = w ∷ (missing_calls (w ∷ ws) ++ ws)

@@ -2,9 +2,11 @@
 //! datagram holds.
 #![tactic(auto)]
 
+mod batches;
 mod portmap;
 mod texts;
 mod udp;
 
+pub use batches::batch_words;
 pub use portmap::{Portmap, PortmapFault, take_portmap, with_ports};
 pub use udp::udp_words;

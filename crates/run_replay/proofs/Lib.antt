@@ -1,1 +1,2 @@
+pub mod BatchReplaying
 pub mod Replaying

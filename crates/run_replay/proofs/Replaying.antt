@@ -24,7 +24,7 @@ was_read (Ok view) world tick status later b = (view, refl)
 was_read (Err n) world tick status later b = absurd b
 
 -- nothing happened in it yet
-begins_empty : (read : Result ReadView ℕ) (world : World) (tick : ℕ) → Begins read (Ok (world, tick)) → (told (seen world)).entries ≡ []
+pub begins_empty : (read : Result ReadView ℕ) (world : World) (tick : ℕ) → Begins read (Ok (world, tick)) → (told (seen world)).entries ≡ []
 begins_empty (Ok view) world tick b = ap (λ (w : WorldView). w.server.entries) b.world_is
 begins_empty (Err n) world tick b = absurd b
 
@@ -36,7 +36,7 @@ starts (Err n) start later tick b same = absurd b
 
 -- ---- what is promised
 
-keeps : (s : Settings) (first : ℕ) (w : WorldView) → IsHonestWorld w → Promises s first (told w) → Keeps s first (told w)
+pub keeps : (s : Settings) (first : ℕ) (w : WorldView) → IsHonestWorld w → Promises s first (told w) → Keeps s first (told w)
 keeps s first w honest p =
     let lawful = honest_is_lawful w honest in
     let fresh = honest_is_fresh w honest in

@@ -1,0 +1,39 @@
+//! Batches over a simulated server.
+
+ghost use Rattle.std.specs.Prelude.{◌≤◌, map, IfOk};
+ghost use Rattle.std.specs.String.{string_bytes};
+ghost use Rattle.script_runs.specs.Run.{Says};
+ghost use Rattle.world_link.specs.Readings.{read_of};
+ghost use Rattle.world_link.specs.Replay.{told};
+ghost use Rattle.world_link.specs.View.{seen};
+ghost use Rattle.run_replay.specs.BatchReplays.{BatchReplayOf};
+ghost use Rattle.run_replay.specs.Replays.{IsRead, StartsAs};
+
+use outside::{Sink, Source, TickClock};
+use run_batches::run;
+use std::alloc::Global;
+use world_link::{ScheduleFault, World, parse_schedule};
+
+/// Runs the batches that the source gives, as `run_batches::run` does, over the world that the schedule begins, with a clock
+/// that goes on by the schedule's step. It answers the world as it is then, which tells what happened, and the status of
+/// the session. A text that is no schedule is refused with its fault, and then nothing is read or written.
+pub fn replay_batches<S: Source, K: Sink>(
+    alloc: Global,
+    schedule: &[u8],
+    words: &[String],
+    source: &mut S,
+    out: &mut K,
+) -> Result<(World, u8), ScheduleFault>
+    ensures schedule { IsRead (read_of schedule.now) result }
+    ensures statuses { IfOk result (λ ran. ran.1 ≤ 8) }
+    ensures start { IfOk result (λ ran. StartsAs (read_of schedule.now) (told (seen ran.0))) }
+
+    // What a session of batches promises of the history that the world tells, with its premises met as in `replay`.
+    ensures headline { IfOk result (λ ran. Says (K.written out.old) (K.written out.new) (λ text.
+        BatchReplayOf (told (seen ran.0)) (map string_bytes words.now) (S.left source.old) ran.1 text)) }
+{
+    let (mut world, tick) = parse_schedule(alloc, schedule)?;
+    let mut clock = TickClock::new(tick);
+    let status = run(alloc, words, source, &mut world, &mut clock, out);
+    Ok((world, status))
+}
