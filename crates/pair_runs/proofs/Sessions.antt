@@ -1,5 +1,5 @@
 -- A turn of a client whose session goes on, and of one whose session was lost in its set-up.
-use Rattle.std.proofs.Common.{◌≡◌, ◌<◌, ◌-◌, ℕ, zero, suc, List, [], ◌∷◌, ◌++◌, length, All, false, Some, Ok, Err, refl, sym, ap, subst, ◌∙◌, arith, append_assoc}
+use Rattle.std.proofs.Common.{◌≡◌, ◌<◌, ◌-◌, ℕ, zero, suc, List, [], ◌∷◌, ◌++◌, length, All, false, Some, None, Ok, Err, refl, sym, ap, subst, ◌∙◌, arith, append_assoc}
 use Rattle.world_model.specs.declared.entry.Entry.{Entry}
 use Rattle.world_model.specs.declared.entry.Entry.TheVariants.{Began, Answered, Dialed, Sent, Executed, Foreign, Flushed, Reboot, Delivered, Failed, Clock}
 use Rattle.world_model.specs.Clocked.{clocks}
@@ -107,7 +107,7 @@ module _ (first : ℕ) (order script : List ScriptLine) (same : SameLanes order 
 
   lost-done : (u : Unit {0}) (given text : List ℕ) → LosesBy label order (Ok u) given text x.entries y.entries → GoesDone first script y.entries (status_of script)
   lost-done u given text b =
-      let d = lost-ends order script same (record { status = status_of script; tally = g.tally }) given (told_by [] b.0) x.entries y.entries b.0 refl lost-unmarked b.1 b.2 b.3 refl in
+      let d = lost-ends order script same (record { status = status_of script; tally = g.tally; pages = None }) given (told_by [] b.0) x.entries y.entries b.0 refl lost-unmarked b.1 b.2 b.3 refl in
       record {
         began = lost-gone (told-loses (Some x) (Some y) label order script (Ok u) given text empty b);
         lines = record { follows = d.follows; ends = whole d.finishes d.status; timed = d.timed; together = d.together };
