@@ -20,6 +20,7 @@ status_of (endings.Ran status) = status
 status_of endings.Served = 0
 status_of endings.Made = 0
 status_of endings.Store = 9
+status_of endings.TooLong = 9
 status_of endings.Lost = 6
 status_of endings.ReadFault = 4
 status_of endings.WriteFault = 5

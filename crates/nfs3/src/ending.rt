@@ -24,6 +24,8 @@ pub enum Ending {
     Made,
     /// The file of kept pages can't be used.
     Store,
+    /// The trace has more entries or bytes than a trace may have.
+    TooLong,
     /// No more connections are taken, though calls are still to be answered.
     Lost,
     /// Standard input failed outside a session.
@@ -45,6 +47,7 @@ impl Ending {
             Ending::Served => 0,
             Ending::Made => 0,
             Ending::Store => 9,
+            Ending::TooLong => 9,
             Ending::Lost => 6,
             Ending::ReadFault => 4,
             Ending::WriteFault => 5,

@@ -1,10 +1,10 @@
 //! A user-space client of NFS version 3. `nfs3 run HOST WORDS` runs the script on standard input with the server at HOST over
 //! TCP, `nfs3 run --udp HOST WORDS` over UDP, and `nfs3 run --fsc FILE HOST WORDS` over TCP with pages that are kept in FILE. With
 //! `--batches` before the host it runs batch after batch. `nfs3 replay SCHEDULE WORDS` runs over a simulated server, which the file
-//! SCHEDULE describes, with `--batches` before it batch after batch. `nfs3 make N WORDS` runs a script that is made over such a
-//! server without a file. `nfs3 pair SCHEDULE SCRIPT` runs two scripts as two clients of a simulated server. `nfs3 export PORT
-//! CALLS`, with or without a SCHEDULE, serves a test export, over UDP with `--udp` before the port. `nfs3 fsc-make FILE` makes a
-//! file of kept pages.
+//! SCHEDULE describes, with `--batches` before it batch after batch, and `nfs3 trace SCHEDULE WORDS` prints the history of such a
+//! run. `nfs3 make N WORDS` runs a script that is made over such a server without a file. `nfs3 pair SCHEDULE SCRIPT` runs two
+//! scripts as two clients of a simulated server. `nfs3 export PORT CALLS`, with or without a SCHEDULE, serves a test export, over
+//! UDP with `--udp` before the port. `nfs3 fsc-make FILE` makes a file of kept pages.
 #![tactic(auto)]
 
 mod connections;
@@ -12,11 +12,13 @@ mod ending;
 mod export;
 mod kept;
 mod make;
+mod nowhere;
 mod page_file;
 mod pair;
 mod replay;
 mod run;
 mod schedule_file;
+mod trace;
 
 use crate::ending::{Ending, closed, message};
 use net_edge::StandIns;
@@ -60,6 +62,10 @@ fn command(rt: &HostRuntime, mut words: Vec<String>) -> Ending {
         [name, _, ..] if name.as_str() == "replay" => {
             let path = words.remove(1);
             replay::replay(rt, path.as_str(), words.as_slice())
+        }
+        [name, _, ..] if name.as_str() == "trace" => {
+            let path = words.remove(1);
+            trace::trace(rt, path.as_str(), words.as_slice())
         }
         [name, schedule, script] if name.as_str() == "pair" => {
             pair::pair(rt, schedule.as_str(), script.as_str())
@@ -116,6 +122,7 @@ fn report(rt: &HostRuntime, ending: Ending) {
     let _ = match ending {
         Ending::Schedule(line) => eprintln!(rt; "nfs3: schedule {line}"),
         Ending::Store => eprintln!(rt; "nfs3: store"),
+        Ending::TooLong => eprintln!(rt; "nfs3: trace 0"),
         _ => match message(ending.status()) {
             Some(text) => eprintln!(rt; "nfs3: {text}"),
             None => Ok(()),

@@ -1,0 +1,9 @@
+pub mod Placing
+pub mod Putting
+pub mod Moments
+pub mod Telling
+pub mod Named
+pub mod ReadOn
+pub mod Making
+pub mod Leaving
+pub mod Shaping

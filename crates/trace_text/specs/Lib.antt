@@ -1,0 +1,10 @@
+pub mod Words
+pub mod Lists
+pub mod Answers
+pub mod Objects
+pub mod Puts
+pub mod Told
+pub mod HeadLines
+pub mod ObjectLines
+pub mod EntryLines
+pub mod Reading
