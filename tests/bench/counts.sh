@@ -51,10 +51,30 @@ resident() {
 
 # So many ACCESS calls, one a line.
 accesses() {
-    local at
+    local at lanes=${2-1}
     for ((at = 0; at < $1; at++)); do
-        echo '1 access / 1'
+        echo "$((at % lanes + 1)) access / 1"
     done
+}
+
+# The same in sixteen lanes.
+lane_accesses() {
+    accesses "$1" 16
+}
+
+# So many files of 100 bytes, each stable before the next line of its lane.
+small_files() {
+    local at lane lanes=${2-1} digits
+    printf -v digits '61%.0s' {1..100}
+    for ((at = 0; at < $1; at++)); do
+        lane=$((at % lanes + 1))
+        printf '%s\n' "$lane open 1 c /tree/small_${lanes}_$1_$at" "$lane write 1 0 $digits" "$lane close 1"
+    done
+}
+
+# The same in sixteen lanes.
+lane_small_files() {
+    small_files "$1" 16
 }
 
 # So many WRITEs of 65,536 bytes, in one sync.
@@ -132,6 +152,9 @@ growth() {
 
 count_calls() {
     one_more 'a call of ACCESS' 500 accesses
+    one_more 'a call of ACCESS in 16 lanes' 512 lane_accesses
+    one_more 'a small file' 160 small_files
+    one_more 'a small file in 16 lanes' 160 lane_small_files
     one_more 'a WRITE of 65,536 bytes from a fill' 20 writes
     one_more 'a WRITE of 65,536 bytes from hex' 3 hex_writes
     one_more 'a READ of 65,536 bytes' 20 reads

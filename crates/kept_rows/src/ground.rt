@@ -3,7 +3,7 @@
 use page_store::{Disk, MemDisk, PageStore};
 use std::alloc::Global;
 use std::io;
-use world_link::{ScheduleFault, World, parse_schedule};
+use world_link::{World, parse_schedule};
 
 /// The last byte of all slots and the label.
 const LAST: u64 = 1025 * 4224 - 1;
@@ -19,35 +19,19 @@ pub struct Ground {
     pub store: PageStore<MemDisk>,
 }
 
-/// The server of a schedule, and a store of an empty disk whose calls of these numbers fail. It prints why there is none.
-pub fn begin(
-    rt: &impl Print,
-    alloc: Global,
-    schedule: &[u8],
-    fails: &[u32],
-) -> io::Result<Option<Ground>> {
-    match empty_store(alloc, fails) {
-        Some(store) => begin_over(rt, alloc, schedule, store),
-        None => {
-            println!(rt; "  no store")?;
-            Ok(None)
-        }
-    }
+/// The server of a schedule, and a store of an empty disk whose calls of these numbers fail. None for a faulty schedule, and where
+/// the disk fails before the store is there.
+pub fn begin(alloc: Global, schedule: &[u8], fails: &[u32]) -> Option<Ground> {
+    let store = empty_store(alloc, fails)?;
+    ground_over(alloc, schedule, store)
 }
 
-/// The server of a schedule, beside this store. It prints why there is none.
-pub fn begin_over(
-    rt: &impl Print,
-    alloc: Global,
-    schedule: &[u8],
-    store: PageStore<MemDisk>,
-) -> io::Result<Option<Ground>> {
+/// The server of a schedule, beside this store.
+pub fn ground_over(alloc: Global, schedule: &[u8], store: PageStore<MemDisk>) -> Option<Ground> {
     match parse_schedule(alloc, schedule) {
-        Ok((world, tick)) => return Ok(Some(Ground { world, tick, store })),
-        Err(ScheduleFault::Line(line)) => println!(rt; "  schedule {line}")?,
-        Err(ScheduleFault::Memory) => println!(rt; "  out of memory")?,
+        Ok((world, tick)) => Some(Ground { world, tick, store }),
+        Err(_) => None,
     }
-    Ok(None)
 }
 
 /// A store of an empty disk whose calls of these numbers fail.

@@ -21,47 +21,67 @@ use crate::ground::{Ground, begin, show_store};
 use std::alloc::Global;
 use std::io;
 
-/// Does what a line asks for over a server and a store.
+/// What the lines so far led to.
+#[derive(Drop)]
+struct State {
+    case: Case,
+    ground: Option<Ground>,
+}
+
+/// Does what a line asks for.
 fn row(
     rt: &impl Print,
     alloc: Global,
-    case: &mut Case,
-    ground: &mut Ground,
+    state: &mut State,
     word: &str,
+    rest: &str,
 ) -> io::Result<()> {
     match word {
-        "run" => {
-            session::show_run(rt, alloc, case, ground)?;
-            case.words = Vec::new(alloc);
-            case.script = Vec::new(alloc);
-            case.label = Vec::new(alloc);
+        "begin" => {
+            state.ground = begin(alloc, state.case.schedule.as_slice(), &[]);
             Ok(())
         }
-        "pages" => show_store(rt, alloc, &ground.store),
-        _ => Ok(()),
+        "stops" => stops::show(rt, alloc, &state.case, rest),
+        "run" => run(rt, alloc, state),
+        "pages" => pages(rt, alloc, &state.ground),
+        _ => match takes(alloc, &mut state.case, word, rest) {
+            Ok(()) => Ok(()),
+            Err(_) => println!(rt; "  out of memory"),
+        },
+    }
+}
+
+/// Runs a session over the server and the store. The next one is described anew.
+fn run(rt: &impl Print, alloc: Global, state: &mut State) -> io::Result<()> {
+    let Some(ground) = &mut state.ground else {
+        return println!(rt; "  no store");
+    };
+    session::show_run(rt, alloc, &state.case, ground)?;
+    state.case.words = Vec::new(alloc);
+    state.case.script = Vec::new(alloc);
+    state.case.label = Vec::new(alloc);
+    Ok(())
+}
+
+/// Prints the pages of the store.
+fn pages(rt: &impl Print, alloc: Global, ground: &Option<Ground>) -> io::Result<()> {
+    match ground {
+        Some(ground) => show_store(rt, alloc, &ground.store),
+        None => println!(rt; "  no store"),
     }
 }
 
 fn main(rt: HostRuntime) -> io::Result<()> {
     let alloc = rt.alloc();
-    let mut case = empty(alloc);
-    let mut ground = None;
+    let mut state = State {
+        case: empty(alloc),
+        ground: None,
+    };
     for line in rt.lines(alloc) {
         let line = line?;
         println!(rt; "{}", line.as_str())?;
         let (word, rest) = line.as_str().split_once(' ').unwrap_or((line.as_str(), ""));
-        match word {
-            "begin" => ground = begin(&rt, alloc, case.schedule.as_slice(), &[])?,
-            "stops" => stops::show(&rt, alloc, &case, rest)?,
-            _ => {
-                if takes(alloc, &mut case, word, rest).is_err() {
-                    println!(rt; "  out of memory")?;
-                }
-                if let Some(ground) = &mut ground {
-                    row(&rt, alloc, &mut case, ground, word)?;
-                }
-            }
-        }
+        row(&rt, alloc, &mut state, word, rest)?;
     }
     Ok(())
 }

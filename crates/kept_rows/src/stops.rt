@@ -1,7 +1,7 @@
 //! A session whose store is stopped at one of its calls.
 
 use crate::case::Case;
-use crate::ground::{Ground, begin, begin_over, show_store};
+use crate::ground::{Ground, begin, ground_over, show_store};
 use crate::session::show_run;
 use page_store::{MemDisk, PageStore};
 use std::alloc::Global;
@@ -12,28 +12,33 @@ pub fn show(rt: &impl Print, alloc: Global, case: &Case, rest: &str) -> io::Resu
     let (first, last) = rest.split_once(' ').unwrap_or((rest, rest));
     for call in number_of(first)..=number_of(last) {
         println!(rt; "= call {call}")?;
-        if let Some(ground) = begin(rt, alloc, case.schedule.as_slice(), &[call])? {
-            show_stopped(rt, alloc, case, ground)?;
-        }
+        show_call(rt, alloc, case, call)?;
     }
     Ok(())
 }
 
-/// Runs the session over a disk one of whose calls fails, lets the disk crash, and runs the session over what is left, with a new server.
+/// Runs the session over a disk whose call of that number fails, and then over what a crash leaves.
+fn show_call(rt: &impl Print, alloc: Global, case: &Case, call: u32) -> io::Result<()> {
+    match begin(alloc, case.schedule.as_slice(), &[call]) {
+        Some(ground) => show_stopped(rt, alloc, case, ground),
+        None => println!(rt; "  no store"),
+    }
+}
+
+/// Runs the session over a disk one of whose calls fails, and then over what a crash leaves.
 fn show_stopped(rt: &impl Print, alloc: Global, case: &Case, ground: Ground) -> io::Result<()> {
     let mut ground = ground;
     show_run(rt, alloc, case, &mut ground)?;
-    let Some(store) = crashed(alloc, ground.store) else {
-        return println!(rt; "  no store");
-    };
-    match begin_over(rt, alloc, case.schedule.as_slice(), store)? {
-        Some(left) => {
-            let mut left = left;
-            show_store(rt, alloc, &left.store)?;
-            show_run(rt, alloc, case, &mut left)
-        }
-        None => Ok(()),
+    match left_of(alloc, case, ground) {
+        Some(left) => show_left(rt, alloc, case, left),
+        None => println!(rt; "  no store"),
     }
+}
+
+/// A new server, and the store of what a crash leaves.
+fn left_of(alloc: Global, case: &Case, ground: Ground) -> Option<Ground> {
+    let store = crashed(alloc, ground.store)?;
+    ground_over(alloc, case.schedule.as_slice(), store)
 }
 
 /// The store of what a crash leaves of its disk.
@@ -41,6 +46,13 @@ fn crashed(alloc: Global, store: PageStore<MemDisk>) -> Option<PageStore<MemDisk
     let mut disk = store.into_disk();
     disk.crash().ok()?;
     PageStore::open(alloc, disk).ok()
+}
+
+/// Prints the store, and runs the session.
+fn show_left(rt: &impl Print, alloc: Global, case: &Case, left: Ground) -> io::Result<()> {
+    let mut left = left;
+    show_store(rt, alloc, &left.store)?;
+    show_run(rt, alloc, case, &mut left)
 }
 
 /// The number of decimal digits; 0 where they aren't of a number below 2^32.

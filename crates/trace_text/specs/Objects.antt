@@ -1,8 +1,8 @@
 -- What lines say of the objects of a server.
 use Rattle.std.specs.Prelude.{ℕ, List, [], ◌∷◌, ◌++◌, length, Bool, true, false, not, ◌==◌, ◌&&◌, ◌||◌, nat_le, nat_lt, Option, Some, None, filter, if◌then◌else◌}
 use Rattle.std.specs.Str.{bytes_eq}
-use Rattle.core.specs.Ordering.{is_lt, nat_cmp}
-use Rattle.core.specs.Cmp.Lexicographic.{slice_cmp}
+use Rattle.std.specs.Ordering.{is_lt, nat_cmp}
+use Rattle.std.specs.Cmp.Lexicographic.{slice_cmp}
 use Rattle.nfs_types.specs.declared.attr.Attr.{Attr}
 use Rattle.nfs_types.specs.declared.verf.Verf.{Verf}
 use Rattle.world_model.specs.Server.{Listed, Holds, Bytes, Entries, Text, Object, Server}

@@ -1,0 +1,9 @@
+//! A folder or a file of the system as a tree of files.
+#![tactic(auto)]
+
+mod listing;
+mod opened;
+mod tree;
+mod unread;
+
+pub use tree::DiskTree;
