@@ -12,13 +12,12 @@ new_store() {
 
 # A script that reads a file in pieces of 65,536 bytes: NAME, its bytes, and the counts that are wanted, if they are known.
 read_script() {
-    local at size
-    size=$(stat -c %s "$2")
-    cp -- "$2" "$expected"
+    local piece pieces
+    mapfile -t pieces < <(od -An -v -tx1 "$2" | tr -d ' \n' | fold -w 131072)
     new_script
     line "open 1 r /$1"
-    for ((at = 0; at < size; at += 65536)); do
-        read_line "$at" 65536
+    for piece in "${!pieces[@]}"; do
+        line "read 1 $((piece * 65536)) 65536" "ok ${pieces[piece]}"
     done
     line 'close 1'
     [ -z "${3-}" ] || counts "$3"
