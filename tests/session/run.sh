@@ -398,7 +398,7 @@ try_kept_pages() {
     comes_to 9 'nfs3: store' $? 'a file of pages that is not there'
     flock "$work/kept" "$nfs3" run --fsc "$work/kept" 127.0.0.1 /srv >"$work/said" 2>&1 </dev/null
     comes_to 9 'nfs3: store' $? 'a file of pages that is in use'
-    "$nfs3" run --fsc "$work/kept" 127.0.0.1 srv >"$work/said" 2>&1 </dev/null
+    "$nfs3" run --fsc "$work/kept" 127.0.0.1 /srv --rsize x >"$work/said" 2>&1 </dev/null
     comes_to 2 'nfs3: usage' $? 'words of no known form'
 }
 
