@@ -4,6 +4,7 @@ pub mod Numbers
 pub mod Awaiting
 pub mod Stirring
 pub mod Resting
+pub mod Answered
 pub mod Leading
 pub mod Refusing
 pub mod Settling

@@ -1,5 +1,5 @@
 -- What a lane is at.
-use Rattle.std.specs.Prelude.{◌≡◌, ℕ, List, Option, Some, None, Bool, true, false, ◌==◌, slice_get, Result}
+use Rattle.std.specs.Prelude.{◌≡◌, ◌<◌, ℕ, List, [], ◌∷◌, Option, Some, None, Bool, true, false, ◌==◌, min, slice_get, position, Result}
 use Rattle.client_shelf.specs.declared.shelf.Shelf.{Shelf}
 use Rattle.client_shelf.specs.declared.turn.Turn.{Turn}
 use Rattle.client_shelf.specs.declared.step.Step.{Step}
@@ -30,6 +30,26 @@ over_by own (Over answer) = own
 
 abbrev pub is_over : ℕ → Lane → Bool
 is_over number lane = over_by (lane.number == number) lane.state
+
+-- the lesser of a number and that of a lane, if the lane has its answer
+abbrev pub least_by : Option ℕ → ℕ → State → Option ℕ
+least_by first number (Busy machine) = first
+least_by None number (Over answer) = Some number
+least_by (Some least) number (Over answer) = Some (min least number)
+
+-- the least number of a lane that has its answer, beside another number
+abbrev pub least_answered : Option ℕ → List Lane → Option ℕ
+least_answered first [] = first
+least_answered first (lane ∷ lanes) = least_answered (least_by first lane.number lane.state) lanes
+
+-- the number is less than the least one
+abbrev pub IsUnder : ℕ → Option ℕ → Type 0
+IsUnder number None = Unit {0}
+IsUnder number (Some least) = number < least
+
+-- a lane of a number less than this one has no answer
+abbrev pub AnsweredFrom : Option ℕ → List Lane → Type 0
+AnsweredFrom least lanes = (number : ℕ) → IsUnder number least → position (is_over number) lanes ≡ None
 
 abbrev pub lost_state : State → State
 lost_state (Busy machine) = Over (Refused faults.Lost)

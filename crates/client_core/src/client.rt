@@ -5,6 +5,7 @@ ghost use Rattle.std.specs.Borrow.{sem};
 ghost use Rattle.op_machines.specs.Fits.{Fits};
 ghost use Rattle.client_core.specs.Ends.{ends_as};
 ghost use Rattle.client_core.specs.Fresh.{AreSizes, IsFresh};
+ghost use Rattle.client_core.specs.Lanes.{AnsweredFrom};
 ghost use Rattle.client_core.specs.Numbers.{IsIdle};
 ghost use Rattle.client_core.specs.View.{IsSound};
 ghost use Rattle.client_core.specs.Steps.{Begins, Hears, WereSent, SendsBy, FailsBy, AnswersBy, lost};
@@ -105,6 +106,13 @@ impl Core {
         ensures { AnswersBy self.old lane result self.new }
     {
         self.work.answer(lane)
+    }
+
+    /// The least number of a lane with an answer that wasn't fetched. To ask this takes less than to ask for the answer of each lane.
+    pub fn least_answered(&self) -> Option<u8>
+        ensures { AnsweredFrom result self.now.lanes }
+    {
+        self.work.least_answered()
     }
 
     /// The pages that are kept at the end.

@@ -1,9 +1,9 @@
 //! A lane, in which operations run one after the other.
 
-ghost use Rattle.std.specs.Prelude.{◌≡◌, position, map};
+ghost use Rattle.std.specs.Prelude.{◌≡◌, None, position, map};
 ghost use Rattle.client_shelf.specs.Coming.{reply_of};
 ghost use Rattle.op_machines.specs.MayStep.{MayStep};
-ghost use Rattle.client_core.specs.Lanes.{is_busy, is_over, state_rests, lane_rests, lost_state, lost_lane, StateFits, LaneFits, StateResumes, StateTakes, LaneResumes, LaneTakes};
+ghost use Rattle.client_core.specs.Lanes.{is_busy, is_over, least_by, least_answered, state_rests, lane_rests, lost_state, lost_lane, StateFits, LaneFits, StateResumes, StateTakes, LaneResumes, LaneTakes};
 ghost use Rattle.client_core.specs.declared.lane.State.TheVariants as states;
 
 use client_shelf::{Came, Shelf, Step, Turn};
@@ -130,6 +130,19 @@ impl Lane {
         self.state = State::Over(answer);
     }
 
+    /// The lesser of a number and its own, if it has its answer.
+    fn least_with(&self, least: Option<u8>) -> Option<u8>
+        ensures { result ≡ least_by least self.now.number self.now.state }
+    {
+        match self.state {
+            State::Busy(_) => least,
+            State::Over(_) => match least {
+                Some(least) => Some(least.min(self.number)),
+                None => Some(self.number),
+            },
+        }
+    }
+
     /// Lost, unless it has its answer.
     fn lose(&mut self)
         ensures { self.new ≡ lost_lane self.old }
@@ -158,6 +171,17 @@ pub(crate) fn over_at(lanes: &[Lane], number: u8) -> Option<usize>
         State::Busy(_) => false,
         State::Over(_) => lane.number == number,
     })
+}
+
+/// The least number of those that have their answer.
+pub(crate) fn least_answered(lanes: &[Lane]) -> Option<u8>
+    ensures { result ≡ least_answered None lanes.now }
+{
+    let mut least = None;
+    for lane in lanes {
+        least = lane.least_with(least);
+    }
+    least
 }
 
 /// All that have no answer are answered `Lost`.

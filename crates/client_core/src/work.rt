@@ -17,14 +17,14 @@ ghost use Rattle.op_machines.specs.MayStep.{MayStep};
 ghost use Rattle.client_core.specs.WorkEnds.{ends_as};
 ghost use Rattle.client_core.specs.Fresh.{IsFresh};
 ghost use Rattle.client_core.specs.declared.lane.State.{State as LaneState};
-ghost use Rattle.client_core.specs.Lanes.{is_busy_at, IsAt, waits};
+ghost use Rattle.client_core.specs.Lanes.{is_busy_at, IsAt, AnsweredFrom, waits};
 ghost use Rattle.client_core.specs.Numbers.{AreLanes, IsIdle};
 ghost use Rattle.client_core.specs.View.{IsBound, IsSound, turn_at, unmade_turn, has_room};
 ghost use Rattle.client_core.specs.Between.{AwaitsRefusal, AwaitsCall, Awaits};
 ghost use Rattle.client_core.specs.Steps.{IsBusyAt, StartsLane, Rests, StirsIf, StirsOne, Leads, Asks, Makes, PutsCall, IsRecordOf, SpellsCall, IsUnmade, Refuses, IsSpent, EndsAs, TakesAt, TakesCall, counted, Moves, Still, Begins, Hears, HearsOwn, IsSaid, SendsBy, FailsBy, AnswersBy, lost};
 ghost use Rattle.xdr_codec.specs.Spells.{Wrote};
 
-use crate::lane::{Lane, Purpose, State, busy_at, lose_all, over_at};
+use crate::lane::{Lane, Purpose, State, busy_at, least_answered, lose_all, over_at};
 use crate::laws::steps_hold;
 use crate::setup::Setup;
 use attr_cache::AttrCache;
@@ -173,6 +173,13 @@ impl Work {
             return None;
         };
         Some(answer)
+    }
+
+    /// The least number of a lane with an answer that wasn't fetched.
+    pub(crate) fn least_answered(&self) -> Option<u8>
+        ensures { AnsweredFrom result self.now.lanes }
+    {
+        least_answered(&self.lanes)
     }
 
     /// The pages that are kept.

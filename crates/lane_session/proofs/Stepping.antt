@@ -1,5 +1,6 @@
 -- Lanes that go on, one after the other.
-use Rattle.std.proofs.Common.{◌≡◌, ◌≤◌, ◌<◌, ◌+◌, ◌-◌, inl, inr, ℕ, zero, suc, List, [], ◌∷◌, ◌==◌, length, position, get_or, slice_get, Bool, true, false, nat_eq, Option, Some, None, MatchOption, refl, sym, ap, subst, ◌∙◌, arith}
+use Rattle.std.proofs.Common.{◌≡◌, ◌≤◌, ◌<◌, ◌+◌, ◌-◌, inl, inr, ℕ, zero, suc, List, [], ◌∷◌, ◌==◌, length, position, get_or, slice_get, Bool, true, false, nat_eq, Option, Some, None, option_map, MatchOption, refl, sym, ap, subst, ◌∙◌, arith}
+use Rattle.std.specs.Bool.{OnTrue}
 use borrow.Author.Tests.{eqb-true, eqb-false}
 use Rattle.std.proofs.lemmas.Bool.{ne_eqb}
 use Rattle.std.proofs.lemmas.List.Quantifiers.{position-Some}
@@ -8,14 +9,14 @@ use Rattle.nfs_script.specs.declared.script.ScriptLine.{ScriptLine}
 use Rattle.client_core.specs.declared.lane.Lane.{Lane}
 use Rattle.client_core.specs.declared.lane.State.{State}
 use Rattle.client_core.specs.declared.lane.State.TheVariants.{Busy, Over}
-use Rattle.client_core.specs.Lanes.{is_over, over_by}
+use Rattle.client_core.specs.Lanes.{is_over, over_by, IsUnder, AnsweredFrom}
 use Rattle.client_core.specs.Numbers.{IsOther, numbers_of}
 use Rattle.client_core.specs.Steps.{AnswersBy, AnswersAt}
 use Rattle.client_core.specs.View.{View}
 use Rattle.lane_session.specs.declared.lanes.Place.{Place}
 use Rattle.lane_session.specs.declared.running.Session.{Session}
-use Rattle.lane_session.specs.Holding.{IsHeld, IsQuiet, Lessens, SameTries, calls_left, tries_left}
-use Rattle.lane_session.specs.Places.{Seeks, lines_left}
+use Rattle.lane_session.specs.Holding.{IsHeld, IsQuiet, AreQuiet, Lessens, SameTries, calls_left, tries_left}
+use Rattle.lane_session.specs.Places.{AreBegun, Seeks, lines_left}
 use Rattle.lane_session.specs.Running.{LineIs, RestsOne, RestsAll, StepsSo, StepsLane}
 use Rattle.lane_session.proofs.Placing.{get-set}
 use Rattle.lane_session.proofs.Seating.{line-of, lines-set, get-other}
@@ -137,3 +138,20 @@ lane-went-on script lane old new false e s = absurd (cc)
 pub lane-went-not : (script : List ScriptLine) (lane : ℕ) (old new : Session) (went : Bool) → went ≡ false → StepsLane script lane old went new → RestsOne script lane old new
 lane-went-not script lane old new true e s = absurd (cc)
 lane-went-not script lane old new false e s = s
+
+-- each lane has a line under way or none left, and none has an answer
+pub quiet-all : (script : List ScriptLine) (s : Session) (b : Bool) → OnTrue b (AreBegun (length script) s.lanes) → AnsweredFrom None s.core.lanes → OnTrue b (AreQuiet script s)
+quiet-all script s true begun none = λ n lt. record { told = none (suc n) tt; none = begun n }
+quiet-all script s false begun none = tt
+
+line-there : (places : List Place) (n line : ℕ) (p : Place) → option_map (λ (q : Place). q.line) (slice_get places n) ≡ Some (Some line) → slice_get places n ≡ Some p → p.line ≡ Some line
+line-there places n line p is there = let e = sym (ap (option_map (λ (q : Place). q.line)) there) ∙ is in cc
+
+-- a lane with a line under way has no answer, since none of its number or a lesser one has
+pub waits-quiet : (s : Session) (lane line : ℕ) (least : Option ℕ) (b : Bool) → 1 ≤ lane → option_map (λ (p : Place). p.line) (slice_get s.lanes (lane - 1)) ≡ Some (Some line) → AnsweredFrom least s.core.lanes
+    → OnTrue b (IsUnder lane least) → OnTrue b ((script : List ScriptLine) → IsQuiet script s (lane - 1))
+waits-quiet s lane line least false one there from under = tt
+waits-quiet s lane line least true one there from under = λ script. record {
+  told = subst (λ (m : ℕ). position (is_over m) s.core.lanes ≡ None) (sym (same-lane lane one)) (from lane under);
+  none = λ p at free. absurd (let busy : p.line ≡ Some line = line-there s.lanes (lane - 1) line p there at in let clash = sym free ∙ busy in cc);
+}

@@ -41,6 +41,10 @@ pub record Ends (lane : ℕ) (old new : List Place) : Type 0 where
 abbrev pub AreIdle : List Place → Type 0
 AreIdle places = (n : ℕ) (p : Place) → slice_get places n ≡ Some p → p.line ≡ None
 
+-- no lane has a line left to begin, but for those with a line under way
+abbrev pub AreBegun : ℕ → List Place → Type 0
+AreBegun count places = (n : ℕ) (p : Place) → slice_get places n ≡ Some p → p.line ≡ None → p.next ≡ count
+
 -- ---- how much is left
 
 abbrev pub one_if : Option ℕ → ℕ

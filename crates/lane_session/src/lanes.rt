@@ -3,7 +3,7 @@
 ghost use Rattle.std.specs.Prelude.{◌≡◌, ◌≤◌, ◌<◌, ◌-◌, ◌+◌, ◌^◌, IfOk, Some, None, slice_get, slice_set, option_map, replicate, length, MatchOption, ℕ};
 ghost use Rattle.lane_session.specs.declared.lanes.Place.{Place as PlaceOf};
 ghost use Rattle.std.specs.Bool.{OnFalse, OnTrue};
-ghost use Rattle.lane_session.specs.Places.{AreIdle, Ends, IsNext, Seeks};
+ghost use Rattle.lane_session.specs.Places.{AreBegun, AreIdle, Ends, IsNext, Seeks};
 
 use limits::LANE_COUNT;
 use nfs_script::Script;
@@ -129,6 +129,15 @@ impl Lanes {
             next: 0,
             line: None,
         });
+    }
+
+    /// Whether each lane has a line under way, or stands at the end of a script of so many lines.
+    pub fn have_begun(&self, count: usize) -> bool
+        ensures { OnTrue result (AreBegun count self.now) }
+    {
+        self.places
+            .iter()
+            .all(|place| place.line.is_some() || place.next == count)
     }
 
     /// Whether a line is under way.

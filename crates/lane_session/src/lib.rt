@@ -2,6 +2,7 @@
 //! written at once.
 #![tactic(auto)]
 
+mod buffer;
 mod counts;
 mod halt;
 mod lanes;

@@ -1,7 +1,7 @@
 //! A session over the core: its lines begin, calls are sent, records are taken, answers are told.
 
 ghost use Rattle.std.specs.Bool.{OnTrue};
-ghost use Rattle.std.specs.Prelude.{◌≡◌, ◌≢◌, ◌≤◌, ◌<◌, ◌^◌, ◌+◌, ◌*◌, ℕ, [], List, All, None, Some, true, false, IfOk, OnOk, length};
+ghost use Rattle.std.specs.Prelude.{◌≡◌, ◌≢◌, ◌≤◌, ◌<◌, ◌^◌, ◌+◌, ◌-◌, ◌*◌, ℕ, [], List, All, None, Some, true, false, IfOk, OnOk, length};
 ghost use Rattle.outside.specs.Causes.{Rose};
 ghost use Rattle.world_model.specs.declared.entry.Entry.{Entry};
 ghost use Rattle.world_model.specs.Told.{Relates};
@@ -11,12 +11,13 @@ ghost use Rattle.nfs_script.specs.declared.script.ScriptLine.{ScriptLine};
 ghost use Rattle.rpc_retry.specs.Waiting.{first_due};
 ghost use Rattle.op_machines.specs.Begun.{machine_of};
 ghost use Rattle.op_machines.specs.Fits.{Fits};
+ghost use Rattle.client_core.specs.Lanes.{AnsweredFrom, IsUnder};
 ghost use Rattle.client_core.specs.Numbers.{IsIdle};
 ghost use Rattle.client_core.specs.Steps.{WereSent};
 ghost use Rattle.core_facts.specs.Reaches.{MaySetUp};
 ghost use Rattle.lane_session.specs.Bonds.{CoreBy, CoreGoes, RedialsBy};
 ghost use Rattle.lane_session.specs.Going.{GoesBy, GoesNext};
-ghost use Rattle.lane_session.specs.Holding.{HasRoom, IsHeld, IsLive, AreQuiet, HeadSent, tries_left};
+ghost use Rattle.lane_session.specs.Holding.{HasRoom, IsHeld, IsLive, IsQuiet, AreQuiet, HeadSent, tries_left};
 ghost use Rattle.lane_session.specs.Places.{AreIdle};
 ghost use Rattle.lane_session.specs.Ports.{KeepsPort};
 ghost use Rattle.lane_session.specs.Resending.{DueAgain};
@@ -25,6 +26,7 @@ ghost use Rattle.lane_session.specs.Statuses.{CausedBy};
 ghost use Rattle.lane_session.specs.Streams.{Passes, Reads, Says};
 ghost use Rattle.lane_session.specs.Turns.{AddsMarks, WritesInTime};
 
+use crate::buffer::Buffer;
 use crate::counts::Counts;
 use crate::halt::Halt;
 use crate::lanes::Lanes;
@@ -60,6 +62,8 @@ pub struct Session {
     dropped: u32,
     /// So many operations at most began in the scripts that are done.
     earlier: u64,
+    /// For the record that comes next.
+    buffer: Buffer,
 }
 
 /// What came of the sending of a record.
@@ -103,6 +107,7 @@ impl Session {
             attempts: ATTEMPTS,
             dropped: 0,
             earlier: 0,
+            buffer: Buffer::new(alloc),
         })
     }
 
@@ -299,8 +304,51 @@ impl Session {
         ensures later { K.faults out.old ≤ K.faults out.new }
         ensures cause { CausedBy result (Rose (K.faults out.old) (K.faults out.new)) }
     {
+        let least = self.core.least_answered();
+        if self.rests(least, script) {
+            return Ok(false);
+        }
+        self.step_lanes(least, script, label, link, clock, out)
+    }
+
+    /// Whether no lane can go on: each has a line under way without an answer, or none left.
+    fn rests(&self, least: Option<u8>, script: &Script) -> bool
+        requires { AnsweredFrom least self.now.core.lanes }
+        ensures { OnTrue result (AreQuiet script.now self.now) }
+    {
+        match least {
+            Some(_) => false,
+            None => self.lanes.have_begun(script.count()),
+        }
+    }
+
+    /// The same, by asking each lane in turn that has no line under way or whose line may have its answer.
+    fn step_lanes<L: Link, C: Clock, K: Sink>(
+        &mut self,
+        least: Option<u8>,
+        script: &Script,
+        label: &[u8],
+        link: &mut L,
+        clock: &mut C,
+        out: &mut K,
+    ) -> Result<bool, Halt>
+        requires from { AnsweredFrom least self.old.core.lanes }
+        requires asked { All IsAskedLine script.now }
+        requires few { length script.now ≤ 16384 }
+        requires held { IsHeld script.now self.old }
+        ensures held { OnOk result (IsHeld script.now self.new) }
+        ensures steps { IfOk result (λ went. StepsSo script.now self.old went self.new) }
+        ensures goes { Passes (C.readings clock.old) (C.readings clock.new) (L.told link.old) (L.told link.new) (K.written out.old) (K.written out.new)
+            (GoesBy label.now script.now self.old self.new result) }
+        ensures marks { Relates (L.told link.old) (L.told link.new) AddsMarks }
+        ensures dials { KeepsPort self.old.port self.new.port (L.told link.old) (L.told link.new) }
+        ensures stays { (first : L) → L.stays first link.old → L.stays first link.new }
+        ensures honest { L.honest link.old → L.honest link.new }
+        ensures later { K.faults out.old ≤ K.faults out.new }
+        ensures cause { CausedBy result (Rose (K.faults out.old) (K.faults out.new)) }
+    {
         for index in 0..LANES {
-            match self.step(index + 1, script, label, link, clock, out) {
+            match self.step_from(least, index + 1, script, label, link, clock, out) {
                 Ok(went) => {
                     if went {
                         return Ok(true);
@@ -310,6 +358,53 @@ impl Session {
             }
         }
         Ok(false)
+    }
+
+    /// As `step`, if no lane below a number has an answer.
+    fn step_from<L: Link, C: Clock, K: Sink>(
+        &mut self,
+        least: Option<u8>,
+        lane: u8,
+        script: &Script,
+        label: &[u8],
+        link: &mut L,
+        clock: &mut C,
+        out: &mut K,
+    ) -> Result<bool, Halt>
+        requires from { AnsweredFrom least self.old.core.lanes }
+        requires least { 1 ≤ lane }
+        requires most { lane ≤ 16 }
+        requires asked { All IsAskedLine script.now }
+        requires few { length script.now ≤ 16384 }
+        requires held { IsHeld script.now self.old }
+        ensures held { OnOk result (IsHeld script.now self.new) }
+        ensures steps { IfOk result (λ went. StepsLane script.now lane self.old went self.new) }
+        ensures goes { Passes (C.readings clock.old) (C.readings clock.new) (L.told link.old) (L.told link.new) (K.written out.old) (K.written out.new)
+            (GoesBy label.now script.now self.old self.new result) }
+        ensures marks { Relates (L.told link.old) (L.told link.new) AddsMarks }
+        ensures dials { KeepsPort self.old.port self.new.port (L.told link.old) (L.told link.new) }
+        ensures stays { (first : L) → L.stays first link.old → L.stays first link.new }
+        ensures honest { L.honest link.old → L.honest link.new }
+        ensures later { K.faults out.old ≤ K.faults out.new }
+        ensures cause { CausedBy result (Rose (K.faults out.old) (K.faults out.new)) }
+    {
+        if self.waits(lane, least) {
+            return Ok(false);
+        }
+        self.step(lane, script, label, link, clock, out)
+    }
+
+    /// Whether a line of the lane is under way, which has no answer.
+    fn waits(&self, lane: u8, least: Option<u8>) -> bool
+        requires from { AnsweredFrom least self.now.core.lanes }
+        requires least { 1 ≤ lane }
+        requires most { lane ≤ 16 }
+        ensures { OnTrue result ((script : List ScriptLine) → IsQuiet script self.now (lane - 1)) }
+    {
+        match self.lanes.line(lane) {
+            Some(_) => is_under(lane, least),
+            None => false,
+        }
     }
 
     /// The lane tells its answer, or begins its next line: whether it had either.
@@ -458,8 +553,7 @@ impl Session {
         ensures is { IfOk result (λ machine. machine ≡ machine_of self.now.mounted lane op.now) }
         ensures fits { IfOk result Fits }
     {
-        let own = op.copy(self.alloc)?;
-        Machine::new(self.alloc, &self.mounted, lane, own)
+        Machine::new(self.alloc, &self.mounted, lane, op)
     }
 
     /// Sends each record that is due, and waits once for one that comes.
@@ -554,10 +648,11 @@ impl Session {
         ensures honest { L.honest link.old → L.honest link.new }
         ensures only { CausedBy result ⊥ }
     {
-        let mut rec = Vec::new(self.alloc);
+        let mut rec = self.buffer.lend(self.alloc);
         match link.receive(WAIT_MS, &mut rec) {
             Received::Whole => {
                 self.take(rec.as_slice());
+                self.buffer.take_back(rec);
                 Ok(())
             }
             Received::Silent => {
@@ -632,6 +727,16 @@ impl Session {
     {
         self.core.lose();
         self.attempts = 0;
+    }
+}
+
+/// Whether the number is less than the least one.
+fn is_under(number: u8, least: Option<u8>) -> bool
+    ensures { OnTrue result (IsUnder number least) }
+{
+    match least {
+        Some(least) => number < least,
+        None => true,
     }
 }
 

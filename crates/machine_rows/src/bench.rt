@@ -57,7 +57,7 @@ impl Running {
         if !is_asked(&op) {
             return None;
         }
-        let Ok(machine) = Machine::new(alloc, mounted, lane, op) else {
+        let Ok(machine) = Machine::new(alloc, mounted, lane, &op) else {
             return None;
         };
         Some(Running { machine })

@@ -41,10 +41,11 @@ struct Place {
 }
 
 impl Machine {
-    /// The machine of an operation, which hasn't made a step yet. There may be no memory for its path.
-    pub fn new(alloc: Global, mounted: &Mounted, lane: u8, op: Op) -> Result<Machine, Memory>
-        requires { IsAsked op }
-        ensures of { IfOk result (λ machine. machine ≡ machine_of mounted.now lane op) }
+    /// The machine of an operation, which hasn't made a step yet. Of the operation it copies the names that it needs, and shares the bytes. There may be no
+    /// memory for its path.
+    pub fn new(alloc: Global, mounted: &Mounted, lane: u8, op: &Op) -> Result<Machine, Memory>
+        requires { IsAsked op.now }
+        ensures of { IfOk result (λ machine. machine ≡ machine_of mounted.now lane op.now) }
         ensures fits { IfOk result Fits }
     {
         machine_of(alloc, mounted, lane, op)
@@ -53,14 +54,14 @@ impl Machine {
 
 // Longer than other functions, but a split would only hide the table.
 /// The machine of an operation, one arm each.
-fn machine_of(alloc: Global, mounted: &Mounted, lane: u8, op: Op) -> Result<Machine, Memory>
-    requires { IsAsked op }
-    ensures { IfOk result (λ machine. machine ≡ machine_of mounted.now lane op) }
+fn machine_of(alloc: Global, mounted: &Mounted, lane: u8, op: &Op) -> Result<Machine, Memory>
+    requires { IsAsked op.now }
+    ensures { IfOk result (λ machine. machine ≡ machine_of mounted.now lane op.now) }
 {
     let root = &mounted.root;
     match op {
         Op::OpenFile { slot, mode, path } => {
-            open_machine(alloc, mounted, lane, slot, mode, &path)
+            open_machine(alloc, mounted, lane, *slot, *mode, path)
         }
         Op::Read {
             slot,
@@ -68,9 +69,9 @@ fn machine_of(alloc: Global, mounted: &Mounted, lane: u8, op: Op) -> Result<Mach
             count,
         } => Ok(Machine::File(FileMachine::Read(ReadFile::new(
             lane,
-            slot,
-            offset,
-            count,
+            *slot,
+            *offset,
+            *count,
             mounted.rsize,
             mounted.noac,
         )))),
@@ -78,37 +79,56 @@ fn machine_of(alloc: Global, mounted: &Mounted, lane: u8, op: Op) -> Result<Mach
             slot,
             offset,
             bytes,
-        } => Ok(write_machine(lane, slot, offset, Text::Given(bytes))),
+        } => {
+            let text = Text::Given(bytes.again(alloc)?);
+            Ok(write_machine(lane, *slot, *offset, text))
+        }
         Op::Fill {
             slot,
             offset,
             count,
             byte,
-        } => Ok(write_machine(lane, slot, offset, Text::Fill { count, byte })),
+        } => {
+            let text = Text::Fill {
+                count: *count,
+                byte: *byte,
+            };
+            Ok(write_machine(lane, *slot, *offset, text))
+        }
         Op::Put {
             path,
             offset,
             bytes,
-        } => put_machine(alloc, mounted, lane, &path, offset, bytes),
-        Op::Sync { slot } => Ok(Machine::File(FileMachine::Sync(SyncFile::new(lane, slot)))),
-        Op::Close { slot } => Ok(Machine::File(FileMachine::Close(CloseFile::new(lane, slot)))),
+        } => put_machine(alloc, mounted, lane, path, *offset, bytes),
+        Op::Sync { slot } => Ok(Machine::File(FileMachine::Sync(SyncFile::new(lane, *slot)))),
+        Op::Close { slot } => Ok(Machine::File(FileMachine::Close(CloseFile::new(lane, *slot)))),
         Op::Truncate { slot, size } => Ok(Machine::File(FileMachine::Truncate(TruncateFile::new(
-            lane, slot, size,
+            lane, *slot, *size,
         )))),
-        Op::Stat { path } => Ok(Machine::Name(NameMachine::Stat(Stat::new(root, path)))),
+        Op::Stat { path } => Ok(Machine::Name(NameMachine::Stat(Stat::new(
+            root,
+            path.copy(alloc)?,
+        )))),
         Op::Access { path, bits } => Ok(Machine::Name(NameMachine::Access(Access::new(
-            root, path, bits,
+            root,
+            path.copy(alloc)?,
+            *bits,
         )))),
-        Op::MakeDir { path } => change_machine(alloc, root, &path, DirDeed::Make),
-        Op::RemoveDir { path } => change_machine(alloc, root, &path, DirDeed::Remove),
-        Op::Remove { path } => remove_machine(alloc, root, &path),
-        Op::Rename { from, to } => rename_machine(alloc, root, &from, &to),
-        Op::Link { from, to } => link_machine(alloc, root, from, &to),
-        Op::SymLink { path, target } => sym_link_machine(alloc, root, &path, target),
+        Op::MakeDir { path } => change_machine(alloc, root, path, DirDeed::Make),
+        Op::RemoveDir { path } => change_machine(alloc, root, path, DirDeed::Remove),
+        Op::Remove { path } => remove_machine(alloc, root, path),
+        Op::Rename { from, to } => rename_machine(alloc, root, from, to),
+        Op::Link { from, to } => link_machine(alloc, root, from, to),
+        Op::SymLink { path, target } => sym_link_machine(alloc, root, path, target),
         Op::ReadLink { path } => Ok(Machine::Name(NameMachine::ReadLink(ReadLink::new(
-            root, path,
+            root,
+            path.copy(alloc)?,
         )))),
-        Op::List { path } => Ok(Machine::Name(NameMachine::List(ListDir::new(alloc, root, path)))),
+        Op::List { path } => Ok(Machine::Name(NameMachine::List(ListDir::new(
+            alloc,
+            root,
+            path.copy(alloc)?,
+        )))),
     }
 }
 
@@ -169,14 +189,15 @@ fn put_machine(
     lane: u8,
     path: &Path,
     offset: u64,
-    bytes: Blob,
+    bytes: &Blob,
 ) -> Result<Machine, Memory>
     requires { IsNamed path.now }
-    ensures { IfOk result (λ machine. machine ≡ path_of mounted.now path.now (put_of mounted.now lane (last_of path.now) offset bytes)) }
+    ensures { IfOk result (λ machine. machine ≡ path_of mounted.now path.now (put_of mounted.now lane (last_of path.now) offset bytes.now)) }
 {
     let place = place_of(alloc, path)?;
     let root = &mounted.root;
-    let put = PutFile::new(lane, mounted.nocto, root, &place.name, offset, bytes);
+    let own = bytes.again(alloc)?;
+    let put = PutFile::new(lane, mounted.nocto, root, &place.name, offset, own);
     Ok(path_machine(root, place.dir, Opener::Put(put)))
 }
 
@@ -225,11 +246,12 @@ fn rename_machine(alloc: Global, root: &Handle, from: &Path, to: &Path) -> Resul
 }
 
 /// A further name.
-fn link_machine(alloc: Global, root: &Handle, file: Path, to: &Path) -> Result<Machine, Memory>
+fn link_machine(alloc: Global, root: &Handle, file: &Path, to: &Path) -> Result<Machine, Memory>
     requires { IsNamed to.now }
-    ensures { IfOk result (λ machine. machine ≡ link_of root.now file to.now) }
+    ensures { IfOk result (λ machine. machine ≡ link_of root.now file.now to.now) }
 {
     let place = place_of(alloc, to)?;
+    let file = file.copy(alloc)?;
     let link = Link::new(root, file, place.dir, &place.name);
     Ok(Machine::Name(NameMachine::Link(link)))
 }
@@ -239,12 +261,13 @@ fn sym_link_machine(
     alloc: Global,
     root: &Handle,
     path: &Path,
-    target: Blob,
+    target: &Blob,
 ) -> Result<Machine, Memory>
     requires { IsNamed path.now }
-    ensures { IfOk result (λ machine. machine ≡ sym_link_of root.now path.now target) }
+    ensures { IfOk result (λ machine. machine ≡ sym_link_of root.now path.now target.now) }
 {
     let place = place_of(alloc, path)?;
+    let target = target.again(alloc)?;
     let link = SymLink::new(root, place.dir, &place.name, target);
     Ok(Machine::Name(NameMachine::SymLink(link)))
 }

@@ -37,8 +37,8 @@ reconnect-requires g c = record {
 pub returns-in-Failed-clause-goes : goal.returns-in-Failed-clause-goes
 returns-in-Failed-clause-goes g c = quiet_then _ _ _ (quiet_tells _ _ (Failed ∷ []) refl c.in-Failed.ensures.told) c.reconnect.ensures.goes
 
-pub returns-clause-goes : goal.returns-clause-goes
-returns-clause-goes g c = quiet_tells _ _ [] refl c.in-Memory.ensures.told
+pub returns-in-Memory-clause-goes : goal.returns-in-Memory-clause-goes
+returns-in-Memory-clause-goes g c = quiet_tells _ _ [] refl c.in-Memory.ensures.told
 
 pub returns-in-Whole-clause-core : goal.returns-in-Whole-clause-core
 returns-in-Whole-clause-core g c =
@@ -55,8 +55,8 @@ returns-in-Failed-clause-core g c =
     (relates_call _ _ (Failed ∷ []) (CoreGoes c.args.self.now mid) (λ a b p. core-fails c.args.self.now mid a b c.requires.told c.requires.none (c.requires.live.some c.requires.some) c.fail-in-Failed.ensures p) c.in-Failed.ensures.told)
     c.reconnect.ensures.core
 
-pub returns-clause-core : goal.returns-clause-core
-returns-clause-core g c = relates_call _ _ [] _ (λ a b p. core-unmade c.args.self.now a b p) c.in-Memory.ensures.told
+pub returns-in-Memory-clause-core : goal.returns-in-Memory-clause-core
+returns-in-Memory-clause-core g c = relates_call _ _ [] _ (λ a b p. core-unmade c.args.self.now a b p) c.in-Memory.ensures.told
 
 pub returns-in-Whole-clause-dials : goal.returns-in-Whole-clause-dials
 returns-in-Whole-clause-dials g c = record { same = takes_port c.args.self.now c.take.new.self _ c.take.ensures; only = dials_received c.args.self.now.port _ _ _ c.receive.result c.receive.ensures.told }
@@ -69,5 +69,5 @@ returns-in-Failed-clause-dials g c =
     keeps_then _ _ _ _ _ _
     (record { same = fails_port c.args.self.now c.fail-in-Failed.new.self c.fail-in-Failed.ensures; only = dials_received c.args.self.now.port _ _ _ c.receive.result c.receive.ensures.told }) c.reconnect.ensures.dials
 
-pub returns-clause-dials : goal.returns-clause-dials
-returns-clause-dials g c = record { same = refl; only = dials_received c.args.self.now.port _ _ _ c.receive.result c.receive.ensures.told }
+pub returns-in-Memory-clause-dials : goal.returns-in-Memory-clause-dials
+returns-in-Memory-clause-dials g c = record { same = refl; only = dials_received c.args.self.now.port _ _ _ c.receive.result c.receive.ensures.told }

@@ -2,4 +2,4 @@ use Rattle.lane_session.proofs.Asking.{may-begin}
 use Rattle.lane_session.proofs.running.Session.machine.Goals as goal
 
 pub new-requires : goal.new-requires
-new-requires c = rw c.in_ok-own.ensures (may-begin c.args.op.now c.requires)
+new-requires c = may-begin c.args.op.now c.requires

@@ -6,7 +6,7 @@ use Rattle.lane_session.specs.Places.{lines_left}
 use Rattle.lane_session.specs.Streams.{Passes}
 use Rattle.lane_session.specs.Ports.{KeepsPort}
 use Rattle.lane_session.specs.Turns.{AddsMarks}
-use Rattle.lane_session.proofs.running.Session.step_one.Given as goal
+use Rattle.lane_session.proofs.running.Session.step_lanes.Given as goal
 
 abbrev pub invariant-loop-index : goal.invariant-loop-index
 invariant-loop-index g l = record {
