@@ -1,5 +1,3 @@
-use Rattle.std.proofs.Common.{None, subst, sym}
-use Rattle.client_core.specs.Lanes.{AnsweredFrom}
 use Rattle.client_core.proofs.Answered.{answered-from}
 use Rattle.client_core.proofs.work.Work.least_answered.Goals as goal
 

@@ -7,7 +7,7 @@ use Rattle.lane_session.proofs.Turns.{marks_none}
 use Rattle.lane_session.proofs.running.Session.step_from.Goals as goal
 
 pub returns-then-waits-clause-steps : goal.returns-then-waits-clause-steps
-returns-then-waits-clause-steps g c = record { core = refl; tries = record { attempts = refl; dropped = refl }; lines = omega arith; quiet = (rw c.if-waits.true at c.if-waits.ensures) c.args.script.now; others = λ n other. refl }
+returns-then-waits-clause-steps g c = record { core = refl; tries = record { attempts = refl; dropped = refl }; lines = omega arith; quiet = c.if-waits.ensures c.args.script.now; others = λ n other. refl }
 
 pub returns-then-waits-clause-goes : goal.returns-then-waits-clause-goes
 returns-then-waits-clause-goes g c = passes_same _ _ _ _ (λ h. goes-none c.args.label.now c.args.script.now c.args.self.now c.args.self.now h refl refl (core-same c.args.self.now h))

@@ -7,7 +7,7 @@ use Rattle.lane_session.proofs.Turns.{marks_none}
 use Rattle.lane_session.proofs.running.Session.step_one.Goals as goal
 
 pub returns-then-rests-clause-steps : goal.returns-then-rests-clause-steps
-returns-then-rests-clause-steps g c = record { core = refl; tries = record { attempts = refl; dropped = refl }; lines = omega arith; quiet = rw c.if-rests.true at c.if-rests.ensures }
+returns-then-rests-clause-steps g c = record { core = refl; tries = record { attempts = refl; dropped = refl }; lines = omega arith; quiet = c.if-rests.ensures }
 
 pub returns-then-rests-clause-goes : goal.returns-then-rests-clause-goes
 returns-then-rests-clause-goes g c = passes_same _ _ _ _ (λ h. goes-none c.args.label.now c.args.script.now c.args.self.now c.args.self.now h refl refl (core-same c.args.self.now h))
