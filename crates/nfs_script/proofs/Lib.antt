@@ -6,3 +6,4 @@ pub mod Shown
 pub mod ScriptRows
 pub mod LineRows
 pub mod Lanes
+pub mod Sole

@@ -93,6 +93,13 @@ write_of words = do
   bytes ← bytes_of w.2
   Ok (ops.Write slot offset bytes)
 
+-- a write of these bytes, of the words of its slot and its offset
+abbrev pub write_at : List ℕ → List ℕ → List ℕ → Result Op Cause
+write_at slot_word offset_word bytes = do
+  slot ← slot_of slot_word
+  offset ← offset_of offset_word
+  Ok (ops.Write slot offset bytes)
+
 unfoldable pub fill_of : List (List ℕ) → Result Op Cause
 fill_of words = do
   w ← wanted (four words)

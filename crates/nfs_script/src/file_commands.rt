@@ -3,14 +3,17 @@
 ghost use Rattle.std.specs.Prelude.{◌≡◌};
 ghost use Rattle.script_text.specs.Lines.{words};
 ghost use Rattle.nfs_script.specs.Faults.{Gives};
-ghost use Rattle.nfs_script.specs.Commands.{open_of, read_of, write_of, fill_of, sync_of, close_of, truncate_of};
+ghost use Rattle.nfs_script.specs.Commands.{open_of, read_of, write_of, write_at, fill_of, sync_of, close_of, truncate_of};
 
 use crate::fault::LineFault;
 use crate::words::{
-    bytes, fill_count, four, mode, named_path, offset, one, one_byte, read_count, slot, three, two,
+    bytes, fill_count, first_two, four, mode, named_path, offset, one, one_byte, read_count, slot,
+    three, two,
 };
+use script_text::payload;
 use std::alloc::Global;
 use world_model::Op;
+use xdr_codec::Blob;
 
 /// `open SLOT MODE PATH`
 #[tactic(auto, unfolding(crate::specs::Commands::open_of))]
@@ -41,8 +44,35 @@ pub(crate) fn read(line: &[u8]) -> Result<Op, LineFault>
 }
 
 /// `write SLOT OFF HEX`
-#[tactic(auto, unfolding(crate::specs::Commands::write_of))]
 pub(crate) fn write(alloc: Global, line: &[u8]) -> Result<Op, LineFault>
+    ensures { Gives (λ op. op) result (write_of (words line.now)) }
+{
+    let Some((slot_word, offset_word, rest)) = first_two(line) else {
+        return write_words(alloc, line);
+    };
+    // What is hex digits as a whole is one word: its end isn't looked for.
+    match payload(alloc, rest)? {
+        Some(bytes) => write_at(slot_word, offset_word, bytes),
+        None => write_words(alloc, line),
+    }
+}
+
+/// A write of these bytes.
+fn write_at(slot_word: &[u8], offset_word: &[u8], bytes: Blob) -> Result<Op, LineFault>
+    ensures { Gives (λ op. op) result (write_at slot_word.now offset_word.now bytes) }
+{
+    let slot = slot(slot_word)?;
+    let offset = offset(offset_word)?;
+    Ok(Op::Write {
+        slot,
+        offset,
+        bytes,
+    })
+}
+
+/// `write SLOT OFF HEX`, of any words.
+#[tactic(auto, unfolding(crate::specs::Commands::write_of))]
+fn write_words(alloc: Global, line: &[u8]) -> Result<Op, LineFault>
     ensures { Gives (λ op. op) result (write_of (words line.now)) }
 {
     let (slot_word, offset_word, bytes_word) = three(line)?;

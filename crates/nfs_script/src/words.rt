@@ -1,6 +1,6 @@
 //! Reads the words of a command.
 
-ghost use Rattle.std.specs.Prelude.{◌≡◌};
+ghost use Rattle.std.specs.Prelude.{◌≡◌, ◌∷◌, IfSome};
 ghost use Rattle.script_text.specs.Lines.{words, one, two, three, four};
 ghost use Rattle.nfs_script.specs.Faults.{Gives};
 ghost use Rattle.nfs_script.specs.Commands.{wanted, slot_of, offset_of, read_count_of, fill_count_of, bits_of, mode_of, any_path_of, named_path_of, link_target_of, bytes_of, one_byte_of};
@@ -40,6 +40,15 @@ pub(crate) fn first<'a>(cause: Cause, line: &'a [u8]) -> Result<(&'a [u8], &'a [
         Some(first) => Ok(first),
         None => Err(LineFault::Refused(cause)),
     }
+}
+
+/// The first two words and what follows them.
+pub(crate) fn first_two<'a>(line: &'a [u8]) -> Option<(&'a [u8], &'a [u8], &'a [u8])>
+    ensures { IfSome result (λ p. words line.entry.now ≡ p.0.now ∷ p.1.now ∷ words p.2.now) }
+{
+    let (first_word, rest) = next_word(line)?;
+    let (second_word, rest) = next_word(rest)?;
+    Some((first_word, second_word, rest))
 }
 
 /// The word of a command that has one.
