@@ -206,7 +206,7 @@ lines_bounds count before (line ∷ more) b h =
 -- ---- the whole script
 
 -- a text without a fault as a whole ends at the last line at most
-few_lines : (last count : ℕ) (more : List (List ℕ)) → lines_fault last count more ≡ None → count + length more ≤ last
+pub few_lines : (last count : ℕ) (more : List (List ℕ)) → lines_fault last count more ≡ None → count + length more ≤ last
 few_lines last count [] h = few (nat_lt last count) refl h
   where
     few : (b : Bool) → nat_lt last count ≡ b → (if b then Some (fault_at (last + 1) causes.ManyLines) else None) ≡ None → count + 0 ≤ last

@@ -1,5 +1,5 @@
 -- What a text says as a script.
-use Rattle.std.specs.Prelude.{◌≡◌, ◌+◌, ℕ, suc, min, ok_or, List, [], ◌∷◌, ◌++◌, length, nat_lt, Option, Some, None, Result, Ok, Err, if◌then◌else◌}
+use Rattle.std.specs.Prelude.{◌≡◌, ◌+◌, ℕ, true, suc, min, ok_or, List, [], ◌∷◌, ◌++◌, length, nat_lt, Option, Some, None, Result, Ok, Err, if◌then◌else◌}
 use Rattle.std.specs.Option.{option_map_or}
 use Rattle.std.specs.Str.{is_utf8}
 use Rattle.script_text.specs.Lines.{lines, words, is_skipped}
@@ -53,6 +53,10 @@ abbrev pub lines_fault : ℕ → ℕ → List (List ℕ) → Option ScriptFault
 lines_fault last count [] = if nat_lt last count then Some (fault_at (last + 1) causes.ManyLines) else None
 lines_fault last count (line ∷ more) = if is_utf8 line then lines_fault last (suc count) more else Some (fault_at (suc count) causes.Utf8)
 
+-- After so many lines, which asked for these, and then more lines: what all ask for, or their fault as text, or else the first faulty line.
+abbrev pub lines_by : ℕ → ℕ → List ScriptLine → List (List ℕ) → Result (List ScriptLine) ScriptFault
+lines_by last count before more = option_map_or (λ fault. Err fault) (lines_fault last count more) (after_lines count before more)
+
 -- the fault of a text as a whole, after so many lines
 abbrev pub text_fault : ℕ → ℕ → List ℕ → Option ScriptFault
 text_fault last before text = if nat_lt 1048576 (length text) then Some (fault_at 0 causes.Long) else lines_fault last before (lines text)
@@ -84,3 +88,20 @@ abbrev pub Takes : Result (List ScriptLine) ScriptFault → Result Unit ParseFau
 Takes read (Ok u) asked = read ≡ Ok asked
 Takes read (Err (faults.Script fault)) asked = read ≡ Err fault
 Takes read (Err faults.Memory) asked = Unit {0}
+
+-- the fault of a line, unless what follows it has one as text
+abbrev pub first_of_faults : ℕ → ℕ → List (List ℕ) → ParseFault → ParseFault
+first_of_faults last number rest fault = option_map_or (λ text_fault. faults.Script text_fault) (lines_fault last number rest) fault
+
+-- what came of lines as text is their fault
+abbrev pub AreText : Option ScriptFault → Result Unit ParseFault → Type 0
+AreText fault (Ok u) = fault ≡ None
+AreText fault (Err (faults.Script found)) = fault ≡ Some found
+AreText fault (Err faults.Memory) = ⊥
+
+-- What came of the line of that number, which lines follow: they are left, or this is what comes of all.
+abbrev pub GoesOn : ℕ → ℕ → List ScriptLine → List ℕ → List (List ℕ) → Result Unit ParseFault → List ScriptLine → Type 0
+GoesOn last number before line rest (Ok u) asked = (is_utf8 line ≡ true) × (after_line number before line ≡ Ok asked)
+GoesOn last number before line rest (Err (faults.Script fault)) asked =
+    (count : ℕ) → number ≡ suc count → lines_by last count before (line ∷ rest) ≡ Err fault
+GoesOn last number before line rest (Err faults.Memory) asked = Unit {0}

@@ -1,9 +1,9 @@
 //! Scripts: the operations that are asked for, each with its lane and its line.
 
-ghost use Rattle.std.specs.Prelude.{◌≡◌, ◌≤◌, ◌<◌, ◌+◌, ◌++◌, [], ◌∷◌, length, slice_get, All, IfNone, IfOk, OnOk};
+ghost use Rattle.std.specs.Prelude.{◌≡◌, ◌≤◌, ◌<◌, ◌+◌, ◌++◌, [], ◌∷◌, length, slice_get, All, IfOk, OnOk};
 ghost use Rattle.script_text.specs.Lines.{lines};
 ghost use Rattle.nfs_script.specs.Asked.{IsAskedLine};
-ghost use Rattle.nfs_script.specs.Script.{after_line, after_lines, last_line, lines_fault, script_by, script_from, script_of, text_fault, IsParsed, Takes};
+ghost use Rattle.nfs_script.specs.Script.{after_line, last_line, first_of_faults, lines_by, lines_fault, script_by, script_from, script_of, AreText, GoesOn, IsParsed, Takes};
 ghost use Rattle.nfs_script.specs.declared.script.ScriptLine.{ScriptLine};
 
 use crate::asked::asked;
@@ -94,6 +94,56 @@ impl Script {
         }
     }
 
+    /// Takes over the line of that number. The fault is that of the line or of what follows it as text, or else what is wrong with the line.
+    fn read_next(
+        &mut self,
+        alloc: Global,
+        last: u32,
+        number: u32,
+        line: &[u8],
+        rest: &[u8],
+    ) -> Result<(), ParseFault>
+        requires number { number ≤ 268435456 }
+        requires within { last ≤ 268435455 }
+        requires short { length rest.now ≤ 1048576 }
+        ensures { GoesOn last number self.old line.now (lines rest.now) result self.new }
+    {
+        if !is_utf8(line) {
+            return Err(ParseFault::Script(Cause::Utf8.at(number)));
+        }
+        match self.read_line(alloc, number, line) {
+            Ok(()) => Ok(()),
+            Err(fault) => Err(first_fault(last, number, rest, fault)),
+        }
+    }
+
+    /// Takes over the lines of a text, after so many lines. Those behind the last that there may be are only looked at as text.
+    fn read_to_end(
+        &mut self,
+        alloc: Global,
+        last: u32,
+        before: u32,
+        text: &[u8],
+    ) -> Result<(), ParseFault>
+        requires before { before ≤ 268435456 }
+        requires within { last ≤ 268435455 }
+        requires short { length text.now ≤ 1048576 }
+        ensures { Takes (lines_by last before self.old (lines text.now)) result self.new }
+    {
+        let mut rest = text;
+        let mut number = before;
+        while number < last && !rest.is_empty() {
+            let (line, after) = first_line(rest);
+            number += 1;
+            match self.read_next(alloc, last, number, line, after) {
+                Ok(()) => {}
+                Err(fault) => return Err(fault),
+            }
+            rest = after;
+        }
+        check_lines(last, number, rest)
+    }
+
     /// Takes over what a line asks for.
     fn add(&mut self, asked: ScriptLine) -> Result<(), Memory>
         ensures { OnOk result (self.new ≡ self.old ++ asked ∷ []) }
@@ -149,23 +199,10 @@ fn read_by(alloc: Global, last: u32, before: u32, text: &[u8]) -> Result<Script,
     ensures asked { IfOk result (All IsAskedLine) }
     ensures few { IfOk result (λ script. length script ≤ 16384) }
 {
-    if let Some(fault) = text_fault(last, before, text) {
-        return Err(ParseFault::Script(fault));
-    }
-    read_lines(alloc, before, text)
-}
-
-/// The fault of a text as a whole.
-fn text_fault(last: u32, before: u32, text: &[u8]) -> Option<ScriptFault>
-    requires before { before ≤ 268435456 }
-    requires within { last ≤ 268435455 }
-    ensures fault { result ≡ text_fault last before text.now }
-    ensures length { IfNone result (length text.now ≤ 1048576) }
-{
     if text.len() > MOST_BYTES {
-        return Some(Cause::Long.at(0));
+        return Err(ParseFault::Script(Cause::Long.at(0)));
     }
-    lines_fault(last, before, text)
+    read_lines(alloc, last, before, text)
 }
 
 /// The first line that isn't UTF-8, or else that there are too many.
@@ -191,23 +228,42 @@ fn lines_fault(last: u32, before: u32, text: &[u8]) -> Option<ScriptFault>
     None
 }
 
-/// What the lines ask for, after so many lines.
-fn read_lines(alloc: Global, before: u32, text: &[u8]) -> Result<Script, ParseFault>
+/// What the lines ask for, after so many lines, or their fault.
+fn read_lines(alloc: Global, last: u32, before: u32, text: &[u8]) -> Result<Script, ParseFault>
     requires before { before ≤ 268435456 }
+    requires within { last ≤ 268435455 }
     requires short { length text.now ≤ 1048576 }
-    ensures { IsParsed (after_lines before [] (lines text.now)) result }
+    ensures { IsParsed (lines_by last before [] (lines text.now)) result }
 {
     let mut script = Script::new(alloc);
-    let mut rest = text;
-    let mut number = before;
-    while !rest.is_empty() {
-        let (line, after) = first_line(rest);
-        number += 1;
-        match script.read_line(alloc, number, line) {
-            Ok(()) => {}
-            Err(fault) => return Err(fault),
-        }
-        rest = after;
+    match script.read_to_end(alloc, last, before, text) {
+        Ok(()) => Ok(script),
+        Err(fault) => Err(fault),
     }
-    Ok(script)
+}
+
+/// The fault that what follows a faulty line has as text, or else that of the line.
+fn first_fault(last: u32, number: u32, rest: &[u8], fault: ParseFault) -> ParseFault
+    requires before { number ≤ 268435456 }
+    requires within { last ≤ 268435455 }
+    requires short { length rest.now ≤ 1048576 }
+    ensures { result ≡ first_of_faults last number (lines rest.now) fault }
+{
+    match lines_fault(last, number, rest) {
+        Some(text_fault) => ParseFault::Script(text_fault),
+        None => fault,
+    }
+}
+
+/// Whether lines have a fault as text, after so many lines.
+fn check_lines(last: u32, before: u32, text: &[u8]) -> Result<(), ParseFault>
+    requires before { before ≤ 268435456 }
+    requires within { last ≤ 268435455 }
+    requires short { length text.now ≤ 1048576 }
+    ensures { AreText (lines_fault last before (lines text.now)) result }
+{
+    match lines_fault(last, before, text) {
+        Some(fault) => Err(ParseFault::Script(fault)),
+        None => Ok(()),
+    }
 }
