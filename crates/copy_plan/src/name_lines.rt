@@ -3,7 +3,7 @@
 ghost use Rattle.std.specs.Prelude.{◌≡◌, ◌≤◌, [], All, OnOk, length};
 ghost use Rattle.world_model.specs.declared.op.Op.TheVariants as ops;
 ghost use Rattle.nfs_script.specs.Asked.{IsAskedLine, IsNamed, IsPath, IsTarget};
-ghost use Rattle.copy_plan.specs.Lines.{asks};
+ghost use Rattle.copy_plan.specs.Lines.{IsNameLine, asks};
 
 use crate::lines::{Lines, PlanFault};
 use nfs_script::ScriptLine;
@@ -22,11 +22,14 @@ pub struct NameLines {
 }
 
 impl Model for NameLines {
-    ghost use Rattle.copy_plan.specs.Lines.{LinesView};
+    ghost use Rattle.std.specs.Prelude.{All};
+    ghost use Rattle.copy_plan.specs.Lines.{IsNameLine, LinesView};
 
     ghost Value = { LinesView };
 
     ghost view = { λ n. n.lines };
+
+    ghost invariant = { λ n. All IsNameLine n.lines.lines };
 }
 
 impl NameLines {
@@ -100,6 +103,7 @@ impl NameLines {
         ensures is { result.items ≡ self.old.lines }
         ensures asked { All IsAskedLine result.items }
         ensures few { length result.items ≤ 16384 }
+        ensures names { All IsNameLine result.items }
         ensures rest { self.new ≡ record { lines = []; next = self.old.next } }
     {
         self.lines.take(alloc)

@@ -235,6 +235,8 @@ impl<'a, R: Files> Tree for DiskTree<'a, R> {
 
     ghost given = { λ _. None };
 
+    ghost over = { λ _. Unit {0} };
+
     fn next(&mut self, alloc: Global) -> Result<Option<Item>, Memory> {
         self.file = None;
         if self.is_new {

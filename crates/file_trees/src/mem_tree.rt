@@ -97,6 +97,8 @@ impl Tree for MemTree {
 
     ghost given = { λ t. Some t };
 
+    ghost over = { λ t. Unit {0} };
+
     fn next(&mut self, alloc: Global) -> Result<Option<Item>, Memory> {
         let at = self.next_item();
         let Some(item) = self.item_at(alloc, at)? else {

@@ -1,6 +1,6 @@
 //! Where trees come from.
 
-ghost use Rattle.std.specs.Prelude.{List, Option, IfOk};
+ghost use Rattle.std.specs.Prelude.{◌≡◌, List, Option, None, Ok, IfOk};
 ghost use Rattle.file_trees.specs.Giving.{Gives, IsPiece, told_item, told_piece};
 ghost use Rattle.file_trees.specs.declared.tree.Given.{Given as GivenOf};
 
@@ -22,9 +22,13 @@ pub trait Tree {
     /// What it gave so far, where it tells.
     ghost given: { Self → Option (List GivenOf) };
 
+    /// That it is at its end: it was asked for the next path, and gave none.
+    ghost over: { Self → Type 0 };
+
     /// The next path and what stands there; none at the end. What is left of the file that was given last is passed over.
     fn next(&mut self, alloc: Global) -> Result<Option<Item>, Memory>
-        ensures told { Gives (given self.old) (given self.new) (told_item result) };
+        ensures told { Gives (given self.old) (given self.new) (told_item result) }
+        ensures over { result ≡ Ok None → over self.new };
 
     /// What comes next of the file that was given last.
     fn read(&mut self, alloc: Global) -> Result<Piece, Memory>

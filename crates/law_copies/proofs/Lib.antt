@@ -2,3 +2,4 @@ pub mod Marks
 pub mod Doing
 pub mod Places
 pub mod Lasting
+pub mod Finding

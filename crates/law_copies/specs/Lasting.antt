@@ -5,13 +5,16 @@ use Rattle.nfs_types.specs.declared.mode.Mode.TheVariants as modes
 use Rattle.world_model.specs.declared.answer.Answer.TheVariants as answers
 use Rattle.world_model.specs.declared.answer.Value.{Value}
 use Rattle.world_model.specs.declared.entry.Entry.{Entry}
+use Rattle.world_model.specs.declared.op.Op.{Op}
 use Rattle.world_model.specs.declared.op.Op.TheVariants as ops
 use Rattle.world_model.specs.History.{History}
 use Rattle.world_model.specs.Mounts.{Origin}
 use Rattle.world_model.specs.Operations.{Ended}
 use Rattle.claims.specs.Modes.{Modes}
+use Rattle.claims.specs.OkRows.{OkRow}
 use Rattle.claims.specs.Settled.{HoldsStable, Settled}
 use Rattle.claims.specs.Slots.{Opens}
+use Rattle.claims.specs.Terms.{Terms}
 use Rattle.claims.specs.Touched.{Touched}
 use Rattle.law_copies.specs.Copied.{Copied}
 
@@ -43,3 +46,8 @@ pub record CopyStays (m : Modes) (origin : Origin) (t : History) (path : List (L
 abbrev pub CopiesStay : Type 0
 CopiesStay = (m : Modes) (origin : Origin) (t : History) → OpensFind m t.entries → Settled m origin t → (path : List (List ℕ)) (bytes : List ℕ)
     → Copied t.entries path bytes → CopyStays m origin t path bytes
+
+-- The law. If each operation that succeeded has its row, each open that succeeded is of a file.
+abbrev pub RowsFind : Type 0
+RowsFind = (terms : Terms) (h : List Entry)
+    → ((lane x y : ℕ) (op : Op) (value : Value) → Ended h lane x op y (answers.Done value) → OkRow terms h lane x y op value) → OpensFind terms.modes h

@@ -3,7 +3,7 @@
 #![tactic(auto)]
 
 ghost use Rattle.law_copies.specs.Copied.{AskedAreCopied};
-ghost use Rattle.law_copies.specs.Lasting.{CopiesStay};
+ghost use Rattle.law_copies.specs.Lasting.{CopiesStay, RowsFind};
 
 /// A file is copied if a lane of the script was asked for the operations that copy it, each line of the script has its answer, and none of that lane is refused.
 pub fn copies_are_done()
@@ -14,4 +14,10 @@ pub fn copies_are_done()
 /// written (RFC 1813, sections 3.3.21 and 4.8).
 pub fn copies_stay()
     ensures { CopiesStay }
+{}
+
+/// Each open that succeeded is of a file: of the one whose attributes it asked for last, or that its LOOKUP or CREATE gave (RFC 1813, sections 3.3.1, 3.3.3 and
+/// 3.3.8).
+pub fn opens_find()
+    ensures { RowsFind }
 {}

@@ -6,6 +6,7 @@
 
 mod again;
 mod datagram;
+mod error_output;
 mod flight;
 mod listener;
 mod output;
@@ -18,6 +19,7 @@ mod tcp;
 mod udp;
 
 pub use again::{read_again, write_again};
+pub use error_output::StandardError;
 pub use listener::LoopbackListener;
 pub use output::StandardOutput;
 pub use source::{ReaderSource, StandardInput, file_source};
