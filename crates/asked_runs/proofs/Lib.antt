@@ -1,0 +1,10 @@
+pub mod Cuts
+pub mod InSteps
+pub mod Opens
+pub mod Over
+pub mod Parts
+pub mod Scripts
+pub mod Showing
+pub mod Steps
+pub mod Tops
+pub mod UpTo

@@ -1,0 +1,5 @@
+use Rattle.run_asked.proofs.Promising.{with-promised}
+use Rattle.run_asked.proofs.top.run_with.Goals as goal
+
+pub returns-clause-headline : goal.returns-clause-headline
+returns-clause-headline g c = with-promised _ _ _ _ _ _ _ c.run_with.ensures.runs
