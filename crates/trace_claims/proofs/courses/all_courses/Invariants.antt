@@ -1,0 +1,10 @@
+-- So far all operations are listed.
+use Rattle.std.proofs.Common.{length, ◌-◌, ◌≤◌}
+use Rattle.trace_claims.specs.Courses.{HasCourses}
+use Rattle.trace_claims.proofs.courses.all_courses.Given as goal
+
+abbrev pub invariant-loop-place : goal.invariant-loop-place
+invariant-loop-place l = record { within : l.place ≤ length l.entries; has : HasCourses l.entries l.place l.all.items }
+
+abbrev pub decreases-loop-place : goal.decreases-loop-place
+decreases-loop-place l = length l.entries - l.place
