@@ -29,6 +29,7 @@ pub mod Outdating
 pub mod Owning
 pub mod Pathing
 pub mod Placing
+pub mod Reaching
 pub mod ReadFrame
 pub mod Recalling
 pub mod Reciting

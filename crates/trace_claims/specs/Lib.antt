@@ -26,3 +26,4 @@ pub mod Settling
 pub mod Slotted
 pub mod Staying
 pub mod Touching
+pub mod Reaching

@@ -1,15 +1,16 @@
 //! Whether bytes are shown as an operation left them, or may have been changed.
 
-ghost use Rattle.std.specs.Prelude.{◌≡◌, ◌<◌};
-ghost use Rattle.trace_claims.specs.Places.{all_places, KeepsUntil};
+ghost use Rattle.std.specs.Prelude.{◌≡◌, ◌<◌, true};
+ghost use Rattle.trace_claims.specs.Places.{all_places, HoldsUntil, KeepsUntil};
 ghost use Rattle.trace_claims.specs.Pieces.{IsPiece};
 ghost use Rattle.trace_claims.specs.Keeping.{is_touched, is_kept};
+ghost use Rattle.trace_claims.specs.Reaching.{range_end, reach_end};
 
 use crate::bytes::shows;
 use crate::courses::Course;
 use crate::digest::Digest;
 use crate::pieces::piece_end;
-use crate::touched::{is_foreign, is_given_up, is_rewritten};
+use crate::touched::{Reach, changer, is_foreign, is_given_up, is_rewritten, rewriter};
 use nfs_types::Handle;
 use world_model::Entry;
 
@@ -109,9 +110,53 @@ fn kept_until(
         return Some(at + 1);
     }
     if is_touched(digest, written, question, at) {
-        return Some(next_piece(digest, at, span.to));
+        return Some(touched_until(digest, written, question, at, span.to));
     }
     None
+}
+
+/// Up to which place all may have been changed, at most so far, if a place may have been: as far as that reaches by which it may
+/// have been, or to the end of its piece.
+fn touched_until(
+    digest: &Digest,
+    written: &Course,
+    question: &Question,
+    at: u128,
+    most: u128,
+) -> u128
+    requires { at < most }
+    ensures { is_touched digest.now written.now question.now at ≡ true → HoldsUntil (is_touched digest.now written.now question.now) at most result }
+{
+    let operations = digest.operations.as_slice();
+    let foreign = digest.foreign.as_slice();
+    let (moment, file) = (question.moment, &question.file);
+    match rewriter(operations, question.length, written, moment, file, at) {
+        Some(other) => range_end(operations[other].course.range(), most),
+        None => match changer(foreign, written.place, moment, file, at) {
+            Some(change) => reach_end(foreign[change].reach, most),
+            None => next_piece(digest, at, most),
+        },
+    }
+}
+
+/// The end of the places that an operation writes, or so far where it writes none.
+fn range_end(range: Option<(u128, u128)>, most: u128) -> u128
+    ensures { result ≡ range_end range most }
+{
+    match range {
+        Some((_, to)) => to.min(most),
+        None => most,
+    }
+}
+
+/// The end of what another client changed, at most so far.
+fn reach_end(reach: Reach, most: u128) -> u128
+    ensures { result ≡ reach_end reach most }
+{
+    match reach {
+        Reach::Range { to, .. } => to.min(most),
+        Reach::Past { .. } => most,
+    }
 }
 
 /// Where the piece ends that begins at a place, at most so far.

@@ -1,7 +1,7 @@
 //! What may have changed a byte that was written.
 
-ghost use Rattle.std.specs.Prelude.{◌≡◌};
-ghost use Rattle.trace_claims.specs.Touching.{changes, is_foreign, is_rewritten, is_given_up, is_stable_since, no_put};
+ghost use Rattle.std.specs.Prelude.{◌≡◌, position};
+ghost use Rattle.trace_claims.specs.Touching.{changes, touches, is_foreign, rewrites, is_rewritten, is_given_up, is_stable_since, no_put};
 
 use crate::courses::Course;
 use crate::operations::Operation;
@@ -78,6 +78,43 @@ pub(crate) fn is_rewritten(
     ensures { result ≡ is_rewritten operations.now length written.now moment file.now place }
 {
     operations.iter().any(|other| {
+        other.course.place != written.place
+            && other.course.place < moment
+            && !other.course.ended_before(written.place)
+            && other.writes_or_cuts(length, file, place)
+    })
+}
+
+/// The first change by another client of a place of the file, after an entry and before a moment.
+pub(crate) fn changer(
+    foreign: &[Foreign],
+    after: usize,
+    moment: usize,
+    file: &Handle,
+    place: u128,
+) -> Option<usize>
+    ensures { result ≡ position (touches after moment file.now place) foreign.now }
+{
+    foreign.iter().position(|change| {
+        after < change.place
+            && change.place < moment
+            && change.file == *file
+            && change.changes(place)
+    })
+}
+
+/// The first operation that, in a beginning of so many entries, wrote the place or cut it off and wasn't answered before another one.
+pub(crate) fn rewriter(
+    operations: &[Operation],
+    length: usize,
+    written: &Course,
+    moment: usize,
+    file: &Handle,
+    place: u128,
+) -> Option<usize>
+    ensures { result ≡ position (rewrites length written.now moment file.now place) operations.now }
+{
+    operations.iter().position(|other| {
         other.course.place != written.place
             && other.course.place < moment
             && !other.course.ended_before(written.place)

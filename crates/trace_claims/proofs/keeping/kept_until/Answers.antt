@@ -3,7 +3,8 @@ use Rattle.std.proofs.lemmas.Bool.{or_left, or_from}
 use Rattle.std.proofs.Common.{true, false, sym, ◌∙◌}
 use Rattle.trace_claims.specs.Bytes.{shows}
 use Rattle.trace_claims.specs.Keeping.{is_touched, is_kept}
-use Rattle.trace_claims.proofs.Kept.{until-next, until-piece}
+use Rattle.trace_claims.proofs.Kept.{until-next}
+use Rattle.trace_claims.proofs.Reaching.{until-kept}
 use Rattle.trace_claims.proofs.keeping.kept_until.Goals as goal
 
 pub returns-then-shows : goal.returns-then-shows
@@ -14,8 +15,8 @@ returns-then-shows c =
 
 pub returns-then-is_touched : goal.returns-then-is_touched
 returns-then-is_touched c =
-    until-piece c.args.entries.now c.args.digest.now c.args.written.now c.args.question.now c.args.now.now c.args.stable.now c.args.span.offset c.args.at c.args.span.to c.next_piece.result c.next_piece.ensures
-    (sym c.is_touched.ensures ∙ c.if-is_touched.true)
+    until-kept c.args.entries.now c.args.digest.now c.args.written.now c.args.question.now c.args.now.now c.args.stable.now c.args.span.offset c.args.at c.args.span.to c.touched_until.result
+    (c.touched_until.ensures (sym c.is_touched.ensures ∙ c.if-is_touched.true))
 
 pub returns : goal.returns
 returns c =
