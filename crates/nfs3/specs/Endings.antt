@@ -57,5 +57,6 @@ message_of status =
     else if status == 6 then Some (codes "link lost")
     else if status == 7 then Some (codes "want of memory")
     else if status == 8 then Some (codes "mount refused")
+    else if status == 9 then Some (codes "trace")
     else if status == 10 then Some (codes "no port")
     else None

@@ -88,6 +88,7 @@ pub fn message(status: u8) -> Option<&'static str>
         6 => Some("link lost"),
         7 => Some("want of memory"),
         8 => Some("mount refused"),
+        9 => Some("trace"),
         10 => Some("no port"),
         _ => None,
     }

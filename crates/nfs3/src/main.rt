@@ -1,12 +1,14 @@
 //! A user-space client of NFS version 3. `nfs3 run HOST WORDS` runs the script on standard input with the server at HOST over
-//! TCP, `nfs3 run --udp HOST WORDS` over UDP, and `nfs3 run --fsc FILE HOST WORDS` over TCP with pages that are kept in FILE. With
-//! `--batches` before the host it runs batch after batch. `nfs3 replay SCHEDULE WORDS` runs over a simulated server, which the file
-//! SCHEDULE describes, with `--batches` before it batch after batch, and `nfs3 trace SCHEDULE WORDS` prints the history of such a
-//! run. `nfs3 make N WORDS` runs a script that is made over such a server without a file. `nfs3 pair SCHEDULE SCRIPT` runs two
-//! scripts as two clients of a simulated server. `nfs3 export PORT CALLS`, with or without a SCHEDULE, serves a test export, over
-//! UDP with `--udp` before the port. `nfs3 fsc-make FILE` makes a file of kept pages.
+//! TCP, `nfs3 run --udp HOST WORDS` over UDP, and `nfs3 run --fsc FILE HOST WORDS` over TCP with pages that are kept in FILE.
+//! With `--batches` before the host it runs batch after batch. `nfs3 replay SCHEDULE WORDS` runs over a simulated server, which
+//! the file SCHEDULE describes, with `--batches` before it batch after batch, and `nfs3 trace SCHEDULE WORDS` prints the
+//! history of such a run. `nfs3 check TRACE` judges a history that is given. `nfs3 make N WORDS` runs a script that is made
+//! over such a server without a file. `nfs3 pair SCHEDULE SCRIPT` runs two scripts as two clients of a simulated server. `nfs3
+//! export PORT CALLS`, with or without a SCHEDULE, serves a test export, over UDP with `--udp` before the port. `nfs3 fsc-make
+//! FILE` makes a file of kept pages.
 #![tactic(auto)]
 
+mod check;
 mod connections;
 mod ending;
 mod export;
@@ -82,6 +84,7 @@ fn command(rt: &HostRuntime, mut words: Vec<String>) -> Ending {
         }
         [name, fsc, ..] if name.as_str() == "run" && fsc.as_str() == "--fsc" => Ending::Usage,
         [name, _, ..] if name.as_str() == "run" => run_command(rt, words),
+        [name, path] if name.as_str() == "check" => check::check(rt, path.as_str()),
         [name, words @ ..] if name.as_str() == "export" => export::export(rt, words),
         [name, words @ ..] if name.as_str() == "fsc-make" => page_file::make(rt, words),
         _ => Ending::Usage,
