@@ -1,10 +1,10 @@
 #!/usr/bin/env bash
-# Takes the time in which a tree of 3,295 files and 290 MiB is copied to one nfs-ganesha on this machine whose files lie in memory, and back: by
-# examples/backup.py and restore.py, which is one session of `nfs3 run --batches`; and, to compare, by `cp -a` into the server's folder. A line for each
-# row has the medians of three runs, or of as many as RUNS says, and their ratio. Each copy is compared with what it is a copy of. The row memory says
-# what the program holds after a batch of 900 KiB, and after a thousand more. Run it as root on Debian 12: it installs what is missing. The program is
-# the one that bin/nfs3 --prove built, or the one that NFS3 names. The words are the rows that are wanted, of python and memory; without words all are.
-# The status is 0 where all work was done.
+# Takes the time in which a tree of 3,295 files and 290 MiB, and a file of 2 GiB, are copied to one nfs-ganesha on this machine whose files lie in
+# memory, and back: by examples/backup.py and restore.py, which is one session of `nfs3 run --batches`; by `nfs3 copy`; and, to compare, by `cp -a`
+# into the server's folder and by libnfs's nfs-cp. A line for each row has the medians of three runs, or of as many as RUNS says, and their ratio. Each
+# copy is compared with what it is a copy of. Run it as root on Debian 12: it installs what is missing. The program is the one that bin/nfs3 --prove
+# built, or the one that NFS3 names. The words are the rows that are wanted, of python, copy, large and memory; without words all are. The status is 0
+# where all work was done.
 set -u
 
 here=$(dirname -- "$(readlink -f -- "${BASH_SOURCE[0]}")")
@@ -15,15 +15,13 @@ work=$(mktemp -d -p /dev/shm nfs3-trees.XXXXXX)
 chmod 755 "$work"
 mkdir "$work/served"
 
-# Memory is kept as bin/nfs3 keeps it.
-. "$here/../../bin/heap.sh"
 . "$here/../lib.sh"
 . "$here/../ganesha.sh"
 at=(127.0.0.1 /srv --uid 0 --gid 0 --mount-port "$mount_port" --nfs-port "$nfs_port")
 
 prepare() {
     [ -x "$NFS3" ] || stop "$NFS3 isn't built: bin/nfs3 --prove builds it"
-    have ganesha.nfsd rpcbind rpcinfo nfs-ls python3 || install nfs-ganesha nfs-ganesha-vfs rpcbind libnfs-utils python3
+    have ganesha.nfsd rpcbind rpcinfo nfs-cp python3 || install nfs-ganesha nfs-ganesha-vfs rpcbind libnfs-utils python3
     start_all
     python3 "$here/make_tree.py" "$work/tree" || stop 'the tree is not made'
 }
@@ -75,6 +73,35 @@ python_down() {
     "$examples/restore.py" "$1" "$2" "${at[@]}"
 }
 
+# With memory kept as bin/nfs3 keeps it.
+copy() (
+    . "$here/../../bin/heap.sh"
+    exec "$NFS3" copy 127.0.0.1 /srv "$1" "$2" "${at[@]:2}"
+)
+
+copy_up() {
+    copy "$1" ":$2"
+}
+
+copy_down() {
+    copy ":$1" "$2"
+}
+
+compare_large_files() {
+    local run
+    head -c 2147483648 /dev/urandom >"$work/large"
+    rm -f -- "$work"/times_*
+    for run in $(seq "$runs"); do
+        take_time copy copy "$work/large" :/large
+        cmp "$work/large" "$work/served/large" || stop 'a copy of a large file differs'
+        rm -f -- "$work/served/large"
+        take_time nfs_cp nfs-cp "$work/large" "$(server_url /other)"
+        rm -f -- "$work/served/other"
+    done
+    rm -f -- "$work/large"
+    tell '2 GiB to the server by nfs3 copy' copy nfs-cp nfs_cp
+}
+
 # What the program holds after one batch of some 900 KiB, and after a thousand.
 compare_memory() {
     python3 - "$examples" "${at[@]}" <<'END'
@@ -101,13 +128,15 @@ END
 row() {
     case $1 in
         python) compare_trees 'the Python class' python_up python_down ;;
+        copy) compare_trees 'nfs3 copy' copy_up copy_down ;;
+        large) compare_large_files ;;
         memory) compare_memory ;;
         *) stop "there is no row $1" ;;
     esac
 }
 
 main() {
-    local it rows=(python memory)
+    local it rows=(python copy large memory)
     [ $# -gt 0 ] && rows=("$@")
     trap end_all EXIT
     prepare

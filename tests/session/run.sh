@@ -425,7 +425,7 @@ try_refusals
 try_made_scripts
 try_page_files
 try_kept_pages
-for part in launcher examples batches callers; do
+for part in launcher examples batches callers copy; do
     "$here/$part.sh"
     count $? "$part.sh"
 done

@@ -4,12 +4,13 @@
 //! the file SCHEDULE describes, with `--batches` before it batch after batch, and `nfs3 trace SCHEDULE WORDS` prints the
 //! history of such a run. `nfs3 check TRACE` judges a history that is given. `nfs3 make N WORDS` runs a script that is made
 //! over such a server without a file. `nfs3 pair SCHEDULE SCRIPT` runs two scripts as two clients of a simulated server. `nfs3
-//! export PORT CALLS`, with or without a SCHEDULE, serves a test export, over UDP with `--udp` before the port. `nfs3 fsc-make
-//! FILE` makes a file of kept pages.
+//! copy HOST EXPORT FROM :TO` copies a file or a folder to a server. `nfs3 export PORT CALLS`, with or without a SCHEDULE,
+//! serves a test export, over UDP with `--udp` before the port. `nfs3 fsc-make FILE` makes a file of kept pages.
 #![tactic(auto)]
 
 mod check;
 mod connections;
+mod copy;
 mod ending;
 mod export;
 mod kept;
@@ -23,6 +24,7 @@ mod schedule_file;
 mod trace;
 
 use crate::ending::{Ending, closed, message};
+use copy_scripts::Progress;
 use net_edge::StandIns;
 use std::alloc::AllocError;
 use std::env;
@@ -84,6 +86,7 @@ fn command(rt: &HostRuntime, mut words: Vec<String>) -> Ending {
         }
         [name, fsc, ..] if name.as_str() == "run" && fsc.as_str() == "--fsc" => Ending::Usage,
         [name, _, ..] if name.as_str() == "run" => run_command(rt, words),
+        [name, _, ..] if name.as_str() == "copy" => copy_command(rt, words),
         [name, path] if name.as_str() == "check" => check::check(rt, path.as_str()),
         [name, words @ ..] if name.as_str() == "export" => export::export(rt, words),
         [name, words @ ..] if name.as_str() == "fsc-make" => page_file::make(rt, words),
@@ -106,6 +109,20 @@ fn run_command(rt: &HostRuntime, mut words: Vec<String>) -> Ending {
         (false, true) => run::run_batches(rt, host.as_str(), words.as_slice()),
         (true, true) => run::run_batches_over_udp(rt, host.as_str(), words.as_slice()),
     }
+}
+
+/// Copies between this machine and a server. `--progress` may stand behind the first word.
+fn copy_command(rt: &HostRuntime, mut words: Vec<String>) -> Ending {
+    let progress = if take_word(&mut words, "--progress") {
+        Progress::Shown
+    } else {
+        Progress::Hidden
+    };
+    if words.len() < 2 {
+        return Ending::Usage;
+    }
+    let host = words.remove(1);
+    copy::copy_over_tcp(rt, host.as_str(), progress, words)
 }
 
 /// Takes the second word away where it is this one and another one follows: whether it was.

@@ -1,0 +1,5 @@
+pub mod Marks
+pub mod Fronts
+pub mod Parts
+pub mod Copies
+pub mod Whole

@@ -1,0 +1,50 @@
+//! A copy as what asks for the scripts of a session.
+
+use asked_runs::{Asker, Stop};
+use copy_scripts::{Teller, Upload};
+use file_trees::Tree;
+use nfs_script::{Script, mount_line};
+use outside::{Clock, Sink};
+use std::alloc::Global;
+use world_model::Fault;
+use xdr_codec::Writer;
+
+/// A copy that is under way: its scripts, the tree that they are made of, and where it is told what wasn't copied.
+#[derive(Drop)]
+pub(crate) struct Copying<'a, T: Tree, K: Sink, C: Clock> {
+    pub(crate) upload: Upload,
+    pub(crate) tree: &'a mut T,
+    pub(crate) teller: Teller<'a, K, C>,
+}
+
+impl<T: Tree, K: Sink, C: Clock> Asker for Copying<'_, T, K, C> {
+    ghost use Rattle.std.specs.Prelude.{◌≡◌, false};
+    ghost use Rattle.std.proofs.Common.{refl};
+    ghost use Rattle.nfs_copy.specs.Calls.{AskedSo};
+
+    ghost asks = { λ x rounds y. AskedSo T.given T.over rounds x.upload x.tree.now y.upload y.tree.now };
+
+    ghost stays = { λ x y. y.tree.ghost_name ≡ x.tree.ghost_name };
+
+    ghost well = { λ x. x.upload.wrong ≡ false };
+
+    fn next(&mut self, alloc: Global, answers: &[u8], status: u8) -> Result<Option<Script>, Stop> {
+        let next = self
+            .upload
+            .next(alloc, self.tree, &mut self.teller, answers, status)?;
+        Ok(next)
+    }
+
+    fn refuse(&mut self, alloc: Global, fault: Fault) -> Result<(), Stop> {
+        let mut text = Writer::new(alloc);
+        mount_line(&mut text, fault)?;
+        self.teller.say(text.finish().bytes());
+        Ok(())
+    }
+
+    ghost none = { λ x. (refl, refl) };
+
+    fn status(&self) -> u8 {
+        if self.upload.is_wrong() { 1 } else { 0 }
+    }
+}

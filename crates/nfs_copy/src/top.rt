@@ -1,0 +1,111 @@
+//! The top call, and what it promises.
+
+ghost use Rattle.std.specs.Prelude.{◌≡◌, ◌≤◌, ◌<◌, ◌^◌, [], Some, map};
+ghost use Rattle.std.specs.String.{string_bytes};
+ghost use Rattle.world_model.specs.Told.{Relates};
+ghost use Rattle.session_setup.specs.Outcomes.{IsOptions};
+ghost use Rattle.script_runs.specs.Run.{IsXidOption};
+ghost use Rattle.copy_scripts.specs.Uploads.{at_start};
+ghost use Rattle.nfs_copy.specs.Promises.{Copies, CopiesBy, IfTold};
+
+use crate::copying::Copying;
+use copy_scripts::{Progress, Teller, Upload};
+use file_trees::Tree;
+use outside::{Clock, Link, Sink};
+use run_asked::run_with;
+use session_words::{Settings, WordsFault, read_words};
+use std::alloc::Global;
+use world_model::Path;
+
+/// The words are refused.
+const WORDS_REFUSED: u8 = 2;
+/// Memory ran out outside an operation.
+const NO_MEMORY: u8 = 7;
+
+/// Copies a tree to a path of a server: folders are made if they aren't there, files are written over, and nothing is removed. Modes, owners and times aren't
+/// copied. What isn't copied is told, in a line for each object, and the rest goes on. The words are those of a session; the watch is read for progress.
+///
+/// It answers 0 if all was copied; 1 if something wasn't; 2 if the words are refused; 6 if the session is lost; 7 for lack of memory; and 8 if the mount is
+/// refused.
+pub fn run<T: Tree, L: Link, C: Clock, K: Sink, W: Clock>(
+    alloc: Global,
+    words: &[String],
+    tree: &mut T,
+    to: Path,
+    progress: Progress,
+    link: &mut L,
+    clock: &mut C,
+    out: &mut K,
+    watch: &mut W,
+) -> u8
+    ensures statuses { result ≤ 8 }
+    ensures stays { (first : L) → L.stays first link.old → L.stays first link.new }
+    ensures honest { L.honest link.old → L.honest link.new }
+
+    // At 0 the tree is at its end, and all that it gave was copied: `Copies` of specs/Promises.
+    ensures copied { result ≡ 0 → T.given tree.old ≡ Some [] → IfTold (T.given tree.new) (λ given.
+        Relates (L.told link.old) (L.told link.new) (λ before h. before ≡ [] →
+        T.over tree.new × CopiesBy (map string_bytes words.now) to given h)) }
+{
+    match read_words(alloc, words) {
+        Ok(settings) => copy(
+            alloc, &settings, tree, to, progress, link, clock, out, watch,
+        ),
+        Err(WordsFault::Refused) => WORDS_REFUSED,
+        Err(WordsFault::Memory) => NO_MEMORY,
+    }
+}
+
+/// Copies as `run` does, by settings that are known.
+pub fn copy<T: Tree, L: Link, C: Clock, K: Sink, W: Clock>(
+    alloc: Global,
+    settings: &Settings,
+    tree: &mut T,
+    to: Path,
+    progress: Progress,
+    link: &mut L,
+    clock: &mut C,
+    out: &mut K,
+    watch: &mut W,
+) -> u8
+    requires options { IsOptions settings.now }
+    requires most { settings.now.calls < 2 ^ 31 }
+    requires xid { IsXidOption settings.now.xid }
+    ensures statuses { result ≤ 8 }
+    ensures stays { (first : L) → L.stays first link.old → L.stays first link.new }
+    ensures honest { L.honest link.old → L.honest link.new }
+
+    // At 0 the tree is at its end, and all that it gave was copied: `Copies` of specs/Promises.
+    ensures copied { result ≡ 0 → T.given tree.old ≡ Some [] → IfTold (T.given tree.new) (λ given.
+        Relates (L.told link.old) (L.told link.new) (λ before h. before ≡ [] → T.over tree.new × Copies settings.now to given h)) }
+{
+    let mut copying = Copying {
+        upload: Upload::new(alloc, to),
+        tree,
+        teller: Teller::new(alloc, out, watch, progress),
+    };
+    copy_lent(alloc, settings, &mut copying, link, clock)
+}
+
+/// The same of a copy that is at its start.
+fn copy_lent<T: Tree, L: Link, C: Clock, K: Sink, W: Clock>(
+    alloc: Global,
+    settings: &Settings,
+    copying: &mut Copying<'_, T, K, W>,
+    link: &mut L,
+    clock: &mut C,
+) -> u8
+    requires options { IsOptions settings.now }
+    requires most { settings.now.calls < 2 ^ 31 }
+    requires xid { IsXidOption settings.now.xid }
+    requires start { copying.old.upload ≡ at_start copying.old.upload.to }
+    ensures statuses { result ≤ 8 }
+    ensures same_reference { copying.new.tree.ghost_name ≡ copying.old.tree.ghost_name }
+    ensures stays { (first : L) → L.stays first link.old → L.stays first link.new }
+    ensures honest { L.honest link.old → L.honest link.new }
+    ensures copied { result ≡ 0 → T.given copying.old.tree.now ≡ Some [] → IfTold (T.given copying.new.tree.now) (λ given.
+        Relates (L.told link.old) (L.told link.new) (λ before h. before ≡ [] →
+        T.over copying.new.tree.now × Copies settings.now copying.old.upload.to given h)) }
+{
+    run_with(alloc, settings, copying, link, clock)
+}
