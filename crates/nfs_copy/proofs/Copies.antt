@@ -1,6 +1,5 @@
 -- Each file that came whole was copied.
-use Rattle.std.proofs.Common.{◌≡◌, ◌≢◌, ◌⊎◌, inl, inr, ℕ, zero, suc, List, [], ◌∷◌, ◌++◌, refl, sym, ap, subst, ◌∙◌, append_assoc, append-nil, arith}
-use Rattle.std.specs.List.{All, Contains}
+use Rattle.std.proofs.Common.{◌≡◌, ◌≢◌, ◌⊎◌, inl, inr, ℕ, zero, suc, List, [], ◌∷◌, ◌++◌, sym, ap, subst, ◌∙◌, append_assoc, append-nil, arith}
 use Rattle.std.proofs.lemmas.List.Elements.{All-contains}
 use Rattle.world_model.specs.declared.answer.Answer.{Answer}
 use Rattle.world_model.specs.declared.answer.Answer.TheVariants as answers
@@ -11,13 +10,13 @@ use Rattle.world_model.specs.Entries.{At}
 use Rattle.world_model.specs.Follows.{Alternates, Finishes, Follows, begun, marks_of}
 use Rattle.nfs_script.specs.declared.script.ScriptLine.{ScriptLine}
 use Rattle.file_trees.specs.declared.tree.Given.{Given}
-use Rattle.file_trees.specs.Files.{File, files_in}
+use Rattle.file_trees.specs.Files.{files_in}
 use Rattle.copy_plan.specs.Trees.{IsAskedFor, no_files, plan_of}
 use Rattle.copy_plan.proofs.Trees.{files-are-asked}
 use Rattle.law_copies.specs.Copied.{AsksForCopy, NoneRefused}
 use Rattle.law_copies.proofs.Doing.{asked-are-copied}
 use Rattle.lane_session.specs.Endings.{entries_of}
-use Rattle.lane_session.specs.Statuses.{HasStatus, IsAnswered, lost, refused, well}
+use Rattle.lane_session.specs.Statuses.{HasStatus, lost, refused, well}
 use Rattle.asked_runs.specs.Runs.{ArePartsFrom, Part, entries_in, lines_in}
 use Rattle.nfs_copy.specs.Promises.{AllCopied}
 use Rattle.nfs_copy.proofs.Marks.{AllAnswered, begun-append, none-answered, same-rest}

@@ -1,15 +1,13 @@
 -- What a copy promises once its session ended with 0.
-use Rattle.std.proofs.Common.{◌≡◌, ◌≢◌, ◌≤◌, inl, inr, ℕ, zero, false, List, [], ◌∷◌, ◌++◌, map, Option, Some, None, Ok, refl, sym, ap, subst, ◌∙◌, append-nil, arith}
-use Rattle.std.specs.List.{All, Contains}
+use Rattle.std.proofs.Common.{◌≡◌, inl, inr, ℕ, false, List, [], ◌∷◌, ◌++◌, map, Option, Some, None, Ok, refl, sym, ap, subst, ◌∙◌, append-nil, arith}
+use Rattle.std.specs.List.{All}
 use Rattle.std.proofs.lemmas.List.Elements.{All-cons, All-contains, All-nil}
 use Rattle.world_model.specs.declared.answer.Answer.TheVariants as answers
 use Rattle.world_model.specs.declared.answer.Value.{Value}
 use Rattle.world_model.specs.declared.entry.Entry.{Entry}
 use Rattle.world_model.specs.declared.op.Op.{Op}
-use Rattle.world_model.specs.Follows.{Finishes, Follows, begun, none as no_marks}
+use Rattle.world_model.specs.Follows.{Follows, begun, none as no_marks}
 use Rattle.world_model.specs.History.{History}
-use Rattle.world_model.specs.Lawful.{Lawful}
-use Rattle.world_model.specs.Once.{Once}
 use Rattle.world_model.specs.Operations.{Ended}
 use Rattle.world_model.specs.Told.{Relates}
 use Rattle.claims.specs.OkRows.{OkRow}
@@ -29,7 +27,6 @@ use Rattle.session_setup.specs.Origins.{modes_of, origin_of, terms_by}
 use Rattle.session_setup.specs.Outcomes.{SetsUp}
 use Rattle.session_setup.specs.Sendings.{IsUnmarked}
 use Rattle.lane_session.specs.Endings.{cut, entries_of}
-use Rattle.script_runs.specs.Readings.{Reads}
 use Rattle.script_runs.specs.Run.{IsCutOff}
 use Rattle.script_runs.proofs.LaneRuns.{fresh}
 use Rattle.asked_runs.specs.Asking.{Round}

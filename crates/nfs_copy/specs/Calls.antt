@@ -1,5 +1,5 @@
 -- The calls for the scripts of a copy.
-use Rattle.std.specs.Prelude.{◌≡◌, ℕ, List, [], ◌∷◌, Option, Some, None}
+use Rattle.std.specs.Prelude.{◌≡◌, List, [], ◌∷◌, Option, None}
 use Rattle.asked_runs.specs.Asking.{Round}
 use Rattle.copy_scripts.specs.Uploads.{Gave, NextIs, UploadView}
 use Rattle.file_trees.specs.declared.tree.Given.{Given}

@@ -1,4 +1,4 @@
-use Rattle.std.proofs.Common.{◌≡◌, [], Some, subst, rules}
+use Rattle.std.proofs.Common.{◌≡◌, [], subst, rules}
 use Rattle.world_model.specs.Told.{Relates}
 use Rattle.nfs_copy.specs.Promises.{Copies, IfTold}
 use Rattle.nfs_copy.proofs.top.copy.Goals as goal

@@ -1,5 +1,4 @@
-use Rattle.std.proofs.Common.{ap, Ok, Option}
-use Rattle.nfs_script.specs.declared.script.ScriptLine.{ScriptLine}
+use Rattle.std.proofs.Common.{ap, Ok}
 use Rattle.nfs_copy.proofs.Parts.{asked-then}
 use Rattle.nfs_copy.proofs.copying.CopyingAsker.next.Goals as goal
 
