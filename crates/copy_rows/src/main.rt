@@ -45,13 +45,13 @@ fn copy_to(
     let Ok(mut told) = MemSink::new(alloc, &[]) else {
         return println!(rt; "  out of memory");
     };
-    let mut tree = MemTree::new(alloc, tree);
+    let tree = MemTree::new(alloc, tree);
     let mut clock = TickClock::new(tick);
     let mut watch = TickClock::new(tick);
-    let status = nfs_copy::run(
+    let (status, _) = nfs_copy::run(
         alloc,
         words.as_slice(),
-        &mut tree,
+        tree,
         to,
         Progress::Hidden,
         world,

@@ -53,7 +53,8 @@ fn upload(
     let mut clock = SystemClock::new(rt);
     let mut watch = SystemClock::new(rt);
     let mut out = StandardError::new(rt.stderr());
-    Ending::Ran(run(
-        alloc, words, &mut tree, to, progress, &mut link, &mut clock, &mut out, &mut watch,
-    ))
+    let (status, _) = run(
+        alloc, words, tree, to, progress, &mut link, &mut clock, &mut out, &mut watch,
+    );
+    Ending::Ran(status)
 }

@@ -1,5 +1,7 @@
 //! A copy as what asks for the scripts of a session.
 
+ghost use Rattle.std.specs.Prelude.{◌≡◌};
+
 use asked_runs::{Asker, Stop};
 use copy_scripts::{Teller, Upload};
 use file_trees::Tree;
@@ -11,27 +13,36 @@ use xdr_codec::Writer;
 
 /// A copy that is under way: its scripts, the tree that they are made of, and where it is told what wasn't copied.
 #[derive(Drop)]
-pub(crate) struct Copying<'a, T: Tree, K: Sink, C: Clock> {
+pub(crate) struct Copying<'a, T: Tree + Drop, K: Sink, C: Clock> {
     pub(crate) upload: Upload,
-    pub(crate) tree: &'a mut T,
+    pub(crate) tree: T,
     pub(crate) teller: Teller<'a, K, C>,
 }
 
-impl<T: Tree, K: Sink, C: Clock> Asker for Copying<'_, T, K, C> {
+impl<T: Tree + Drop, K: Sink, C: Clock> Copying<'_, T, K, C> {
+    /// The tree, as it is at the end.
+    pub(crate) fn into_tree(self) -> T
+        ensures { result ≡ self.entry.tree }
+    {
+        self.tree
+    }
+}
+
+impl<T: Tree + Drop, K: Sink, C: Clock> Asker for Copying<'_, T, K, C> {
     ghost use Rattle.std.specs.Prelude.{◌≡◌, false};
     ghost use Rattle.std.proofs.Common.{refl};
     ghost use Rattle.nfs_copy.specs.Calls.{AskedSo};
 
-    ghost asks = { λ x rounds y. AskedSo T.given T.over rounds x.upload x.tree.now y.upload y.tree.now };
+    ghost asks = { λ x rounds y. AskedSo T.given T.over rounds x.upload x.tree y.upload y.tree };
 
-    ghost stays = { λ x y. y.tree.ghost_name ≡ x.tree.ghost_name };
+    ghost stays = { λ x y. Unit {0} };
 
     ghost well = { λ x. x.upload.wrong ≡ false };
 
     fn next(&mut self, alloc: Global, answers: &[u8], status: u8) -> Result<Option<Script>, Stop> {
         let next = self
             .upload
-            .next(alloc, self.tree, &mut self.teller, answers, status)?;
+            .next(alloc, &mut self.tree, &mut self.teller, answers, status)?;
         Ok(next)
     }
 

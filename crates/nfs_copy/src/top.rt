@@ -5,7 +5,6 @@ ghost use Rattle.std.specs.String.{string_bytes};
 ghost use Rattle.world_model.specs.Told.{Relates};
 ghost use Rattle.session_setup.specs.Outcomes.{IsOptions};
 ghost use Rattle.script_runs.specs.Run.{IsXidOption};
-ghost use Rattle.copy_scripts.specs.Uploads.{at_start};
 ghost use Rattle.nfs_copy.specs.Promises.{Copies, CopiesBy, IfTold};
 
 use crate::copying::Copying;
@@ -25,87 +24,65 @@ const NO_MEMORY: u8 = 7;
 /// Copies a tree to a path of a server: folders are made if they aren't there, files are written over, and nothing is removed. Modes, owners and times aren't
 /// copied. What isn't copied is told, in a line for each object, and the rest goes on. The words are those of a session; the watch is read for progress.
 ///
-/// It answers 0 if all was copied; 1 if something wasn't; 2 if the words are refused; 6 if the session is lost; 7 for lack of memory; and 8 if the mount is
-/// refused.
-pub fn run<T: Tree, L: Link, C: Clock, K: Sink, W: Clock>(
+/// It gives the tree back. It answers 0 if all was copied; 1 if something wasn't; 2 if the words are refused; 6 if the session is lost; 7 for lack of memory;
+/// and 8 if the mount is refused.
+pub fn run<T: Tree + Drop, L: Link, C: Clock, K: Sink, W: Clock>(
     alloc: Global,
     words: &[String],
-    tree: &mut T,
+    tree: T,
     to: Path,
     progress: Progress,
     link: &mut L,
     clock: &mut C,
     out: &mut K,
     watch: &mut W,
-) -> u8
-    ensures statuses { result ≤ 8 }
+) -> (u8, T)
+    ensures statuses { result.0 ≤ 8 }
     ensures stays { (first : L) → L.stays first link.old → L.stays first link.new }
     ensures honest { L.honest link.old → L.honest link.new }
 
     // At 0 the tree is at its end, and all that it gave was copied: `Copies` of specs/Promises.
-    ensures copied { result ≡ 0 → T.given tree.old ≡ Some [] → IfTold (T.given tree.new) (λ given.
+    ensures copied { result.0 ≡ 0 → T.given tree ≡ Some [] → IfTold (T.given result.1) (λ given.
         Relates (L.told link.old) (L.told link.new) (λ before h. before ≡ [] →
-        T.over tree.new × CopiesBy (map string_bytes words.now) to given h)) }
+        T.over result.1 × CopiesBy (map string_bytes words.now) to given h)) }
 {
     match read_words(alloc, words) {
         Ok(settings) => copy(
             alloc, &settings, tree, to, progress, link, clock, out, watch,
         ),
-        Err(WordsFault::Refused) => WORDS_REFUSED,
-        Err(WordsFault::Memory) => NO_MEMORY,
+        Err(WordsFault::Refused) => (WORDS_REFUSED, tree),
+        Err(WordsFault::Memory) => (NO_MEMORY, tree),
     }
 }
 
 /// Copies as `run` does, by settings that are known.
-pub fn copy<T: Tree, L: Link, C: Clock, K: Sink, W: Clock>(
+pub fn copy<T: Tree + Drop, L: Link, C: Clock, K: Sink, W: Clock>(
     alloc: Global,
     settings: &Settings,
-    tree: &mut T,
+    tree: T,
     to: Path,
     progress: Progress,
     link: &mut L,
     clock: &mut C,
     out: &mut K,
     watch: &mut W,
-) -> u8
+) -> (u8, T)
     requires options { IsOptions settings.now }
     requires most { settings.now.calls < 2 ^ 31 }
     requires xid { IsXidOption settings.now.xid }
-    ensures statuses { result ≤ 8 }
+    ensures statuses { result.0 ≤ 8 }
     ensures stays { (first : L) → L.stays first link.old → L.stays first link.new }
     ensures honest { L.honest link.old → L.honest link.new }
 
     // At 0 the tree is at its end, and all that it gave was copied: `Copies` of specs/Promises.
-    ensures copied { result ≡ 0 → T.given tree.old ≡ Some [] → IfTold (T.given tree.new) (λ given.
-        Relates (L.told link.old) (L.told link.new) (λ before h. before ≡ [] → T.over tree.new × Copies settings.now to given h)) }
+    ensures copied { result.0 ≡ 0 → T.given tree ≡ Some [] → IfTold (T.given result.1) (λ given.
+        Relates (L.told link.old) (L.told link.new) (λ before h. before ≡ [] → T.over result.1 × Copies settings.now to given h)) }
 {
     let mut copying = Copying {
         upload: Upload::new(alloc, to),
         tree,
         teller: Teller::new(alloc, out, watch, progress),
     };
-    copy_lent(alloc, settings, &mut copying, link, clock)
-}
-
-/// The same of a copy that is at its start.
-fn copy_lent<T: Tree, L: Link, C: Clock, K: Sink, W: Clock>(
-    alloc: Global,
-    settings: &Settings,
-    copying: &mut Copying<'_, T, K, W>,
-    link: &mut L,
-    clock: &mut C,
-) -> u8
-    requires options { IsOptions settings.now }
-    requires most { settings.now.calls < 2 ^ 31 }
-    requires xid { IsXidOption settings.now.xid }
-    requires start { copying.old.upload ≡ at_start copying.old.upload.to }
-    ensures statuses { result ≤ 8 }
-    ensures same_reference { copying.new.tree.ghost_name ≡ copying.old.tree.ghost_name }
-    ensures stays { (first : L) → L.stays first link.old → L.stays first link.new }
-    ensures honest { L.honest link.old → L.honest link.new }
-    ensures copied { result ≡ 0 → T.given copying.old.tree.now ≡ Some [] → IfTold (T.given copying.new.tree.now) (λ given.
-        Relates (L.told link.old) (L.told link.new) (λ before h. before ≡ [] →
-        T.over copying.new.tree.now × Copies settings.now copying.old.upload.to given h)) }
-{
-    run_with(alloc, settings, copying, link, clock)
+    let status = run_with(alloc, settings, &mut copying, link, clock);
+    (status, copying.into_tree())
 }
