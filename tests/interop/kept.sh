@@ -2,11 +2,14 @@
 
 store=$work/store
 
+# Words behind the file of pages, for another number of pages than 1,024.
+room=()
+
 # Makes a new file of pages.
 new_store() {
     local said
     rm -f -- "$store"
-    said=$("$nfs3" fsc-make "$store" 2>&1)
+    said=$("$nfs3" fsc-make "$store" "${room[@]}" 2>&1)
     count $? "a file of pages is made: $said"
 }
 
@@ -25,7 +28,7 @@ read_script() {
 
 # Runs the script with the file of pages, and counts its calls.
 run_kept() {
-    host=(--fsc "$store" 127.0.0.1)
+    host=(--fsc "$store" "${room[@]}" 127.0.0.1)
     run_program --count
     status=$?
     host=(127.0.0.1)
@@ -34,7 +37,7 @@ run_kept() {
 # What a session says of its file of pages, with nothing to do, and its status.
 said_of() {
     local said
-    said=$("$nfs3" run --fsc "$1" "${2-127.0.0.1}" /srv --nfs-port "$nfs_port" --mount-port "$mount_port" 2>&1 </dev/null)
+    said=$("$nfs3" run --fsc "$1" "${room[@]}" "${2-127.0.0.1}" /srv --nfs-port "$nfs_port" --mount-port "$mount_port" 2>&1 </dev/null)
     echo "$said $?"
 }
 
@@ -70,6 +73,37 @@ try_more_than_room() {
     read_script kept "$work/served/kept" '8 getattr 1 lookup 1 read 5 write 0 commit 0'
     run_kept
     is_answered 'a session that reads what was driven out' "$status"
+}
+
+# With room for 2,000 pages a file of 1,500 pages beside one of 74 is read once. A session for another number of pages is refused.
+try_more_pages() {
+    local answer pages
+    room=(--pages 2000)
+    new_store
+    head -c 6144000 /dev/urandom >"$work/served/larger"
+    read_script larger "$work/served/larger" '97 getattr 1 lookup 1 read 94 write 0 commit 0'
+    run_kept
+    is_answered 'a session that reads 1,500 pages' "$status"
+    read_script kept "$work/served/kept" '8 getattr 1 lookup 1 read 5 write 0 commit 0'
+    run_kept
+    is_answered 'a session that reads 74 pages more' "$status"
+    read_script larger "$work/served/larger" '3 getattr 1 lookup 1 read 0 write 0 commit 0'
+    run_kept
+    is_answered 'the next session makes no READ of 1,500 pages, and' "$status"
+    read_script kept "$work/served/kept" '3 getattr 1 lookup 1 read 0 write 0 commit 0'
+    run_kept
+    is_answered 'nor of 74 more, and' "$status"
+    for pages in 1024 1999 2001 65536; do
+        room=(--pages "$pages")
+        answer=$(said_of "$store")
+        [ "$answer" = 'nfs3: store 9' ]
+        count $? "a file for 2,000 pages as one for $pages: $answer"
+    done
+    room=()
+    answer=$(said_of "$store")
+    [ "$answer" = 'nfs3: store 9' ]
+    count $? "a file for 2,000 pages without their number: $answer"
+    rm -f -- "$work/served/larger"
 }
 
 # Starts the session, and ends it by force so many milliseconds after the file of pages begins to change. It says whether the session was still there.
@@ -146,6 +180,19 @@ try_full_disk() {
     umount "$work/small"
 }
 
+# A file that can only be read, since its file system is.
+try_read_only() {
+    local answer
+    mkdir -p "$work/fixed"
+    mount -t tmpfs -o size=8m none "$work/fixed" 2>/dev/null || return 0
+    "$nfs3" fsc-make "$work/fixed/store"
+    mount -o remount,ro "$work/fixed"
+    answer=$(said_of "$work/fixed/store")
+    [ "$answer" = 'nfs3: store 9' ]
+    count $? "a file of pages that can only be read: $answer"
+    umount "$work/fixed"
+}
+
 # Files that can't be used end in a line and a status.
 try_refused_stores() {
     local answer process
@@ -186,8 +233,11 @@ try_refused_stores() {
 try_kept() {
     try_second_session
     try_more_than_room
+    try_more_pages
+    new_store
     try_kills
     try_lengths
     try_full_disk
+    try_read_only
     try_refused_stores
 }

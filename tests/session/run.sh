@@ -377,11 +377,17 @@ try_page_files() {
     formats 2 'nfs3: usage' "$work/pages" 1024
 }
 
-# Reads a file in a session that keeps its pages: the counts that are wanted.
+# Reads a file in a session that keeps its pages: the counts that are wanted, and words behind the file of pages.
 kept_session() {
     printf '1 open 1 r /a\n1 read 1 0 10\n1 close 1' |
-        "$nfs3" run --fsc "$work/kept" 127.0.0.1 /srv --mount-port "$port" --nfs-port "$port" --count >"$work/said" 2>&1
-    comes_to 0 $'1 1 ok\n1 2 ok 6869\n1 3 ok\n'"calls $1" $? 'a session that keeps its pages'
+        "$nfs3" run --fsc "$work/kept" "${@:2}" 127.0.0.1 /srv --mount-port "$port" --nfs-port "$port" --count >"$work/said" 2>&1
+    comes_to 0 $'1 1 ok\n1 2 ok 6869\n1 3 ok\n'"calls $1" $? "a session that keeps its pages ${*:2}"
+}
+
+# What a session with nothing to do says of its file of pages, and its status. No server is asked: STATUS TEXT and the words.
+refuses_pages() {
+    "$nfs3" run --fsc "$work/kept" "${@:3}" >"$work/said" 2>&1 </dev/null
+    comes_to "$1" "$2" $? "run --fsc ${*:3}"
 }
 
 # The second session makes no READ: MNT, FSINFO, LOOKUP and GETATTR come after the five calls of the first.
@@ -400,6 +406,30 @@ try_kept_pages() {
     comes_to 9 'nfs3: store' $? 'a file of pages that is in use'
     "$nfs3" run --fsc "$work/kept" 127.0.0.1 /srv --rsize x >"$work/said" 2>&1 </dev/null
     comes_to 2 'nfs3: usage' $? 'words of no known form'
+    refuses_pages 9 'nfs3: store' --pages 1025 127.0.0.1 /srv
+    refuses_pages 2 'nfs3: usage' --pages 1023 127.0.0.1 /srv
+    refuses_pages 2 'nfs3: usage' --pages 65537 127.0.0.1 /srv
+    refuses_pages 2 'nfs3: usage' --pages +1024 127.0.0.1 /srv
+    refuses_pages 2 'nfs3: usage' --pages 1024
+    refuses_pages 2 'nfs3: usage' --pages
+}
+
+# Files for another number of pages: one number, in each session.
+try_kept_pages_sized() {
+    "$nfs3" fsc-make "$work/kept" --pages 1500
+    refuses_pages 9 'nfs3: store' 127.0.0.1 /srv
+    serve 9 "$work/schedule"
+    kept_session '4 getattr 1 lookup 1 read 1 write 0 commit 0' --pages 1500
+    kept_session '3 getattr 1 lookup 1 read 0 write 0 commit 0' --pages 1500
+    ended 0
+    refuses_pages 9 'nfs3: store' 127.0.0.1 /srv
+    refuses_pages 9 'nfs3: store' --pages 1499 127.0.0.1 /srv
+    refuses_pages 9 'nfs3: store' --pages 1501 127.0.0.1 /srv
+    refuses_pages 9 'nfs3: store' --pages 1500 localhost /srv
+    # without pages in the first 1,024 slots, and with the label alone
+    dd if=/dev/zero of="$work/kept" bs=4224 count=1500 conv=notrunc status=none
+    refuses_pages 9 'nfs3: store' 127.0.0.1 /srv
+    refuses_pages 9 'nfs3: store' --pages 1501 127.0.0.1 /srv
 }
 
 trap end_all EXIT
@@ -425,6 +455,7 @@ try_refusals
 try_made_scripts
 try_page_files
 try_kept_pages
+try_kept_pages_sized
 for part in launcher examples batches callers copy; do
     "$here/$part.sh"
     count $? "$part.sh"

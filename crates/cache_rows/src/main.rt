@@ -5,7 +5,7 @@
 //! - `calls` is `rpc_retry`: `new XID LIMIT`, `put PROC HEX`, `many N`, `check`, `send`, `take HEX`, `failed`, `counts`
 //! - `attrs` is `attr_cache`: `new`, `lives A B C D`, `learn FILE KIND SIZE SENT`, `many N`, `forget FILE`, `look FILE NOW`
 //! - `names` is `name_cache`: `new`, `learn DIR SECOND FOUND NAME`, `many N`, `look DIR SECOND NAME`, `drop DIR`
-//! - `pages` is `page_cache`: `new`, `opened FILE SIZE MARK`, `many N`, `state FILE`, `keep FILE SIZE INDEX SENT TEXT`,
+//! - `pages` is `page_cache`: `new`, `room N`, `opened FILE SIZE MARK`, `many N`, `state FILE`, `keep FILE SIZE INDEX SENT TEXT`,
 //!   `fill FILE SIZE N`, `page FILE INDEX`, `saw FILE SIZE SENT`, `wrote FILE BEFORE AFTER OFFSET MOMENT TEXT`,
 //!   `cut FILE BEFORE AFTER SIZE MOMENT`, `closed FILE`
 //! - `opens` is `open_files`: `new`, `put LANE SLOT FILE MODE MARK`, `many N`, `get LANE SLOT`, `close LANE SLOT`, `is FILE`, `any`

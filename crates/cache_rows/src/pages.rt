@@ -16,7 +16,8 @@ pub fn row(
 ) -> io::Result<()> {
     let [a, b, c, d, e, _] = numbers(rest);
     match word {
-        "new" => renew(rt, alloc, cache)?,
+        "new" => renew(rt, alloc, cache, 1_024)?,
+        "room" => renew(rt, alloc, cache, a)?,
         "opened" => show_done(rt, cache.opened(&handle(a), &stamp(b, 0), c).is_ok())?,
         "many" => open_many(rt, cache, a)?,
         "state" => state(rt, cache, a)?,
@@ -32,8 +33,12 @@ pub fn row(
     Ok(())
 }
 
-fn renew(rt: &impl Print, alloc: Global, cache: &mut PageCache) -> io::Result<()> {
-    match PageCache::new(alloc) {
+/// Makes a cache with room for so many pages.
+fn renew(rt: &impl Print, alloc: Global, cache: &mut PageCache, room: u64) -> io::Result<()> {
+    if room == 0 || room > 65_536 {
+        return println!(rt; "= no such room");
+    }
+    match PageCache::with_room(alloc, room as usize) {
         Ok(fresh) => {
             *cache = fresh;
             show_done(rt, true)

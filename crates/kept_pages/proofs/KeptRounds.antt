@@ -1,14 +1,14 @@
 -- How the steps of a round follow one another, and which pages an image has then.
-use Rattle.std.proofs.Common.{◌≡◌, ◌<◌, ◌≤◌, ◌⊎◌, inl, inr, ℕ, ◌*◌, List, length, replicate, Option, Some, None, refl, sym, ◌∙◌, ap, subst, arith}
-use Rattle.std.specs.Prelude.{Result, Ok, Err, Bool, true, false, slice_get, set}
+use Rattle.std.proofs.Common.{◌≡◌, ◌<◌, ◌≤◌, inl, inr, ℕ, List, length, replicate, Option, Some, None, ◌∙◌, ap, subst, arith}
+use Rattle.std.specs.Prelude.{Result, Ok, Err, Bool, true, false}
 use Rattle.std.proofs.lemmas.List.{length-set}
 use Rattle.std.proofs.lemmas.Option.{slice_get_within}
 use Rattle.page_cache.specs.Pages.{Pages}
 use Rattle.page_store.specs.Disk.{Every, LeavesOnly}
 use Rattle.page_store.specs.Slots.{IsSound}
-use Rattle.page_store.specs.Pages.{StoredPage, HasPage, WasKept}
+use Rattle.page_store.specs.Pages.{StoredPage}
 use Rattle.page_store.specs.Rounds.{Round, IsFilled, IsUnderWay, KeepsAll, KeepsOrFills, ArePagesAfter, round_after, taken_in}
-use Rattle.page_store.specs.Store.{StoreView, Stands}
+use Rattle.page_store.specs.Store.{StoreView}
 use Rattle.page_store.specs.declared.fault.StoreFault.{StoreFault}
 use Rattle.page_store.proofs.InMemory.{get-set, no-entry, none-filled, begun-long}
 use Rattle.page_store.proofs.Moments.{started, weaker, then_on}

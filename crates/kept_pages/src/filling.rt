@@ -15,14 +15,15 @@ use xdr_codec::Memory;
 /// The bytes of a whole page.
 const PAGE: u64 = 4096;
 
-/// A cache that keeps pages of a store, those of the first slots in front, and at most as many as it has room for. A page is
-/// left out in these cases: it is not whole and doesn't end where its file ends; a later slot has a page of its file under
+/// A cache with room for as many pages as the store has slots. It keeps pages of the store, those of the first slots in front.
+/// A page is left out in these cases: it is not whole and doesn't end where its file ends; a later slot has a page of its file under
 /// another stamp. Each file is known under the stamp of its pages, with the mark 0.
 pub fn cache_of<D: Disk + Drop>(alloc: Global, store: &PageStore<D>) -> Result<PageCache, Memory>
-    ensures { IfOk result (λ cache. Comes store.now.pages cache) }
+    ensures comes { IfOk result (λ cache. Comes store.now.pages cache) }
+    ensures room { IfOk result (λ cache. cache.room ≡ length store.now.pages) }
 {
-    let mut cache = PageCache::new(alloc)?;
     let count = store.count();
+    let mut cache = PageCache::with_room(alloc, count as usize)?;
     for done in 0..count {
         offer_slot(&mut cache, store, count - 1 - done)?;
     }
@@ -35,7 +36,8 @@ fn offer_slot<D: Disk + Drop>(
     store: &PageStore<D>,
     slot: u32,
 ) -> Result<(), Memory>
-    ensures { ArePages store.now.pages cache.old → ArePages store.now.pages cache.new }
+    ensures pages { ArePages store.now.pages cache.old → ArePages store.now.pages cache.new }
+    ensures room { cache.new.room ≡ cache.old.room }
 {
     match store.slot_page(slot) {
         Some(page) => offer(cache, &page),
@@ -45,8 +47,9 @@ fn offer_slot<D: Disk + Drop>(
 
 /// Offers a page to a cache.
 fn offer(cache: &mut PageCache, page: &KeptPage<'_>) -> Result<(), Memory>
-    ensures { (slots : List (Option StoredPage)) (k : ℕ) → shown_at k slots ≡ Some (shows_page page.now) → ArePages slots cache.old
+    ensures pages { (slots : List (Option StoredPage)) (k : ℕ) → shown_at k slots ≡ Some (shows_page page.now) → ArePages slots cache.old
         → ArePages slots cache.new }
+    ensures room { cache.new.room ≡ cache.old.room }
 {
     if !is_fit(page) {
         return Ok(());
@@ -61,7 +64,8 @@ fn offer(cache: &mut PageCache, page: &KeptPage<'_>) -> Result<(), Memory>
 
 /// A file whose stamp isn't known is known under the stamp of the page.
 fn learn(cache: &mut PageCache, page: &KeptPage<'_>) -> Result<(), Memory>
-    ensures { (slots : List (Option StoredPage)) → ArePages slots cache.old → ArePages slots cache.new }
+    ensures pages { (slots : List (Option StoredPage)) → ArePages slots cache.old → ArePages slots cache.new }
+    ensures room { cache.new.room ≡ cache.old.room }
 {
     match cache.stamp(&page.file) {
         Some(_) => Ok(()),
@@ -72,8 +76,9 @@ fn learn(cache: &mut PageCache, page: &KeptPage<'_>) -> Result<(), Memory>
 /// Keeps a page, unless its file is known under another stamp.
 fn keep(cache: &mut PageCache, page: &KeptPage<'_>)
     requires { length page.now.bytes.now ≤ 4096 }
-    ensures { (slots : List (Option StoredPage)) → IsIn slots page.now.file page.now.stamp page.now.index page.now.bytes.now → ArePages slots cache.old
+    ensures pages { (slots : List (Option StoredPage)) → IsIn slots page.now.file page.now.stamp page.now.index page.now.bytes.now → ArePages slots cache.old
         → ArePages slots cache.new }
+    ensures room { cache.new.room ≡ cache.old.room }
 {
     cache.is_sound();
     cache.keep(&page.file, &page.stamp, page.index, page.bytes, 1);

@@ -12,7 +12,7 @@ use xdr_codec::Memory;
 pub(crate) struct Plan {
     /// The slots that change. Those behind as many as there are pages are only closed.
     pub(crate) slots: Vec<u32>,
-    /// The numbers in the cache of the pages that go into the first of them, in their order.
+    /// The slots of the cache whose pages go into the first of them, in their order.
     pub(crate) pages: Vec<u32>,
 }
 
@@ -26,17 +26,39 @@ pub(crate) fn plan_for<D: Disk + Drop>(
     let places = places_of(alloc, store)?;
     let mut stays = vec![in alloc; false; store.count() as usize]?;
     let mut pages = Vec::new(alloc);
-    for n in 0..PageCache::MAX as u32 {
-        let Some(page) = cache.nth(n as usize) else {
-            break;
-        };
-        match slot_with(store, &places, &page) {
-            Some(slot) => mark(&mut stays, slot as usize),
-            None => pages.push(n)?,
-        }
+    let room = cache.room() as u32;
+    for done in 0..room {
+        // Pages take the cache's slots from the first on, so the last ones mostly have the pages that were used last.
+        choose(
+            cache,
+            store,
+            &places,
+            room - 1 - done,
+            &mut stays,
+            &mut pages,
+        )?;
     }
     let slots = changing(alloc, store, &stays, pages.len())?;
     Ok(Plan { slots, pages })
+}
+
+/// The page in a slot of the cache: if a slot of the store has it, that one keeps it; else it is to be stored.
+fn choose<D: Disk + Drop>(
+    cache: &PageCache,
+    store: &PageStore<D>,
+    places: &IndexMap<(Handle, u64), u32>,
+    from: u32,
+    stays: &mut Vec<bool>,
+    pages: &mut Vec<u32>,
+) -> Result<(), Memory> {
+    let Some(page) = cache.slot_page(from as usize) else {
+        return Ok(());
+    };
+    match slot_with(store, places, &page) {
+        Some(slot) => mark(stays, slot as usize),
+        None => pages.push(from)?,
+    }
+    Ok(())
 }
 
 /// Where each page is that a store shows, by its file and number.

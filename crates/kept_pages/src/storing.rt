@@ -62,7 +62,7 @@ pub fn store_kept<D: Disk + Drop>(
     store.finish()
 }
 
-/// Fills each slot of a round with the page of the cache whose number stands at the same place of the second list.
+/// Fills each slot of a round with the page in the slot of the cache that stands at the same place of the second list.
 fn fill_all<D: Disk + Drop>(
     cache: &PageCache,
     store: &mut PageStore<D>,
@@ -80,7 +80,7 @@ fn fill_all<D: Disk + Drop>(
     ensures cause { HasStoreCause (D.faults store.old.disk) (D.faults store.new.disk) result }
 {
     for at in 0..slots.len().min(pages.len()) {
-        match fill_nth(cache, store, slots[at], pages[at]) {
+        match fill_from(cache, store, slots[at], pages[at]) {
             Ok(()) => {}
             Err(fault) => return Err(fault),
         }
@@ -88,12 +88,12 @@ fn fill_all<D: Disk + Drop>(
     Ok(())
 }
 
-/// Fills a slot of a round with the n-th page of the cache.
-fn fill_nth<D: Disk + Drop>(
+/// Fills a slot of a round with the page in a slot of the cache.
+fn fill_from<D: Disk + Drop>(
     cache: &PageCache,
     store: &mut PageStore<D>,
     slot: u32,
-    n: u32,
+    from: u32,
 ) -> Result<(), StoreFault>
     ensures fills { D.tells store.old.disk → (n : ℕ) → length store.old.pages ≤ n → IsSound n (D.may_leave store.old.disk)
         → IsUnderWay (D.seen store.old.disk) (D.may_leave store.old.disk) store.old.round
@@ -105,7 +105,7 @@ fn fill_nth<D: Disk + Drop>(
     ensures goes_on { D.tells store.old.disk → D.tells store.new.disk }
     ensures cause { HasStoreCause (D.faults store.old.disk) (D.faults store.new.disk) result }
 {
-    match cache.nth(n as usize) {
+    match cache.slot_page(from as usize) {
         Some(page) => fill_with(store, slot, &page),
         None => Ok(()),
     }

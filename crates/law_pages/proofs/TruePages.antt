@@ -87,7 +87,7 @@ kept t l fresh b file stamp sent index bytes known o all Kept is = true-kept (Is
 
 -- of every cache that was fed so
 pub true_pages : (t : History) → Lawful t → Fresh t → (c : Pages) → IsFed t c → AreTrue (IsPage t) c
-true_pages t l fresh c (feeds.begins _ is) = subst (AreTrue (IsPage t)) (sym is) (λ k d lt. absurd (omega (arith, lt)))
+true_pages t l fresh c (feeds.begins _ room is) = subst (AreTrue (IsPage t)) (sym is) (λ k d lt. absurd (omega (arith, lt)))
 true_pages t l fresh c (feeds.opens b _ file stamp mark fed is) = subst (AreTrue (IsPage t)) (sym is) (true-opened (IsPage t) file b stamp mark (true_pages t l fresh b fed))
 true_pages t l fresh c (feeds.sees b _ file stamp sent fed is) = subst (AreTrue (IsPage t)) (sym is) (true-saw (IsPage t) file b stamp sent (true_pages t l fresh b fed))
 true_pages t l fresh c (feeds.shows b _ file index fed is) = subst (AreTrue (IsPage t)) (sym is) (true-shown (IsPage t) file index b (true_pages t l fresh b fed))

@@ -9,7 +9,7 @@ use Rattle.nfs_types.specs.declared.wcc.Wcc.{Wcc}
 use Rattle.nfs_types.specs.Stamps.{stamp_of}
 use Rattle.nfs_file_calls.specs.declared.call.FileCall.TheVariants as files
 use Rattle.nfs_file_calls.specs.declared.owned.FileKept.TheVariants as replies
-use Rattle.page_cache.specs.Pages.{Pages, nothing_kept, after_page, opened, saw, keep_answer, after_keep, wrote, cut}
+use Rattle.page_cache.specs.Pages.{Pages, nothing_with, after_page, opened, saw, keep_answer, after_keep, wrote, cut}
 use Rattle.page_cache.specs.Sound.{AreKnown}
 use Rattle.world_model.specs.History.{History}
 use Rattle.law_reads.specs.Kept.{Done}
@@ -43,10 +43,10 @@ pub record IsSized (t : History) (file : List ℕ) (size : ℕ) (wcc : Wcc) : Ty
   pub done : Done t (files.SetAttr file set guard) (replies.SetAttr wcc)
   pub is : set.size ≡ Some size
 
--- The cache was empty at first, and then took stamps of any kind at opens and replies, pages that READs gave, and own changes.
+-- The cache was empty at first, with room for any number of pages, and then took stamps of any kind at opens and replies, pages that READs gave, and own changes.
 -- That each kept page's file has a known stamp holds of it at any time (`PageCache::is_sound`).
 pub data IsFed (t : History) : Pages → Type 0 where
-  begins : (c : Pages) → c ≡ nothing_kept → IsFed t c
+  begins : (c : Pages) (room : ℕ) → c ≡ nothing_with room → IsFed t c
   opens : (b c : Pages) (file : List ℕ) (stamp : Stamp) (mark : ℕ) → IsFed t b → c ≡ opened file stamp mark b → IsFed t c
   sees : (b c : Pages) (file : List ℕ) (stamp : Stamp) (sent : ℕ) → IsFed t b → c ≡ saw file stamp sent b → IsFed t c
   shows : (b c : Pages) (file : List ℕ) (index : ℕ) → IsFed t b → c ≡ after_page file index b → IsFed t c

@@ -1,10 +1,12 @@
 //! Sessions whose pages are kept in a file.
 
+ghost use Rattle.std.specs.Prelude.{◌≤◌};
+
 use crate::ending::Ending;
-use crate::page_file::unformatted;
+use crate::page_file::{LEAST, page_count, unformatted};
 use kept_runs::run_labelled;
 use net_edge::{StandardInput, StandardOutput, SystemClock, TcpWire};
-use page_store::{FileDisk, PageStore};
+use page_store::{Disk, FileDisk, PageStore};
 use rpc_record::StreamLink;
 use session_words::{Export, WordsFault, read_words};
 use std::alloc::Global;
@@ -14,9 +16,34 @@ use xdr_codec::{Blob, Memory, Writer};
 /// The most bytes of a label.
 const LABEL: usize = 4096;
 
+/// The bytes of a slot, and of the label behind the slots.
+const SLOT: u64 = 4224;
+
 /// Runs the words with the server at the host of that name or address, over TCP. The session begins with the pages of the file, and
-/// leaves its own there. A file that was used for another host or export is refused.
+/// leaves its own there. A file that was used for another host or export is refused, and so is one that isn't for 1,024 pages.
 pub fn run(rt: &HostRuntime, path: &str, host: &str, words: &[String]) -> Ending {
+    run_over(rt, path, LEAST, host, words)
+}
+
+/// The same with a file for as many pages as a word says.
+pub fn run_sized(
+    rt: &HostRuntime,
+    path: &str,
+    pages: &str,
+    host: &str,
+    words: &[String],
+) -> Ending {
+    match page_count(pages) {
+        Some(pages) => run_over(rt, path, pages, host, words),
+        None => Ending::Usage,
+    }
+}
+
+/// The same with a file for so many pages, from 1,024 to 65,536.
+fn run_over(rt: &HostRuntime, path: &str, pages: u32, host: &str, words: &[String]) -> Ending
+    requires least { 1024 ≤ pages }
+    requires most { pages ≤ 65536 }
+{
     let alloc = rt.alloc();
     let label = match label_of(alloc, host, words) {
         Ok(label) => label,
@@ -26,7 +53,7 @@ pub fn run(rt: &HostRuntime, path: &str, host: &str, words: &[String]) -> Ending
     if label.len() > LABEL {
         return Ending::Usage;
     }
-    let mut store = match store_in(rt, path, label) {
+    let mut store = match store_in(rt, path, pages, label) {
         Ok(store) => store,
         Err(ending) => return ending,
     };
@@ -79,16 +106,23 @@ fn spelled(alloc: Global, host: &str, export: &Export) -> Result<Blob, Memory> {
     Ok(out.finish())
 }
 
-/// The store in a file, if its label is this, or it has none and no page.
+/// The store in a file for so many pages, if its label is this, or it has none and no page.
 fn store_in(
     rt: &HostRuntime,
     path: &str,
+    pages: u32,
     label: &[u8],
-) -> Result<PageStore<FileDisk<File>>, Ending> {
-    let Ok(disk) = FileDisk::open(rt, path) else {
+) -> Result<PageStore<FileDisk<File>>, Ending>
+    requires least { 1024 ≤ pages }
+    requires most { pages ≤ 65536 }
+{
+    let Ok(mut disk) = FileDisk::open(rt, path) else {
         return Err(Ending::Store);
     };
-    let store = match PageStore::open(rt.alloc(), disk) {
+    if has_more(&mut disk, pages) {
+        return Err(Ending::Store);
+    }
+    let store = match PageStore::open_sized(rt.alloc(), disk, pages) {
         Ok(store) => store,
         Err(refused) => return Err(unformatted(refused.fault)),
     };
@@ -96,6 +130,17 @@ fn store_in(
         return Err(Ending::Store);
     }
     Ok(store)
+}
+
+/// Whether a file is for more pages than so many, or can't be read. In a file for so many there is no slot behind the label.
+fn has_more(disk: &mut FileDisk<File>, pages: u32) -> bool
+    requires { pages ≤ 65536 }
+{
+    let mut last = [0];
+    match disk.read(SLOT * (pages as u64 + 2) - 1, &mut last) {
+        Ok(count) => count > 0,
+        Err(_) => true,
+    }
 }
 
 /// Whether a store has this label, or none and no page.

@@ -6,6 +6,7 @@
 //! over such a server without a file. `nfs3 pair SCHEDULE SCRIPT` runs two scripts as two clients of a simulated server. `nfs3
 //! copy HOST EXPORT FROM :TO` copies a file or a folder to a server. `nfs3 export PORT CALLS`, with or without a SCHEDULE,
 //! serves a test export, over UDP with `--udp` before the port. `nfs3 fsc-make FILE` makes a file of kept pages.
+//! `--pages N` behind a FILE of pages says for how many it is.
 #![tactic(auto)]
 
 mod check;
@@ -78,13 +79,10 @@ fn command(rt: &HostRuntime, mut words: Vec<String>) -> Ending {
             let size = words.remove(1);
             make::make(rt, size.as_str(), words.as_slice())
         }
-        [name, fsc, _, _, ..] if name.as_str() == "run" && fsc.as_str() == "--fsc" => {
+        [name, fsc, ..] if name.as_str() == "run" && fsc.as_str() == "--fsc" => {
             words.remove(1);
-            let path = words.remove(1);
-            let host = words.remove(1);
-            kept::run(rt, path.as_str(), host.as_str(), words.as_slice())
+            run_kept(rt, words)
         }
-        [name, fsc, ..] if name.as_str() == "run" && fsc.as_str() == "--fsc" => Ending::Usage,
         [name, _, ..] if name.as_str() == "run" => run_command(rt, words),
         [name, _, ..] if name.as_str() == "copy" => copy_command(rt, words),
         [name, path] if name.as_str() == "check" => check::check(rt, path.as_str()),
@@ -108,6 +106,32 @@ fn run_command(rt: &HostRuntime, mut words: Vec<String>) -> Ending {
         (true, false) => run::run_over_udp(rt, host.as_str(), words.as_slice()),
         (false, true) => run::run_batches(rt, host.as_str(), words.as_slice()),
         (true, true) => run::run_batches_over_udp(rt, host.as_str(), words.as_slice()),
+    }
+}
+
+/// Runs a session whose pages are kept in the file that the second word names. Behind it `--pages` and a number may stand.
+fn run_kept(rt: &HostRuntime, mut words: Vec<String>) -> Ending {
+    match words.as_slice() {
+        [_, _, sized, _, _, ..] if sized.as_str() == "--pages" => {
+            let path = words.remove(1);
+            words.remove(1);
+            let pages = words.remove(1);
+            let host = words.remove(1);
+            kept::run_sized(
+                rt,
+                path.as_str(),
+                pages.as_str(),
+                host.as_str(),
+                words.as_slice(),
+            )
+        }
+        [_, _, sized, ..] if sized.as_str() == "--pages" => Ending::Usage,
+        [_, _, _, ..] => {
+            let path = words.remove(1);
+            let host = words.remove(1);
+            kept::run(rt, path.as_str(), host.as_str(), words.as_slice())
+        }
+        _ => Ending::Usage,
     }
 }
 

@@ -9,7 +9,7 @@ use page_store::{FileDisk, PageStore, StoreFault};
 use script_text::number;
 
 /// How many pages a file has room for where no number is given, and the least.
-const LEAST: u32 = 1024;
+pub(crate) const LEAST: u32 = 1024;
 
 /// The most.
 const MOST: u32 = 65_536;
@@ -28,7 +28,7 @@ pub fn make(rt: &HostRuntime, words: &[String]) -> Ending {
 }
 
 /// The number of pages of a word. None exactly where it isn't a number from 1,024 to 65,536 in decimal digits.
-fn page_count(word: &str) -> Option<u32>
+pub(crate) fn page_count(word: &str) -> Option<u32>
     ensures value { result ≡ number_of 1024 65536 word.now }
     ensures within { IfSome result (λ n. (1024 ≤ n) × (n ≤ 65536)) }
 {

@@ -91,7 +91,7 @@ module _ (Q : List ℕ → Stamp → ℕ → List ℕ → Type 0) where
 
         of_state : TellsKept file stamp sent c → AreTrue (kept stamp place bytes c)
         of_state t = rw t.opened (
-            All-fronted (IsTrueUnder after) place bytes c.pages (λ k d low. goes_on _ (known k d low) (all k d low)) (λ s is. subst (λ q. Q file q index bytes) (of-file stamp t.state.mark s is) told)
+            All-fronted (IsTrueUnder after) c.room place bytes c.pages (λ k d low. goes_on _ (known k d low) (all k d low)) (λ s is. subst (λ q. Q file q index bytes) (of-file stamp t.state.mark s is) told)
             )
           where
             after : Pages

@@ -1,5 +1,5 @@
 -- The pages of each file below its number are whole, after each thing that is done to the files and the pages.
-use Rattle.std.proofs.Common.{◌≡◌, ◌<◌, ◌≤◌, ℕ, ◌/◌, inl, inr, zero, suc, Bool, true, false, not, cond, List, [], ◌∷◌, length, take, map, All, Option, Some, None, option_map, if◌then◌else◌, refl, sym, ap, ◌∙◌, subst, arith}
+use Rattle.std.proofs.Common.{◌≡◌, ◌<◌, ◌≤◌, ℕ, ◌-◌, ◌/◌, inl, inr, zero, suc, Bool, true, false, not, cond, List, [], ◌∷◌, length, take, map, All, Option, Some, None, option_map, if◌then◌else◌, refl, sym, ap, ◌∙◌, subst, arith}
 use Rattle.std.proofs.lemmas.Bool.{cases_lt}
 use Rattle.std.proofs.lemmas.List.Elements.{All-nil, All-cons}
 use Rattle.std.specs.Option.{option_map_or}
@@ -109,10 +109,13 @@ module _ (b c : List ℕ → ℕ) (file : List ℕ) (n : ℕ) (is : (f : List �
   full-same pages less a = full-lower b c pages (lower less) a
 
   -- a page is kept
-  pub full-kept : (index : ℕ) (bytes : List ℕ) (pages : List (PagePlace × List ℕ)) → n ≤ b file → length bytes ≤ 4096 → (index < n → length bytes ≡ 4096)
-      → AreFull b pages → AreFull c (fronted (record { file = file; index = index }) bytes pages)
-  full-kept index bytes pages less fits whole a = full-take c 1024 ((record { file = file; index = index }, bytes) ∷ remove_entry (is_place file index) pages)
-      (fits, (λ low. whole (subst (λ k. index < k) (its file (same-self file)) low)), full-removed c (is_place file index) pages (full-same pages less a))
+  pub full-kept : (room index : ℕ) (bytes : List ℕ) (pages : List (PagePlace × List ℕ)) → n ≤ b file → length bytes ≤ 4096 → (index < n → length bytes ≡ 4096)
+      → AreFull b pages → AreFull c (fronted room (record { file = file; index = index }) bytes pages)
+  full-kept room index bytes pages less fits whole a = (
+    fits,
+    (λ low. whole (subst (λ k. index < k) (its file (same-self file)) low)),
+    full-take c (room - 1) (remove_entry (is_place file index) pages) (full-removed c (is_place file index) pages (full-same pages less a)),
+  )
 
   -- its pages are dropped
   pub full-dropped : (pages : List (PagePlace × List ℕ)) → AreFull b pages → AreFull c (without_file file pages)

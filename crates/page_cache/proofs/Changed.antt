@@ -15,9 +15,9 @@ pub changed-is : (file : List ℕ) (wcc : Wcc) (change : ℕ → List ℕ → Li
 changed-is file wcc change moment c state known is led = rw (sym is, sym led) refl
 
 -- the same where the files and the pages are each what they came to
-pub changed-now : (file : List ℕ) (wcc : Wcc) (change : ℕ → List ℕ → List ℕ) (moment : ℕ) (files new_files : List (List ℕ × FileState)) (pages new_pages : List (PagePlace × List ℕ))
+pub changed-now : (file : List ℕ) (wcc : Wcc) (change : ℕ → List ℕ → List ℕ) (moment : ℕ) (room : ℕ) (files new_files : List (List ℕ × FileState)) (pages new_pages : List (PagePlace × List ℕ))
     (state : FileState) (known : Stamp) → Some state ≡ lookup (pointwise nat_eq file) files → Some known ≡ led_to wcc state.known
     → new_files ≡ insert_entry (pointwise nat_eq) files file (record { known = Some known; mark = moment }) → new_pages ≡ map (changed_page file change) pages
-    → ◌≡◌ {A = Pages} (record { files = new_files; pages = new_pages }) (changed_over (lookup (pointwise nat_eq file) files) file wcc change moment (record { files = files; pages = pages }))
-changed-now file wcc change moment files new_files pages new_pages state known is led files_are pages_are =
-    rw (files_are, pages_are) (changed-is file wcc change moment (record { files = files; pages = pages }) state known is led)
+    → ◌≡◌ {A = Pages} (record { room = room; files = new_files; pages = new_pages }) (changed_over (lookup (pointwise nat_eq file) files) file wcc change moment (record { room = room; files = files; pages = pages }))
+changed-now file wcc change moment room files new_files pages new_pages state known is led files_are pages_are =
+    rw (files_are, pages_are) (changed-is file wcc change moment (record { room = room; files = files; pages = pages }) state known is led)

@@ -30,7 +30,7 @@ module _ (file : List ℕ) (low : ℕ) (high : Option ℕ) (change : ℕ → Lis
   pub changes-start : Changes 0 before
   changes-start = record { same = refl; done = λ i low. absurd (omega arith); ahead = λ t other. refl }
 
-  module _ (r : IsRun file low high held run) (slots : length before ≡ 1024) (upto : ℕ) (within : upto < length run) (now : List (List ℕ)) (c : Changes upto now) where
+  module _ {count : ℕ} (r : IsRun count file low high held run) (slots : length before ≡ count) (upto : ℕ) (within : upto < length run) (now : List (List ℕ)) (c : Changes upto now) where
     abbrev slot : ℕ
     slot = get_or run upto 0
 
@@ -63,9 +63,9 @@ module _ (file : List ℕ) (low : ℕ) (high : Option ℕ) (change : ℕ → Lis
         subst (λ v. Changes (upto + 1) (set now slot v)) came changes-step
 
   -- where the change leaves the file's other pages as they are
-  module _ {V : Type 0} (r : IsRun file low high held run) (order : List (ℕ × V)) (upto : ℕ) (all : length run ≤ upto) (now : List (List ℕ)) (sound : IsSound 1024 order held before)
-      (c : Changes upto now) (others : (t : ℕ) → t < 1024 → is_within file low high (get_or held t None) ≡ false → becomes t (get_or before t []) ≡ get_or before t []) where
-    each : (t : ℕ) → t < 1024 → get_or now t [] ≡ becomes t (get_or before t [])
+  module _ {V : Type 0} {count : ℕ} (r : IsRun count file low high held run) (order : List (ℕ × V)) (upto : ℕ) (all : length run ≤ upto) (now : List (List ℕ)) (sound : IsSound count order held before)
+      (c : Changes upto now) (others : (t : ℕ) → t < count → is_within file low high (get_or held t None) ≡ false → becomes t (get_or before t []) ≡ get_or before t []) where
+    each : (t : ℕ) → t < count → get_or now t [] ≡ becomes t (get_or before t [])
     each t small = by (is_within file low high (get_or held t None)) refl
       where
         by : (b : Bool) → is_within file low high (get_or held t None) ≡ b → get_or now t [] ≡ becomes t (get_or before t [])
@@ -75,7 +75,7 @@ module _ (file : List ℕ) (low : ℕ) (high : Option ℕ) (change : ℕ → Lis
             let it = r.every t small e in let within = it.1 in
             subst (λ n. get_or now n [] ≡ becomes n (get_or before n [])) it.2 (c.done it.0 (omega arith) within)
 
-    pub sound-changed : IsSound 1024 order held now
+    pub sound-changed : IsSound count order held now
     sound-changed = record {
       apart = sound.apart;
       every = sound.every;
@@ -87,7 +87,7 @@ module _ (file : List ℕ) (low : ℕ) (high : Option ℕ) (change : ℕ → Lis
     }
 
     pub changes-end : shown order held now ≡ map (changed_page file change) (shown order held before)
-    changes-end = shown-changed held before 1024 file change now order sound.apart each
+    changes-end = shown-changed held before count file change now order sound.apart each
 
 -- the pages that slots hold are whole below a number where those that are shown are
 slot-full : {V : Type 0} (file : List ℕ) (below : ℕ) (held : List (Option PagePlace)) (pages : List (List ℕ)) (slot : ℕ) (p : PagePlace) → get_or held slot None ≡ Some p
@@ -108,10 +108,10 @@ slot-full file below held pages slot p is its low (f ∷ order) full stands =
     ]
 
 -- a change leaves the pages outside as they are: whole ones below a number, and those past its end
-module _ {V : Type 0} (file : List ℕ) (low below : ℕ) (high : Option ℕ) (change : ℕ → List ℕ → List ℕ) (order : List (ℕ × V)) (held : List (Option PagePlace)) (pages : List (List ℕ))
-    (sound : IsSound 1024 order held pages) (full : FullBelow file below (shown order held pages)) (less : low ≤ below)
+module _ {V : Type 0} {count : ℕ} (file : List ℕ) (low below : ℕ) (high : Option ℕ) (change : ℕ → List ℕ → List ℕ) (order : List (ℕ × V)) (held : List (Option PagePlace)) (pages : List (List ℕ))
+    (sound : IsSound count order held pages) (full : FullBelow file below (shown order held pages)) (less : low ≤ below)
     (front : (i : ℕ) (old : List ℕ) → i < low → length old ≡ 4096 → change i old ≡ old) (past : (i : ℕ) (old : List ℕ) → is_below i high ≡ false → change i old ≡ old) where
-  pub outside : (t : ℕ) → t < 1024 → is_within file low high (get_or held t None) ≡ false → changed_bytes file change (get_or held t None) (get_or pages t []) ≡ get_or pages t []
+  pub outside : (t : ℕ) → t < count → is_within file low high (get_or held t None) ≡ false → changed_bytes file change (get_or held t None) (get_or pages t []) ≡ get_or pages t []
   outside t small = by (get_or held t None) refl
     where
       numbered : (p : PagePlace) → get_or held t None ≡ Some p → (b : Bool) → pointwise nat_eq p.file file ≡ b
@@ -128,9 +128,9 @@ module _ {V : Type 0} (file : List ℕ) (low below : ℕ) (high : Option ℕ) (c
       by (Some p) is h = numbered p is (pointwise nat_eq p.file file) refl h
 
 -- the pages before and past a WRITE's bytes
-module _ {V : Type 0} (file : List ℕ) (below : ℕ) (order : List (ℕ × V)) (held : List (Option PagePlace)) (pages : List (List ℕ))
-    (sound : IsSound 1024 order held pages) (full : FullBelow file below (shown order held pages)) where
-  pub outside-write : (low high offset : ℕ) (bytes : List ℕ) → low ≡ min below (offset / 4096) → high ≡ div_ceil (offset + length bytes) 4096 → (t : ℕ) → t < 1024
+module _ {V : Type 0} {count : ℕ} (file : List ℕ) (below : ℕ) (order : List (ℕ × V)) (held : List (Option PagePlace)) (pages : List (List ℕ))
+    (sound : IsSound count order held pages) (full : FullBelow file below (shown order held pages)) where
+  pub outside-write : (low high offset : ℕ) (bytes : List ℕ) → low ≡ min below (offset / 4096) → high ≡ div_ceil (offset + length bytes) 4096 → (t : ℕ) → t < count
       → is_within file low (Some high) (get_or held t None) ≡ false
       → changed_bytes file (λ index. put_page index offset bytes) (get_or held t None) (get_or pages t []) ≡ get_or pages t []
   outside-write low high offset bytes at_low at_high = outside file low below (Some high) (λ index. put_page index offset bytes) order held pages sound full (omega arith)
@@ -138,7 +138,7 @@ module _ {V : Type 0} (file : List ℕ) (below : ℕ) (order : List (ℕ × V)) 
       (λ i old late. let from : high ≤ i = grind (arith, nat_tests) in put-after i offset bytes old (above-last i (offset + length bytes) (subst (λ h. h ≤ i) at_high from)))
 
   -- and the pages before the one in which a new size ends
-  pub outside-cut : (low size : ℕ) → low ≡ min below (size / 4096) → (t : ℕ) → t < 1024 → is_within file low None (get_or held t None) ≡ false
+  pub outside-cut : (low size : ℕ) → low ≡ min below (size / 4096) → (t : ℕ) → t < count → is_within file low None (get_or held t None) ≡ false
       → changed_bytes file (λ index. cut_page index size) (get_or held t None) (get_or pages t []) ≡ get_or pages t []
   outside-cut low size at_low = outside file low below None (λ index. cut_page index size) order held pages sound full (omega arith)
       (λ i old early whole. cut-before i size old (below-first i size (omega arith)) whole)

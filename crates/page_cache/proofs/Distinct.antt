@@ -41,9 +41,9 @@ module _ {V : Type 0} (count : ℕ) (held : List (Option PagePlace)) (pages : Li
       by None here on = on
       by (Some p) here on = (none-same order e.0 p a.2 a.0 a.1 here, on)
 
-module _ {V : Type 0} (order : List (ℕ × V)) (held : List (Option PagePlace)) (pages : List (List ℕ)) (sound : IsSound 1024 order held pages) where
-  pub shown-few : length (shown order held pages) ≤ 1024
+module _ {V : Type 0} {count : ℕ} (order : List (ℕ × V)) (held : List (Option PagePlace)) (pages : List (List ℕ)) (sound : IsSound count order held pages) where
+  pub shown-few : length (shown order held pages) ≤ count
   shown-few = omega (arith, most-shown held pages order, sound.all)
 
   pub shown-distinct : IsDistinct same_place (keys_of (shown order held pages))
-  shown-distinct = distinct 1024 held pages sound.once order sound.apart
+  shown-distinct = distinct count held pages sound.once order sound.apart

@@ -41,21 +41,21 @@ freeing-in (slot ∷ run) held zero t low is within =
     (ap (λ n. get_or (set held slot None) n None) (sym is) ∙ get_or-set_same held slot None None (subst (λ n. n < length held) (sym is) within))
 freeing-in (slot ∷ run) held (suc i) t low is within = freeing-in run (set held slot None) i t (omega arith) is (omega (arith, length-set held slot None))
 
-run-of_file : (file : List ℕ) (held : List (Option PagePlace)) (run : List ℕ) (r : IsRun file 0 None held run) (i : ℕ) → i < length run
+run-of_file : {count : ℕ} (file : List ℕ) (held : List (Option PagePlace)) (run : List ℕ) (r : IsRun count file 0 None held run) (i : ℕ) → i < length run
     → is_some (index_in file (get_or held (get_or run i 0) None)) ≡ true
 run-of_file file held run r i within = sym (within-all file (get_or held (get_or run i 0) None)) ∙ r.within i within
 
-module _ (file : List ℕ) (held : List (Option PagePlace)) (run : List ℕ) (r : IsRun file 0 None held run) (slots : length held ≡ 1024) where
+module _ {count : ℕ} (file : List ℕ) (held : List (Option PagePlace)) (run : List ℕ) (r : IsRun count file 0 None held run) (slots : length held ≡ count) where
   pub freeing-all : freeing run held ≡ map (freed file) held
   freeing-all = ext_get_or None (freeing run held) (map (freed file) held) (length-freeing run held ∙ sym (length-map held (freed file)))
       (λ t low. by t (omega (arith, length-freeing run held)) (is_some (index_in file (get_or held t None))) refl ∙ sym (get_or-map (freed file) held t None))
     where
-      by : (t : ℕ) → t < 1024 → (b : Bool) → is_some (index_in file (get_or held t None)) ≡ b → get_or (freeing run held) t None ≡ (if b then None else get_or held t None)
+      by : (t : ℕ) → t < count → (b : Bool) → is_some (index_in file (get_or held t None)) ≡ b → get_or (freeing run held) t None ≡ (if b then None else get_or held t None)
       by t low true e = let it = r.every t low (within-all file (get_or held t None) ∙ e) in freeing-in run held it.0 t it.1 it.2 (omega arith)
       by t low false e = freeing-other run held t (λ i within same. absurd (let its = ap (λ n. is_some (index_in file (get_or held n None))) (sym same) ∙ run-of_file file held run r i within in cc))
 
 -- all slots between the ends are freed
-pub freed-run : (file : List ℕ) (held : List (Option PagePlace)) (sorted : List ℕ) (s : IsSorted held sorted) (from to : ℕ) (ends : AreEnds file 0 None held sorted from to)
+pub freed-run : {count : ℕ} (file : List ℕ) (held : List (Option PagePlace)) (sorted : List ℕ) (s : IsSorted count held sorted) (from to : ℕ) (ends : AreEnds file 0 None held sorted from to)
     → freeing (take (to - from) (drop from sorted)) held ≡ map (freed file) held
 freed-run file held sorted s from to ends = freeing-all file held (take (to - from) (drop from sorted)) (is-run file 0 None tt held sorted s from to ends) s.slots
 
@@ -64,16 +64,16 @@ pub written-whole : {A : Type 0} (now old : List A) (len : ℕ) → length now �
 written-whole now old len same whole =
     ap (λ l. take len (now ++ l)) (drop_all (length now) old (omega arith)) ∙ ap (take len) (append-nil now) ∙ take_all len now (omega arith)
 
-module _ {V : Type 0} (file : List ℕ) (held : List (Option PagePlace)) (pages : List (List ℕ)) (run : List ℕ) where
+module _ {V : Type 0} (count : ℕ) (file : List ℕ) (held : List (Option PagePlace)) (pages : List (List ℕ)) (run : List ℕ) where
   -- the first of the file's slots are at the end, and what is shown but for the file is as it was
   pub record Drops (before : List (ℕ × V)) (upto : ℕ) (order : List (ℕ × V)) : Type 0 where
-    pub sound : IsSound 1024 order (freeing (take upto run) held) pages
+    pub sound : IsSound count order (freeing (take upto run) held) pages
     pub left : without_file file (shown order (freeing (take upto run) held) pages) ≡ without_file file (shown before held pages)
 
-  pub drops-start : (before : List (ℕ × V)) → IsSound 1024 before held pages → Drops before 0 before
+  pub drops-start : (before : List (ℕ × V)) → IsSound count before held pages → Drops before 0 before
   drops-start before sound = record { sound = sound; left = refl }
 
-  module _ (r : IsRun file 0 None held run) (before order : List (ℕ × V)) (upto : ℕ) (within : upto < length run) (d : Drops before upto order) where
+  module _ (r : IsRun count file 0 None held run) (before order : List (ℕ × V)) (upto : ℕ) (within : upto < length run) (d : Drops before upto order) where
     abbrev slot : ℕ
     slot = get_or run upto 0
 
@@ -90,13 +90,13 @@ module _ {V : Type 0} (file : List ℕ) (held : List (Option PagePlace)) (pages 
 
     pub drops-step : Drops before (upto + 1) (demoted (nat_eq slot) order)
     drops-step = record {
-      sound = subst (λ h. IsSound 1024 (demoted (nat_eq slot) order) h pages) (sym more) (sound-back 1024 order now pages d.sound slot (r.low_slots upto within));
+      sound = subst (λ h. IsSound count (demoted (nat_eq slot) order) h pages) (sym more) (sound-back count order now pages d.sound slot (r.low_slots upto within));
       left = ap (λ h. without_file file (shown (demoted (nat_eq slot) order) h pages)) more
-          ∙ ap (without_file file) (shown-back 1024 order now pages d.sound slot (r.low_slots upto within))
+          ∙ ap (without_file file) (shown-back count order now pages d.sound slot (r.low_slots upto within))
           ∙ others-rest now pages file slot order still ∙ d.left;
     }
 
-  module _ (r : IsRun file 0 None held run) (slots : length held ≡ 1024) (before order : List (ℕ × V)) (upto : ℕ) (all : length run ≤ upto) (d : Drops before upto order) where
+  module _ (r : IsRun count file 0 None held run) (slots : length held ≡ count) (before order : List (ℕ × V)) (upto : ℕ) (all : length run ≤ upto) (d : Drops before upto order) where
     whole : freeing (take upto run) held ≡ map (freed file) held
     whole = ap (λ l. freeing l held) (take_all upto run all) ∙ freeing-all file held run r slots
 
@@ -107,10 +107,10 @@ module _ {V : Type 0} (file : List ℕ) (held : List (Option PagePlace)) (pages 
         by true e = refl
         by false e = e
 
-    pub sound-dropped : IsSound 1024 order (map (freed file) held) pages
-    sound-dropped = subst (λ h. IsSound 1024 order h pages) whole d.sound
+    pub sound-dropped : IsSound count order (map (freed file) held) pages
+    sound-dropped = subst (λ h. IsSound count order h pages) whole d.sound
 
     pub drops-end : shown order (map (freed file) held) pages ≡ without_file file (shown before held pages)
     drops-end =
-        sym (others-all (map (freed file) held) pages 1024 file order sound-dropped.apart (λ t low. ap (λ o. is_some (index_in file o)) (get_or-map (freed file) held t None) ∙ none-left (get_or held t None)))
+        sym (others-all (map (freed file) held) pages count file order sound-dropped.apart (λ t low. ap (λ o. is_some (index_in file o)) (get_or-map (freed file) held t None) ∙ none-left (get_or held t None)))
         ∙ ap (λ h. without_file file (shown order h pages)) (sym whole) ∙ d.left

@@ -1,5 +1,5 @@
 -- What holds of each page goes on holding, and a page that is found is one of them. For the proofs of callers.
-use Rattle.std.proofs.Common.{◌≡◌, ℕ, Bool, true, false, not, cond, nat_eq, if◌then◌else◌, List, [], ◌∷◌, map, All, Option, Some, None, refl, sym, subst}
+use Rattle.std.proofs.Common.{◌≡◌, ℕ, ◌-◌, Bool, true, false, not, cond, nat_eq, if◌then◌else◌, List, [], ◌∷◌, map, All, Option, Some, None, refl, sym, subst}
 use Rattle.std.proofs.lemmas.List.Elements.{All-nil, All-head, All-tail, All-cons, All-take}
 use Rattle.std.specs.Option.{option_map_or}
 use Rattle.std.specs.Cmp.Lexicographic.{pointwise, bytes_decides}
@@ -43,9 +43,9 @@ module _ (P : PagePlace × List ℕ → Type 0) where
       by (Some e) found = All-cons P e _ (All-found test pages e all found) (All-removed test pages all)
 
   -- a page is kept
-  pub All-fronted : (place : PagePlace) (bytes : List ℕ) (pages : List (PagePlace × List ℕ)) → All P pages → P (place, bytes) → All P (fronted place bytes pages)
-  All-fronted place bytes pages all told = All-take P 1024 ((place, bytes) ∷ remove_entry (is_place place.file place.index) pages)
-      (All-cons P (place, bytes) _ told (All-removed (is_place place.file place.index) pages all))
+  pub All-fronted : (room : ℕ) (place : PagePlace) (bytes : List ℕ) (pages : List (PagePlace × List ℕ)) → All P pages → P (place, bytes) → All P (fronted room place bytes pages)
+  All-fronted room place bytes pages all told =
+      All-cons P (place, bytes) _ told (All-take P (room - 1) (remove_entry (is_place place.file place.index) pages) (All-removed (is_place place.file place.index) pages all))
 
   -- the pages of a file are dropped: something may hold of the others then
   pub All-others : (Q : PagePlace × List ℕ → Type 0) (file : List ℕ) → ((p : PagePlace × List ℕ) → pointwise nat_eq p.0.file file ≡ false → P p → Q p)

@@ -27,7 +27,7 @@ module _ {V : Type 0} where
   apart-more k (f ∷ order) a = ((let low = a.0 in omega arith), a.1, apart-more k order a.2)
 
   -- one more slot
-  pub one-more : (k : ℕ) (c : LruCache ℕ V) (v : V) → c.cap ≡ 1024 → k < 1024 → AreAll k c.entries → AreAll (k + 1) (put_entries nat_eq c k v)
+  pub one-more : {most : ℕ} (k : ℕ) (c : LruCache ℕ V) (v : V) → c.cap ≡ most → k < most → AreAll k c.entries → AreAll (k + 1) (put_entries nat_eq c k v)
   one-more k c v cap low a =
       let room : length c.entries ≤ c.cap - 1 = omega (arith, a.all) in
       rw (apart-none k c.entries a.apart, take_all (c.cap - 1) c.entries room) (record {

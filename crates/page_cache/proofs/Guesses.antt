@@ -15,7 +15,7 @@ module _ (held : List (Option PagePlace)) (sorted : List ℕ) (file : List ℕ) 
   not-before-at at h within = sym (ap (λ b. b && is_before file bound (held_at held sorted at)) (lt-ltb at (length sorted) within)) ∙ h
 
   -- a gap is known by the slots on its two sides
-  module _ (s : IsSorted held sorted) where
+  module _ {count : ℕ} (s : IsSorted count held sorted) where
     sides : (at : ℕ) → at ≤ length sorted → (at < length sorted → is_before file bound (held_at held sorted at) ≡ false)
         → (0 < at → is_before file bound (held_at held sorted (at - 1)) ≡ true) → IsGap held sorted file bound at
     sides at inside after before = record {

@@ -14,15 +14,15 @@ Files = List (List ℕ × FileState)
 
 -- the state of a page's file is known among these
 abbrev pub Known : List (List ℕ × FileState) → PagePlace × List ℕ → Type 0
-Known files p = IsSome (known_of p.0.file (record { files = files; pages = [] }))
+Known files p = IsSome (known_of p.0.file (record { room = 0; files = files; pages = [] }))
 
 -- one file is in another state
 module _ (files new : List (List ℕ × FileState)) (file : List ℕ) (state : FileState) (is : new ≡ insert_entry same files file state) where
-  known-is : (f : List ℕ) → known_of f (record { files = new; pages = [] }) ≡ (if same f file then state.known else known_of f (record { files = files; pages = [] }))
+  known-is : (f : List ℕ) → known_of f (record { room = 0; files = new; pages = [] }) ≡ (if same f file then state.known else known_of f (record { room = 0; files = files; pages = [] }))
   known-is f = rw is (ap (option_and_then (λ s. s.known)) (lookup-insert f file state files) ∙ by (same f file))
     where
       by : (b : Bool) → option_and_then (λ s. s.known) (if b then Some state else Rattle.std.specs.Map.lookup (same f) files)
-          ≡ (if b then state.known else known_of f (record { files = files; pages = [] }))
+          ≡ (if b then state.known else known_of f (record { room = 0; files = files; pages = [] }))
       by true = refl
       by false = refl
 
@@ -46,9 +46,9 @@ module _ (files new : List (List ℕ × FileState)) (file : List ℕ) (state : F
     pub known-same : (pages : List (PagePlace × List ℕ)) → All (Known files) pages → All (Known new) pages
     known-same pages all = All-weaker (Known files) (Known new) step pages all
 
-    pub known-fronted : (index : ℕ) (bytes : List ℕ) (pages : List (PagePlace × List ℕ)) → All (Known files) pages
-        → All (Known new) (fronted (record { file = file; index = index }) bytes pages)
-    known-fronted index bytes pages all = All-fronted (Known new) (record { file = file; index = index }) bytes pages (known-same pages all) (of-file (record { file = file; index = index }, bytes) refl)
+    pub known-fronted : (room index : ℕ) (bytes : List ℕ) (pages : List (PagePlace × List ℕ)) → All (Known files) pages
+        → All (Known new) (fronted room (record { file = file; index = index }) bytes pages)
+    known-fronted room index bytes pages all = All-fronted (Known new) room (record { file = file; index = index }) bytes pages (known-same pages all) (of-file (record { file = file; index = index }, bytes) refl)
 
     pub known-changed : (change : ℕ → List ℕ → List ℕ) (pages : List (PagePlace × List ℕ)) → All (Known files) pages → All (Known new) (map (changed_page file change) pages)
     known-changed change pages all =

@@ -18,8 +18,10 @@ pub mod Inserts
 pub mod Distinct
 pub mod Entries
 pub mod States
+pub mod Room
 pub mod Unchanged
 pub mod Known
 pub mod Believed
 pub mod Rows
 pub mod Nth
+pub mod InSlot

@@ -49,7 +49,7 @@ module _ (c : Pages) where
   pub nth-handed : (n : ℕ) → AreKnown c → nth_handed n c ≡ option_and_then (handed c) (slice_get c.pages n)
   nth-handed n known = nth-all n c.pages known
 
-module _ {V : Type 0} (order : List (ℕ × V)) (held : List (Option PagePlace)) (pages : List (List ℕ)) (sound : IsSound 1024 order held pages) (n : ℕ) where
+module _ {V : Type 0} {count : ℕ} (order : List (ℕ × V)) (held : List (Option PagePlace)) (pages : List (List ℕ)) (sound : IsSound count order held pages) (n : ℕ) where
   -- where the order has no such place
   pub nth-none : None ≡ option_map (λ e. e.0) (slice_get order n) → None ≡ slice_get (shown order held pages) n
   nth-none is = sym (nth-shown held pages n order sound.free_last ∙ by (slice_get order n) is)
@@ -58,12 +58,12 @@ module _ {V : Type 0} (order : List (ℕ × V)) (held : List (Option PagePlace))
       by None is = refl
       by (Some e) is = cc
 
-  pub nth-low : (slot : ℕ) → Some slot ≡ option_map (λ e. e.0) (slice_get order n) → slot < 1024
+  pub nth-low : (slot : ℕ) → Some slot ≡ option_map (λ e. e.0) (slice_get order n) → slot < count
   nth-low slot is = within n order sound.apart is
     where
-      within : (n : ℕ) (order : List (ℕ × V)) → AreApart 1024 order → Some slot ≡ option_map (λ e. e.0) (slice_get order n) → slot < 1024
+      within : (n : ℕ) (order : List (ℕ × V)) → AreApart count order → Some slot ≡ option_map (λ e. e.0) (slice_get order n) → slot < count
       within n [] a is = cc
-      within zero (e ∷ order) a is = let same : slot ≡ e.0 = cc in subst (λ s. s < 1024) (sym same) a.0
+      within zero (e ∷ order) a is = let same : slot ≡ e.0 = cc in subst (λ s. s < count) (sym same) a.0
       within (suc n) (e ∷ order) a is = within n order a.2 is
 
   -- where the slot there is free

@@ -12,7 +12,7 @@ use Rattle.page_cache.specs.Sorted.{is_before, held_at, freed, is_within, IsSort
 use Rattle.page_cache.proofs.PageOrder.{starts-ends, in-file-held, file-starts-held, file-ends-held, within-all}
 use Rattle.page_cache.proofs.SortedSlots.{page-at, apart}
 
-module _ (file : List ℕ) (low : ℕ) (high : Option ℕ) (ordered : IfSome high (λ h. low ≤ h)) (held : List (Option PagePlace)) (sorted : List ℕ) (s : IsSorted held sorted)
+module _ {count : ℕ} (file : List ℕ) (low : ℕ) (high : Option ℕ) (ordered : IfSome high (λ h. low ≤ h)) (held : List (Option PagePlace)) (sorted : List ℕ) (s : IsSorted count held sorted)
     (from to : ℕ) (ends : AreEnds file low high held sorted from to) where
   pub ends-in_order : from ≤ to
   ends-in_order = elim (cases_lt to from) [
@@ -56,9 +56,9 @@ module _ (file : List ℕ) (low : ℕ) (high : Option ℕ) (ordered : IfSome hig
   at-run : (k : ℕ) → k < to - from → get_or run k 0 ≡ get_or sorted (from + k) 0
   at-run k small = get_or-take (to - from) (drop from sorted) k 0 small ∙ get_or-drop from sorted k 0
 
-  run-low : (k : ℕ) → k < length run → get_or run k 0 < 1024
+  run-low : (k : ℕ) → k < length run → get_or run k 0 < count
   run-low k within = let inside = ends.end.inside in let n = length-run in
-      subst (λ t. t < 1024) (sym (at-run k (omega arith))) (s.low (from + k) (omega arith))
+      subst (λ t. t < count) (sym (at-run k (omega arith))) (s.low (from + k) (omega arith))
 
   run-its : (k : ℕ) → k < length run → is_within file low high (get_or held (get_or run k 0) None) ≡ true
   run-its k within = let n = length-run in ap (λ t. is_within file low high (get_or held t None)) (at-run k (omega arith)) ∙ between-its (from + k) (omega arith) (omega arith)
@@ -71,18 +71,18 @@ module _ (file : List ℕ) (low : ℕ) (high : Option ℕ) (ordered : IfSome hig
   some-held None h = cc
   some-held (Some p) h = refl
 
-  run-every : (slot : ℕ) → slot < 1024 → is_within file low high (get_or held slot None) ≡ true → (k : ℕ) × (k < length run) × (get_or run k 0 ≡ slot)
+  run-every : (slot : ℕ) → slot < count → is_within file low high (get_or held slot None) ≡ true → (k : ℕ) × (k < length run) × (get_or run k 0 ≡ slot)
   run-every slot small is =
       let it = s.every slot small (some-held (get_or held slot None) is) in
       let there = its-between it.0 it.1 (ap (λ t. is_within file low high (get_or held t None)) it.2 ∙ is) in
       let above = there.0 in let below = there.1 in let n = length-run in
       (it.0 - from, omega arith, at-run (it.0 - from) (omega arith) ∙ ap (λ t. get_or sorted t 0) (omega arith) ∙ it.2)
 
-  pub is-run : IsRun file low high held run
+  pub is-run : IsRun count file low high held run
   is-run = record { low_slots = run-low; within = run-its; apart = run-apart; every = run-every }
 
 -- the slots of all pages of a file are freed
-module _ (file : List ℕ) (held : List (Option PagePlace)) (sorted : List ℕ) (s : IsSorted held sorted) (from to : ℕ) (ends : AreEnds file 0 None held sorted from to) where
+module _ {count : ℕ} (file : List ℕ) (held : List (Option PagePlace)) (sorted : List ℕ) (s : IsSorted count held sorted) (from to : ℕ) (ends : AreEnds file 0 None held sorted from to) where
   pub in_order : from ≤ to
   in_order = ends-in_order file 0 None tt held sorted s from to ends
 
@@ -165,7 +165,7 @@ module _ (file : List ℕ) (held : List (Option PagePlace)) (sorted : List ℕ) 
       by true e h = cc
       by false e h = (h, refl)
 
-  rest-every : (slot : ℕ) → slot < 1024 → is_some (get_or after slot None) ≡ true → (k : ℕ) × (k < length rest) × (get_or rest k 0 ≡ slot)
+  rest-every : (slot : ℕ) → slot < count → is_some (get_or after slot None) ≡ true → (k : ℕ) × (k < length rest) × (get_or rest k 0 ≡ slot)
   rest-every slot low h =
       let was = freed-held (get_or held slot None) (ap is_some (sym (after-at slot)) ∙ h) in
       let it = s.every slot low was.0 in
@@ -180,10 +180,10 @@ module _ (file : List ℕ) (held : List (Option PagePlace)) (sorted : List ℕ) 
         ]
       ]
 
-  pub sorted-rest : IsSorted after rest
+  pub sorted-rest : IsSorted count after rest
   sorted-rest = record {
     slots = length-map held (freed file) ∙ s.slots;
-    low = λ k h. let it = stood k h in subst (λ t. t < 1024) (sym it.1.1) (s.low it.0 it.1.0);
+    low = λ k h. let it = stood k h in subst (λ t. t < count) (sym it.1.1) (s.low it.0 it.1.0);
     holds = λ k h. let it = stood k h in ap is_some it.1.2 ∙ s.holds it.0 it.1.0;
     rises = rest-rises;
     every = rest-every;

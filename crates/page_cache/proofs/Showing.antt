@@ -17,17 +17,17 @@ value-of test (e ∷ pages) = (elim (test e.0) as (λ y. cond y (Some e.1) (look
   | false ↦ value-of test pages
 ])
 
-module _ {V : Type 0} (order : List (ℕ × V)) (held : List (Option PagePlace)) (pages : List (List ℕ)) (sound : IsSound 1024 order held pages) (file : List ℕ) (index : ℕ) where
+module _ {V : Type 0} {count : ℕ} (order : List (ℕ × V)) (held : List (Option PagePlace)) (pages : List (List ℕ)) (sound : IsSound count order held pages) (file : List ℕ) (index : ℕ) where
   -- where no slot holds the page
-  module _ (none : HoldsNone (holds_page file index) held) where
+  module _ (none : HoldsNone count (holds_page file index) held) where
     pub promoted-none : shown order held pages ≡ promoted (is_place file index) (shown order held pages)
-    promoted-none = rw (shown-absent held pages 1024 file index order sound.apart none) refl
+    promoted-none = rw (shown-absent held pages count file index order sound.apart none) refl
 
     pub lookup-none : None ≡ lookup (is_place file index) (shown order held pages)
-    lookup-none = sym (value-of (is_place file index) (shown order held pages) ∙ ap (option_map (λ e. e.1)) (shown-absent held pages 1024 file index order sound.apart none))
+    lookup-none = sym (value-of (is_place file index) (shown order held pages) ∙ ap (option_map (λ e. e.1)) (shown-absent held pages count file index order sound.apart none))
 
   -- where a slot holds it
-  module _ (slot : ℕ) (low : slot < 1024) (holds : holds_page file index (get_or held slot None) ≡ true) where
+  module _ (slot : ℕ) (low : slot < count) (holds : holds_page file index (get_or held slot None) ≡ true) where
     abbrev place : PagePlace
     place = record { file = file; index = index }
 
@@ -44,18 +44,18 @@ module _ {V : Type 0} (order : List (ℕ × V)) (held : List (Option PagePlace))
     same-pages = set-get_or pages slot []
 
     entry : lookup_entry (is_place file index) (shown order held pages) ≡ Some (place, bytes)
-    entry = shown-lookup held pages 1024 slot place order sound.apart low is sound.once (sound.every slot low)
+    entry = shown-lookup held pages count slot place order sound.apart low is sound.once (sound.every slot low)
 
-    pub sound-promoted : IsSound 1024 (promoted (nat_eq slot) order) held pages
-    sound-promoted = subst (λ h. IsSound 1024 (promoted (nat_eq slot) order) h pages) same-held
-        (subst (λ b. IsSound 1024 (promoted (nat_eq slot) order) (set held slot (Some place)) b) same-pages
-        (sound-front 1024 order held pages sound slot low place bytes (alone-found 1024 order held pages sound slot low place bytes is)))
+    pub sound-promoted : IsSound count (promoted (nat_eq slot) order) held pages
+    sound-promoted = subst (λ h. IsSound count (promoted (nat_eq slot) order) h pages) same-held
+        (subst (λ b. IsSound count (promoted (nat_eq slot) order) (set held slot (Some place)) b) same-pages
+        (sound-front count order held pages sound slot low place bytes (alone-found count order held pages sound slot low place bytes is)))
 
     pub shown-promoted : shown (promoted (nat_eq slot) order) held pages ≡ promoted (is_place file index) (shown order held pages)
     shown-promoted =
         (λ i. shown (promoted (nat_eq slot) order) (sym same-held i) (sym same-pages i))
-        ∙ shown-front 1024 order held pages sound slot low place bytes (alone-found 1024 order held pages sound slot low place bytes is)
-        ∙ ap (λ l. (place, bytes) ∷ l) (shown-rest held pages 1024 slot place order sound.apart low is sound.once)
+        ∙ shown-front count order held pages sound slot low place bytes (alone-found count order held pages sound slot low place bytes is)
+        ∙ ap (λ l. (place, bytes) ∷ l) (shown-rest held pages count slot place order sound.apart low is sound.once)
         ∙ rw entry refl
 
     pub lookup-shown : Some (get_or pages slot []) ≡ lookup (is_place file index) (shown order held pages)

@@ -24,7 +24,7 @@ page-held (Some p) h = (p, refl)
 pub not-before-itself : (held : Option PagePlace) (p : PagePlace) → held ≡ Some p → is_before p.file (Some p.index) held ≡ false
 not-before-itself held p is = rw is (before-itself p)
 
-module _ (held : List (Option PagePlace)) (sorted : List ℕ) (s : IsSorted held sorted) where
+module _ {count : ℕ} (held : List (Option PagePlace)) (sorted : List ℕ) (s : IsSorted count held sorted) where
   pub page-at : (i : ℕ) → i < length sorted → (p : PagePlace) × (held_at held sorted i ≡ Some p)
   page-at i within = page-held (held_at held sorted i) (s.holds i within)
 
@@ -62,7 +62,7 @@ module _ (held : List (Option PagePlace)) (sorted : List ℕ) (s : IsSorted held
     }
 
   -- the slot of a page stands where the pages before it end
-  pub found : (place : PagePlace) (at slot : ℕ) → IsGap held sorted place.file (Some place.index) at → slot < 1024 → get_or held slot None ≡ Some place
+  pub found : (place : PagePlace) (at slot : ℕ) → IsGap held sorted place.file (Some place.index) at → slot < count → get_or held slot None ≡ Some place
       → (at < length sorted) × (get_or sorted at 0 ≡ slot)
   found place at slot gap low is =
       let it = s.every slot low (ap is_some is) in
@@ -78,7 +78,7 @@ module _ (held : List (Option PagePlace)) (sorted : List ℕ) (s : IsSorted held
 
   -- a page that isn't held there is nowhere held
   pub absent : (file : List ℕ) (index at : ℕ) → IsGap held sorted file (Some index) at
-      → (at < length sorted → holds_page file index (held_at held sorted at) ≡ false) → (slot : ℕ) → slot < 1024 → holds_page file index (get_or held slot None) ≡ false
+      → (at < length sorted → holds_page file index (held_at held sorted at) ≡ false) → (slot : ℕ) → slot < count → holds_page file index (get_or held slot None) ≡ false
   absent file index at gap other slot low = by (holds_page file index (get_or held slot None)) refl
     where
       place : PagePlace
@@ -92,30 +92,30 @@ module _ (held : List (Option PagePlace)) (sorted : List ℕ) (s : IsSorted held
           let not_here = other f.0 in cc)
 
 -- The same of lists that were read.
-module _ (held held_read : List (Option PagePlace)) (sorted sorted_read : List ℕ) (s : IsSorted held sorted) (is_held : held_read ≡ held) (is_sorted : sorted_read ≡ sorted) where
+module _ {count : ℕ} (held held_read : List (Option PagePlace)) (sorted sorted_read : List ℕ) (s : IsSorted count held sorted) (is_held : held_read ≡ held) (is_sorted : sorted_read ≡ sorted) where
   -- the slot at a place
-  pub slot-read : (at slot : ℕ) → at < length sorted_read → slot ≡ get_or sorted_read at slot → (slot < 1024) × (at < length sorted) × (get_or sorted at 0 ≡ slot)
+  pub slot-read : (at slot : ℕ) → at < length sorted_read → slot ≡ get_or sorted_read at slot → (slot < count) × (at < length sorted) × (get_or sorted at 0 ≡ slot)
   slot-read at slot within was =
       let inside : at < length sorted = rw is_sorted at within in
       let is : get_or sorted at 0 ≡ slot = get_or_default sorted at 0 slot inside ∙ ap (λ l. get_or l at slot) (sym is_sorted) ∙ sym was in
-      (subst (λ n. n < 1024) is (s.low at inside), inside, is)
+      (subst (λ n. n < count) is (s.low at inside), inside, is)
 
   module _ (seen : List (Option PagePlace)) (view : held ≡ seen) (file : List ℕ) (index at : ℕ) (gap : IsGap held_read sorted_read file (Some index) at) where
-    absent-seen : (at < length sorted → holds_page file index (held_at held sorted at) ≡ false) → HoldsNone (holds_page file index) seen
+    absent-seen : (at < length sorted → holds_page file index (held_at held sorted at) ≡ false) → HoldsNone count (holds_page file index) seen
     absent-seen other slot low = subst (λ h. holds_page file index (get_or h slot None) ≡ false) view (absent held sorted s file index at (rw (is_held, is_sorted) at gap) other slot low)
 
     -- where none stands a page isn't held
-    pub find-past : length sorted_read ≤ at → HoldsNone (holds_page file index) seen
+    pub find-past : length sorted_read ≤ at → HoldsNone count (holds_page file index) seen
     find-past past = let end : length sorted ≤ at = rw is_sorted at past in absent-seen (λ within. absurd (omega arith))
 
     -- where another one stands
     pub find-other : (slot : ℕ) → at < length sorted_read → slot ≡ get_or sorted_read at slot → holds_page file index (get_or seen slot None) ≡ false
-        → HoldsNone (holds_page file index) seen
+        → HoldsNone count (holds_page file index) seen
     find-other slot within was differs = absent-seen (λ inside.
         ap (λ n. holds_page file index (get_or held n None)) (slot-read at slot within was).2 ∙ subst (λ h. holds_page file index (get_or h slot None) ≡ false) (sym view) differs)
 
 -- a slot is freed
-module _ (held : List (Option PagePlace)) (sorted : List ℕ) (s : IsSorted held sorted) (at slot : ℕ) (within : at < length sorted) (is : get_or sorted at 0 ≡ slot) where
+module _ {count : ℕ} (held : List (Option PagePlace)) (sorted : List ℕ) (s : IsSorted count held sorted) (at slot : ℕ) (within : at < length sorted) (is : get_or sorted at 0 ≡ slot) where
   abbrev left : List ℕ
   left = remove sorted at
 
@@ -148,9 +148,9 @@ module _ (held : List (Option PagePlace)) (sorted : List ℕ) (s : IsSorted held
   held-left k low = ap (λ n. get_or without n None) (at-left k) ∙ get_or-set_other held slot (get_or sorted (was k) 0) None None (other (was k) (was-low k low) (omega arith))
 
   slot-low : slot < length held
-  slot-low = let h = subst (λ n. n < 1024) is (s.low at within) in let l = s.slots in omega arith
+  slot-low = let h = subst (λ n. n < count) is (s.low at within) in let l = s.slots in omega arith
 
-  every-left : (t : ℕ) → t < 1024 → is_some (get_or without t None) ≡ true → (i : ℕ) × (i < length left) × (get_or left i 0 ≡ t)
+  every-left : (t : ℕ) → t < count → is_some (get_or without t None) ≡ true → (i : ℕ) × (i < length left) × (get_or left i 0 ≡ t)
   every-left t low h = elim (cases_eq t slot) [
     | inl e ↦ absurd (let none : get_or without t None ≡ None = ap (λ n. get_or without n None) e ∙ get_or-set_same held slot None None slot-low in let x = rw none at h in cc)
     | inr n ↦
@@ -165,19 +165,19 @@ module _ (held : List (Option PagePlace)) (sorted : List ℕ) (s : IsSorted held
         ]
   ]
 
-  pub sorted-without : IsSorted without left
+  pub sorted-without : IsSorted count without left
   sorted-without = record {
     slots = length-set held slot None ∙ s.slots;
-    low = λ k h. subst (λ n. n < 1024) (sym (at-left k)) (s.low (was k) (was-low k h));
+    low = λ k h. subst (λ n. n < count) (sym (at-left k)) (s.low (was k) (was-low k h));
     holds = λ k h. ap is_some (held-left k h) ∙ s.holds (was k) (was-low k h);
     rises = λ i j p less h e. ap (is_before p.file (Some p.index)) (held-left i (omega arith)) ∙ s.rises (was i) (was j) p (omega arith) (was-low j h) (sym (held-left j h) ∙ e);
     every = every-left;
   }
 
 -- a free slot takes a page
-module _ (held : List (Option PagePlace)) (sorted : List ℕ) (s : IsSorted held sorted) (at slot : ℕ) (place : PagePlace) (low : slot < 1024)
+module _ {count : ℕ} (held : List (Option PagePlace)) (sorted : List ℕ) (s : IsSorted count held sorted) (at slot : ℕ) (place : PagePlace) (low : slot < count)
     (free : get_or held slot None ≡ None) (gap : IsGap held sorted place.file (Some place.index) at)
-    (alone : (t : ℕ) → t < 1024 → get_or held t None ≢ Some place) where
+    (alone : (t : ℕ) → t < count → get_or held t None ≢ Some place) where
   abbrev more : List ℕ
   more = insert sorted at slot
 
@@ -236,10 +236,10 @@ module _ (held : List (Option PagePlace)) (sorted : List ℕ) (s : IsSorted held
         ]
   ]
 
-  low-more : (k : ℕ) → k < length more → get_or more k 0 < 1024
+  low-more : (k : ℕ) → k < length more → get_or more k 0 < count
   low-more k within = elim (cases_eq k at) [
-    | inl e ↦ subst (λ n. n < 1024) (sym (ap (λ i. get_or more i 0) e ∙ at-place)) low
-    | inr n ↦ subst (λ n. n < 1024) (sym (at-more k n)) (s.low (old k) (old-low k n within))
+    | inl e ↦ subst (λ n. n < count) (sym (ap (λ i. get_or more i 0) e ∙ at-place)) low
+    | inr n ↦ subst (λ n. n < count) (sym (at-more k n)) (s.low (old k) (old-low k n within))
   ]
 
   holds-more : (k : ℕ) → k < length more → is_some (held_at with_page more k) ≡ true
@@ -248,7 +248,7 @@ module _ (held : List (Option PagePlace)) (sorted : List ℕ) (s : IsSorted held
     | inr n ↦ ap is_some (held-more k n within) ∙ s.holds (old k) (old-low k n within)
   ]
 
-  every-more : (t : ℕ) → t < 1024 → is_some (get_or with_page t None) ≡ true → (i : ℕ) × (i < length more) × (get_or more i 0 ≡ t)
+  every-more : (t : ℕ) → t < count → is_some (get_or with_page t None) ≡ true → (i : ℕ) × (i < length more) × (get_or more i 0 ≡ t)
   every-more t small h = elim (cases_eq t slot) [
     | inl e ↦ let inside = gap.inside in (at, omega (arith, length-more), at-place ∙ sym e)
     | inr n ↦
@@ -260,7 +260,7 @@ module _ (held : List (Option PagePlace)) (sorted : List ℕ) (s : IsSorted held
         ]
   ]
 
-  pub sorted-with : IsSorted with_page more
+  pub sorted-with : IsSorted count with_page more
   sorted-with = record {
     slots = length-set held slot (Some place) ∙ s.slots;
     low = low-more;
@@ -270,38 +270,38 @@ module _ (held : List (Option PagePlace)) (sorted : List ℕ) (s : IsSorted held
   }
 
 -- where each entry is below a bound, what is found is
-below : (xs : List ℕ) → ((i : ℕ) → i < length xs → get_or xs i 0 < 1024) → (q : ℕ) → list_any (nat_eq q) xs ≡ true → q < 1024
-below [] all q any = cc
-below (x ∷ xs) all q any = by (nat_eq q x) refl any (λ h. below xs (λ i low. all (suc i) (omega arith)) q h)
+below : (count : ℕ) (xs : List ℕ) → ((i : ℕ) → i < length xs → get_or xs i 0 < count) → (q : ℕ) → list_any (nat_eq q) xs ≡ true → q < count
+below count [] all q any = cc
+below count (x ∷ xs) all q any = by (nat_eq q x) refl any (λ h. below count xs (λ i low. all (suc i) (omega arith)) q h)
   where
-    by : (b : Bool) → nat_eq q x ≡ b → (b || list_any (nat_eq q) xs) ≡ true → (list_any (nat_eq q) xs ≡ true → q < 1024) → q < 1024
-    by true t h rest = subst (λ n. n < 1024) (sym (eqb-true q x t)) (all 0 (omega arith))
+    by : (b : Bool) → nat_eq q x ≡ b → (b || list_any (nat_eq q) xs) ≡ true → (list_any (nat_eq q) xs ≡ true → q < count) → q < count
+    by true t h rest = subst (λ n. n < count) (sym (eqb-true q x t)) (all 0 (omega arith))
     by false t h rest = rest h
 
 -- no more slots than there are
-module _ (held : List (Option PagePlace)) (sorted : List ℕ) (s : IsSorted held sorted) where
+module _ {count : ℕ} (held : List (Option PagePlace)) (sorted : List ℕ) (s : IsSorted count held sorted) where
   eqb-apart : (m n : ℕ) → m ≢ n → nat_eq m n ≡ false
   eqb-apart m n other = grind (arith, nat_tests)
 
-  pub at-most : length sorted ≤ 1024
-  at-most = length-le_from_distinct_below sorted 1024
+  pub at-most : length sorted ≤ count
+  at-most = length-le_from_distinct_below sorted count
       (IsDistinct-from_apart nat_eq sorted (λ i j d less within. eqb-apart (get_or sorted i d) (get_or sorted j d)
       (λ same. apart held sorted s i j less within (sym (get_or_default_zero sorted i d (omega arith)) ∙ same ∙ get_or_default_zero sorted j d within))))
-      (λ q any. below sorted s.low q any)
+      (λ q any. below count sorted s.low q any)
 
 -- where every slot is free none is in the order
-pub sorted-none : (held : List (Option PagePlace)) → held ≡ replicate 1024 None → IsSorted held []
-sorted-none held free = record {
-  slots = ap length free ∙ length-replicate {A = Option PagePlace} 1024 None;
+pub sorted-none : (count : ℕ) (held : List (Option PagePlace)) → held ≡ replicate count None → IsSorted count held []
+sorted-none count held free = record {
+  slots = ap length free ∙ length-replicate {A = Option PagePlace} count None;
   low = λ i within. absurd (omega arith);
   holds = λ i within. absurd (omega arith);
   rises = λ i j place less within is. absurd (omega arith);
-  every = λ slot low some. absurd (let none : get_or held slot None ≡ None = ap (λ l. get_or l slot None) free ∙ get_or-replicate {A = Option PagePlace} 1024 slot None None low in let h = rw none at some in cc);
+  every = λ slot low some. absurd (let none : get_or held slot None ≡ None = ap (λ l. get_or l slot None) free ∙ get_or-replicate {A = Option PagePlace} count slot None None low in let h = rw none at some in cc);
 }
 
 -- once a slot is free its page is nowhere held
-pub alone-freed : (held : List (Option PagePlace)) (slot : ℕ) (place : PagePlace) → slot < length held → ((t : ℕ) → t < 1024 → get_or held t None ≡ Some place → t ≡ slot)
-    → (t : ℕ) → t < 1024 → get_or (set held slot None) t None ≢ Some place
+pub alone-freed : {count : ℕ} (held : List (Option PagePlace)) (slot : ℕ) (place : PagePlace) → slot < length held → ((t : ℕ) → t < count → get_or held t None ≡ Some place → t ≡ slot)
+    → (t : ℕ) → t < count → get_or (set held slot None) t None ≢ Some place
 alone-freed held slot place low alone t small is = elim (cases_eq t slot) [
   | inl e ↦ absurd (let none : get_or (set held slot None) t None ≡ None = ap (λ n. get_or (set held slot None) n None) e ∙ get_or-set_same held slot None None low in cc)
   | inr n ↦ absurd (n (alone t small (sym (get_or-set_other held slot t None None n) ∙ is)))

@@ -1,5 +1,5 @@
 -- What holds of the slots goes on holding, and what they show, after each thing that is done to them.
-use Rattle.std.proofs.Common.{◌≡◌, ◌≢◌, ◌<◌, ◌≤◌, ℕ, ◌+◌, ◌-◌, suc, true, false, nat_eq, inl, inr, List, [], ◌∷◌, ◌++◌, length, take, set, get_or, Option, Some, None, refl, sym, ap, ◌∙◌, subst, arith, length-append, append-nil}
+use Rattle.std.proofs.Common.{◌≡◌, ◌≢◌, ◌<◌, ◌≤◌, ℕ, ◌+◌, ◌-◌, zero, suc, true, false, nat_eq, inl, inr, List, [], ◌∷◌, ◌++◌, length, take, set, get_or, Option, Some, None, refl, sym, ap, ◌∙◌, subst, arith, length-append, append-nil}
 use Rattle.std.proofs.lemmas.List.{get_or-set_other, get_or-set_same, take_all, length-set}
 use Rattle.std.proofs.lemmas.Bool.{cases_eq}
 use Rattle.std.specs.Map.{lookup_entry, remove_entry}
@@ -164,30 +164,36 @@ module _ {V : Type 0} (n : ℕ) (order : List (ℕ × V)) (held : List (Option P
       ∙ ap (λ l. take (suc n) ((place, bytes) ∷ l)) (sym (shown-none held pages (suc n) place order sound.apart none))
 
 -- a page is put in front
-module _ {V : Type 0} (order : List (ℕ × V)) (held : List (Option PagePlace)) (pages : List (List ℕ)) (sound : IsSound 1024 order held pages)
-    (place : PagePlace) (bytes : List ℕ) (slot : ℕ) (chosen : IsSlotFor order held place slot) where
-  pub chosen-low : slot < 1024
-  chosen-low = elim chosen [
+module _ {V : Type 0} (order : List (ℕ × V)) (held : List (Option PagePlace)) (pages : List (List ℕ)) (place : PagePlace) (bytes : List ℕ) (slot : ℕ) where
+  pub chosen-low : (count : ℕ) → 0 < count → IsSound count order held pages → IsSlotFor count order held place slot → slot < count
+  chosen-low zero some sound chosen = absurd (omega arith)
+  chosen-low (suc n) some sound chosen = elim chosen [
     | inl found ↦ found.0
-    | inr new ↦ low-last 1023 order held pages sound place bytes slot new.1.0 new.1.1 new.0
+    | inr new ↦ low-last n order held pages sound place bytes slot new.1.0 new.1.1 new.0
   ]
 
-  pub chosen-alone : (t : ℕ) → t < 1024 → get_or held t None ≡ Some place → t ≡ slot
-  chosen-alone t within holds = elim chosen [
-    | inl found ↦ alone-found 1024 order held pages sound slot found.0 place bytes (held-place place (get_or held slot None) found.1) t within holds
-    | inr new ↦ alone-last 1023 order held pages sound place bytes slot new.1.0 new.1.1 new.0 t within holds
+  pub chosen-alone : (count : ℕ) → 0 < count → IsSound count order held pages → IsSlotFor count order held place slot → (t : ℕ) → t < count → get_or held t None ≡ Some place → t ≡ slot
+  chosen-alone zero some sound chosen = absurd (omega arith)
+  chosen-alone (suc n) some sound chosen = elim chosen [
+    | inl found ↦ alone-found (suc n) order held pages sound slot found.0 place bytes (held-place place (get_or held slot None) found.1)
+    | inr new ↦ alone-last n order held pages sound place bytes slot new.1.0 new.1.1 new.0
   ]
 
-  pub sound-put : IsSound 1024 (promoted (nat_eq slot) order) (set held slot (Some place)) (set pages slot bytes)
-  sound-put = elim chosen [
-    | inl found ↦ sound-front 1024 order held pages sound slot found.0 place bytes
-        (alone-found 1024 order held pages sound slot found.0 place bytes (held-place place (get_or held slot None) found.1))
-    | inr new ↦ sound-front 1024 order held pages sound slot (low-last 1023 order held pages sound place bytes slot new.1.0 new.1.1 new.0) place bytes
-        (alone-last 1023 order held pages sound place bytes slot new.1.0 new.1.1 new.0)
-  ]
+  pub sound-put : (count : ℕ) → 0 < count → IsSound count order held pages → IsSlotFor count order held place slot
+      → IsSound count (promoted (nat_eq slot) order) (set held slot (Some place)) (set pages slot bytes)
+  sound-put count some sound chosen =
+      sound-front count order held pages sound slot (chosen-low count some sound chosen) place bytes (chosen-alone count some sound chosen)
 
-  pub shown-put : shown (promoted (nat_eq slot) order) (set held slot (Some place)) (set pages slot bytes) ≡ fronted place bytes (shown order held pages)
-  shown-put = elim chosen [
-    | inl found ↦ front-found 1024 order held pages sound slot found.0 place bytes (held-place place (get_or held slot None) found.1)
-    | inr new ↦ front-last 1023 order held pages sound place bytes slot new.1.0 new.1.1 new.0
-  ]
+  pub shown-put : (count : ℕ) → 0 < count → IsSound count order held pages → IsSlotFor count order held place slot
+      → shown (promoted (nat_eq slot) order) (set held slot (Some place)) (set pages slot bytes) ≡ fronted count place bytes (shown order held pages)
+  shown-put zero some sound chosen = absurd (omega arith)
+  shown-put (suc n) some sound chosen =
+      let whole : shown (promoted (nat_eq slot) order) (set held slot (Some place)) (set pages slot bytes)
+      ≡ take (suc n) ((place, bytes) ∷ remove_entry (is_place place.file place.index) (shown order held pages)) = elim chosen [
+        | inl found ↦ front-found (suc n) order held pages sound slot found.0 place bytes (held-place place (get_or held slot None) found.1)
+        | inr new ↦ front-last n order held pages sound place bytes slot new.1.0 new.1.1 new.0
+      ] in
+      whole ∙ ap (λ k. (place, bytes) ∷ take k (remove_entry (is_place place.file place.index) (shown order held pages))) (one-less n)
+    where
+      one-less : (n : ℕ) → n ≡ suc n - 1
+      one-less n = omega arith

@@ -94,7 +94,7 @@ module _ (f file : List ℕ) (c : Pages) where
       place = record { file = file; index = index }
 
       by : (o : Option FileState) → state_of file c ≡ o
-          → state_of f (option_map_or (λ state. with_state file (Some stamp) state.mark (record c { pages = fronted place bytes c.pages })) o c)
+          → state_of f (option_map_or (λ state. with_state file (Some stamp) state.mark (record c { pages = fronted c.room place bytes c.pages })) o c)
           ≡ (if same f file then option_map (state_kept stamp) o else state_of f c)
       by None is = as-known None is
       by (Some state) is = state-with (Some stamp) state.mark

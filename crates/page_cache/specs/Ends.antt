@@ -1,9 +1,9 @@
 -- What a cache is once a page that it showed is let go.
-use Rattle.std.specs.Prelude.{◌≡◌, ⊤, List, ℕ}
+use Rattle.std.specs.Prelude.{◌≡◌, ⊤}
 use Rattle.std.specs.Borrow.{Fml, MutBor, follows_so}
 use mathlib.Core.Option.{none}
 use Rattle.page_cache.specs.Pages.{Pages}
-use Rattle.page_cache.specs.declared.place.PagePlace.{PagePlace}
+use Rattle.page_cache.specs.Slots.{SlotPages}
 use Rattle.page_cache.specs.contracts.cache.PageCache.{the_row}
 use Rattle.page_cache.specs.contracts.slots.Slots.{the_row as slots_row}
 
@@ -11,6 +11,6 @@ module _ (h : MutBor Pages) where
   abbrev pub ends_with : Pages → Fml
   ends_with after = follows_so the_row the_row h.ghost_name none (λ _ _. ⊤) (λ n. n ≡ after)
 
-module _ (h : MutBor (List (PagePlace × List ℕ))) where
-  abbrev pub shows_with : List (PagePlace × List ℕ) → Fml
+module _ (h : MutBor SlotPages) where
+  abbrev pub shows_with : SlotPages → Fml
   shows_with after = follows_so slots_row slots_row h.ghost_name none (λ _ _. ⊤) (λ n. n ≡ after)

@@ -1,5 +1,5 @@
 -- Kept pages of files: the file's state under which they are believed, and the calls that are too old to tell of it.
-use Rattle.std.specs.Prelude.{ℕ, Bool, true, false, not, ◌==◌, ◌&&◌, ◌||◌, nat_eq, nat_le, max, if◌then◌else◌, List, [], ◌∷◌, take, map, filter, filter_map, slice_get, Option, Some, None, option_map, option_and_then}
+use Rattle.std.specs.Prelude.{ℕ, ◌-◌, Bool, true, false, not, ◌==◌, ◌&&◌, ◌||◌, nat_eq, nat_le, max, if◌then◌else◌, List, [], ◌∷◌, take, map, filter, filter_map, slice_get, Option, Some, None, option_map, option_and_then}
 use Rattle.std.specs.Option.{option_map_or}
 use Rattle.std.specs.Cmp.Lexicographic.{pointwise}
 use Rattle.std.specs.Map.{lookup, remove_entry}
@@ -15,14 +15,19 @@ use Rattle.page_cache.specs.declared.state.Keep.TheVariants.{Stale, Differs, Kep
 use Rattle.page_cache.specs.declared.place.PagePlace.{PagePlace}
 use Rattle.page_cache.specs.Bytes.{put_page, cut_page}
 
--- the files that were opened, in the order of their first opens, and the kept pages, the one that was used last in front
+-- for how many pages there is room, the files that were opened, in the order of their first opens, and the kept pages, the one that was used last in front
 pub record Pages : Type 0 where
+  pub room : ℕ
   pub files : List (List ℕ × FileState)
   pub pages : List (PagePlace × List ℕ)
 
 -- no file was opened
+abbrev pub nothing_with : ℕ → Pages
+nothing_with room = record { room = room; files = []; pages = [] }
+
+-- the same with room for 1,024 pages
 abbrev pub nothing_kept : Pages
-nothing_kept = record { files = []; pages = [] }
+nothing_kept = nothing_with 1024
 
 -- what is known of a file
 abbrev pub state_of : List ℕ → Pages → Option FileState
@@ -95,14 +100,14 @@ answer_over (Some state) stamp sent = if nat_le sent state.mark then Stale else 
 abbrev pub keep_answer : List ℕ → Stamp → ℕ → Pages → Keep
 keep_answer file stamp sent c = answer_over (state_of file c) stamp sent
 
--- the page in front, in place of an earlier one, and at most 1,024 stay
-abbrev pub fronted : PagePlace → List ℕ → List (PagePlace × List ℕ) → List (PagePlace × List ℕ)
-fronted place bytes pages = take 1024 ((place, bytes) ∷ remove_entry (is_place place.file place.index) pages)
+-- the page in front, in place of an earlier one; of the others stay at most so many as there is room for beside it
+abbrev pub fronted : ℕ → PagePlace → List ℕ → List (PagePlace × List ℕ) → List (PagePlace × List ℕ)
+fronted room place bytes pages = (place, bytes) ∷ take (room - 1) (remove_entry (is_place place.file place.index) pages)
 
 -- after a page was kept
 abbrev pub kept : Stamp → PagePlace → List ℕ → Pages → Pages
 kept stamp place bytes c =
-    option_map_or (λ state. with_state place.file (Some stamp) state.mark (record c { pages = fronted place bytes c.pages })) (state_of place.file c) c
+    option_map_or (λ state. with_state place.file (Some stamp) state.mark (record c { pages = fronted c.room place bytes c.pages })) (state_of place.file c) c
 
 -- after a page was offered
 abbrev pub after_keep : Keep → Stamp → PagePlace → List ℕ → Pages → Pages

@@ -6,6 +6,15 @@ use Rattle.lru.specs.LruCache.{last_entry}
 use Rattle.page_cache.specs.declared.place.PagePlace.{PagePlace}
 use Rattle.page_cache.specs.Pages.{is_place}
 
+-- the pages that slots hold: how many slots there are, and the pages, the one that was used last in front
+pub record SlotPages : Type 0 where
+  pub room : ℕ
+  pub pages : List (PagePlace × List ℕ)
+
+-- none of so many slots holds a page
+abbrev pub no_pages : ℕ → SlotPages
+no_pages room = record { room = room; pages = [] }
+
 -- whether a slot holds this page
 abbrev pub holds_page : List ℕ → ℕ → Option PagePlace → Bool
 holds_page file index held = option_map_or (is_place file index) held false
@@ -19,13 +28,13 @@ abbrev pub changed_bytes : List ℕ → (ℕ → List ℕ → List ℕ) → Opti
 changed_bytes file change held bytes = option_map_or (λ index. change index bytes) (index_in file held) bytes
 
 -- no slot passes
-abbrev pub HoldsNone : (Option PagePlace → Bool) → List (Option PagePlace) → Type 0
-HoldsNone test held = (slot : ℕ) → slot < 1024 → test (get_or held slot None) ≡ false
+abbrev pub HoldsNone : ℕ → (Option PagePlace → Bool) → List (Option PagePlace) → Type 0
+HoldsNone count test held = (slot : ℕ) → slot < count → test (get_or held slot None) ≡ false
 
 -- what a search for a page answers
-abbrev pub FindsPage : List ℕ → ℕ → List (Option PagePlace) → Option ℕ → Type 0
-FindsPage file index held result =
-    MatchOption result (HoldsNone (holds_page file index) held) (λ slot. (slot < 1024) × (holds_page file index (get_or held slot None) ≡ true))
+abbrev pub FindsPage : ℕ → List ℕ → ℕ → List (Option PagePlace) → Option ℕ → Type 0
+FindsPage count file index held result =
+    MatchOption result (HoldsNone count (holds_page file index) held) (λ slot. (slot < count) × (holds_page file index (get_or held slot None) ≡ true))
 
 -- a slot's page goes before the others, if it holds one
 abbrev pub shown_at : Option PagePlace → List ℕ → List (PagePlace × List ℕ) → List (PagePlace × List ℕ)
@@ -79,7 +88,7 @@ module _ {V : Type 0} where
     pub free_last : FreeLast order held
 
   -- the slot that holds a page, or else the last one
-  abbrev pub IsSlotFor : List (ℕ × V) → List (Option PagePlace) → PagePlace → ℕ → Type 0
-  IsSlotFor order held place slot =
-      ((slot < 1024) × (holds_page place.file place.index (get_or held slot None) ≡ true))
-      ⊎ (HoldsNone (holds_page place.file place.index) held × ((value : V) × (last_entry order ≡ Some (slot, value))))
+  abbrev pub IsSlotFor : ℕ → List (ℕ × V) → List (Option PagePlace) → PagePlace → ℕ → Type 0
+  IsSlotFor count order held place slot =
+      ((slot < count) × (holds_page place.file place.index (get_or held slot None) ≡ true))
+      ⊎ (HoldsNone count (holds_page place.file place.index) held × ((value : V) × (last_entry order ≡ Some (slot, value))))

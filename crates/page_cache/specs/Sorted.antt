@@ -35,13 +35,13 @@ abbrev pub is_before_at : List ℕ → Option ℕ → List (Option PagePlace) �
 is_before_at file bound held sorted i = nat_lt i (length sorted) && is_before file bound (held_at held sorted i)
 
 -- The slots that hold pages, in the order of the pages, each once.
-pub record IsSorted (held : List (Option PagePlace)) (sorted : List ℕ) : Type 0 where
-  pub slots : length held ≡ 1024
-  pub low : (i : ℕ) → i < length sorted → get_or sorted i 0 < 1024
+pub record IsSorted (count : ℕ) (held : List (Option PagePlace)) (sorted : List ℕ) : Type 0 where
+  pub slots : length held ≡ count
+  pub low : (i : ℕ) → i < length sorted → get_or sorted i 0 < count
   pub holds : (i : ℕ) → i < length sorted → is_some (held_at held sorted i) ≡ true
   pub rises : (i j : ℕ) (place : PagePlace) → i < j → j < length sorted → held_at held sorted j ≡ Some place
       → is_before place.file (Some place.index) (held_at held sorted i) ≡ true
-  pub every : (slot : ℕ) → slot < 1024 → is_some (get_or held slot None) ≡ true → (i : ℕ) × (i < length sorted) × (get_or sorted i 0 ≡ slot)
+  pub every : (slot : ℕ) → slot < count → is_some (get_or held slot None) ≡ true → (i : ℕ) × (i < length sorted) × (get_or sorted i 0 ≡ slot)
 
 -- how many of the slots stand before a place
 pub record IsGap (held : List (Option PagePlace)) (sorted : List ℕ) (file : List ℕ) (bound : Option ℕ) (at : ℕ) : Type 0 where
@@ -54,11 +54,11 @@ abbrev pub is_within : List ℕ → ℕ → Option ℕ → Option PagePlace → 
 is_within file low high held = option_map_or (λ index. not (nat_lt index low) && is_below index high) (index_in file held) false
 
 -- The slots that hold these pages of a file, each once.
-pub record IsRun (file : List ℕ) (low : ℕ) (high : Option ℕ) (held : List (Option PagePlace)) (run : List ℕ) : Type 0 where
-  pub low_slots : (i : ℕ) → i < length run → get_or run i 0 < 1024
+pub record IsRun (count : ℕ) (file : List ℕ) (low : ℕ) (high : Option ℕ) (held : List (Option PagePlace)) (run : List ℕ) : Type 0 where
+  pub low_slots : (i : ℕ) → i < length run → get_or run i 0 < count
   pub within : (i : ℕ) → i < length run → is_within file low high (get_or held (get_or run i 0) None) ≡ true
   pub apart : (i j : ℕ) → i < j → j < length run → get_or run i 0 ≢ get_or run j 0
-  pub every : (slot : ℕ) → slot < 1024 → is_within file low high (get_or held slot None) ≡ true → (i : ℕ) × (i < length run) × (get_or run i 0 ≡ slot)
+  pub every : (slot : ℕ) → slot < count → is_within file low high (get_or held slot None) ≡ true → (i : ℕ) × (i < length run) × (get_or run i 0 ≡ slot)
 
 -- the places of the order between which these pages of a file stand
 pub record AreEnds (file : List ℕ) (low : ℕ) (high : Option ℕ) (held : List (Option PagePlace)) (sorted : List ℕ) (from to : ℕ) : Type 0 where

@@ -13,9 +13,9 @@ same_place p q = is_place p.file p.index q
 abbrev pub AreKnown : Pages → Type 0
 AreKnown c = All (λ p. IsSome (known_of p.0.file c)) c.pages
 
--- Each kept page has at most 4,096 bytes and is kept once, there are at most 1,024, and the state of each one's file is known.
+-- Each kept page has at most 4,096 bytes and is kept once, there are at most so many as there is room for, and the state of each one's file is known.
 pub record IsSound (c : Pages) : Type 0 where
   pub fits : All (λ p. length p.1 ≤ 4096) c.pages
-  pub few : length c.pages ≤ 1024
+  pub few : length c.pages ≤ c.room
   pub apart : IsDistinct same_place (keys_of c.pages)
   pub known : AreKnown c

@@ -1,9 +1,9 @@
 //! The pages of files.
 
-ghost use Rattle.std.specs.Prelude.{◌≡◌, ◌<◌, ◌≤◌, ◌/◌, length, IfOk, OnOk, OnErr, None, Some, List, ℕ, [], option_map};
+ghost use Rattle.std.specs.Prelude.{◌≡◌, ◌<◌, ◌≤◌, ◌/◌, length, IfOk, IfSome, OnOk, OnErr, None, Some, List, ℕ, [], option_map};
 ghost use Rattle.std.specs.Borrow.{sem};
 ghost use Rattle.page_cache.specs.Bytes.{resized, put_at, page_at, put_page, cut_page};
-ghost use Rattle.page_cache.specs.Pages.{nothing_kept, state_of, known_of, mark_of, page_of, shows_page, nth_handed, opened, keep_answer, after_keep, saw, wrote, cut};
+ghost use Rattle.page_cache.specs.Pages.{nothing_kept, nothing_with, state_of, known_of, mark_of, page_of, shows_page, nth_handed, opened, keep_answer, after_keep, saw, wrote, cut};
 ghost use Rattle.page_cache.specs.Sound.{IsSound};
 
 use crate::files::Files;
@@ -16,15 +16,15 @@ use std::alloc::Global;
 use std::marker::Model;
 use xdr_codec::Memory;
 
-/// At most 1,024 pages of files. A new page takes the memory of one that was dropped, or else of the one that wasn't
-/// used for the longest time.
+/// At most so many pages of files as there is room for. A new page takes the memory of one that was dropped, or else of the one
+/// that wasn't used for the longest time.
 ///
 /// A file is known from its first `opened` on; for another one `stamp` and `mark` are None, `keep` answers Stale, and
 /// nothing else changes anything.
 ///
-/// `new` takes all memory but that of the table of files. Kept pages stand in the order of their files and numbers. A
-/// page is found there by halving, in about ten comparisons, or in two where it is the same page as before or the next
-/// one; to keep a new one moves up to 1,024 slot numbers beside.
+/// `new` and `with_room` take all memory but that of the table of files. Kept pages stand in the order of their files and
+/// numbers. A page is found there by halving, in ten to sixteen comparisons, or in two if it is the same page as before or the
+/// next one; to keep a new one moves the slot numbers of the pages behind it, of two bytes each.
 /// To drop a file's pages looks at these alone. `wrote` and `cut` look at the pages that may change, as they say.
 /// `stamp`, `mark` and `closed` look at no page.
 #[derive(Drop)]
@@ -41,30 +41,48 @@ impl Model for PageCache {
     ghost use Rattle.page_cache.specs.Full.{states_of, full_below_of, AreFull};
     ghost use Rattle.page_cache.specs.Sound.{AreKnown};
 
-    ghost view = { λ c. record { files = states_of c.files; pages = c.slots } };
+    ghost view = { λ c. record { room = c.slots.room; files = states_of c.files; pages = c.slots.pages } };
 
-    ghost invariant = { λ c. AreFull (full_below_of c.files) c.slots × AreKnown (record { files = states_of c.files; pages = c.slots }) };
+    ghost invariant = { λ c. AreFull (full_below_of c.files) c.slots.pages
+        × AreKnown (record { room = c.slots.room; files = states_of c.files; pages = c.slots.pages }) };
 }
 
 impl PageCache {
     ghost use Rattle.page_cache.specs.Ends.{ends_with};
     ghost use Rattle.page_cache.specs.Pages.{after_page};
 
-    /// The most pages that are kept.
-    pub const MAX: usize = 1024;
+    /// For how many pages there is room if no other number is given.
+    const ROOM: usize = 1024;
 
-    /// Knows no file. It takes the memory of all pages at once, about 4 MiB; later only `opened` takes some.
+    /// Knows no file, and has room for 1,024 pages. It takes the memory of all pages at once, about 4 MiB; later only `opened`
+    /// takes some.
     pub fn new(alloc: Global) -> Result<PageCache, Memory>
         ensures { IfOk result (λ c. c ≡ nothing_kept) }
     {
+        PageCache::with_room(alloc, PageCache::ROOM)
+    }
+
+    /// The same with room for so many pages, from 1 to 65,536, of about 4 KiB each.
+    pub fn with_room(alloc: Global, room: usize) -> Result<PageCache, Memory>
+        requires least { 1 ≤ room }
+        requires most { room ≤ 65536 }
+        ensures { IfOk result (λ c. c ≡ nothing_with room) }
+    {
         Ok(PageCache {
             files: Files::new(alloc),
-            slots: Slots::new(alloc)?,
+            slots: Slots::new(alloc, room)?,
         })
     }
 
+    /// For how many pages there is room. It stays the same.
+    pub fn room(&self) -> usize
+        ensures { result ≡ self.now.room }
+    {
+        self.slots.room()
+    }
+
     /// What holds of it at any time: a fact for proofs. No page has more than 4,096 bytes or is kept twice, there are
-    /// at most 1,024, and each is of a file whose state is known.
+    /// at most so many as there is room for, and each is of a file whose state is known.
     pub fn is_sound(&self)
         ensures { IsSound self.now }
     {
@@ -129,6 +147,25 @@ impl PageCache {
         ensures { option_map shows_page result ≡ nth_handed n self.now }
     {
         match self.slots.nth(n) {
+            Some((place, bytes)) => match self.stamp(&place.file) {
+                Some(stamp) => Some(KeptPage {
+                    file: place.file,
+                    stamp,
+                    index: place.index,
+                    bytes,
+                }),
+                None => None,
+            },
+            None => None,
+        }
+    }
+
+    /// The page in a slot, whose number is from 0 on and below `room`; None where the slot is free. So all pages are found in as
+    /// many steps as there are slots, in no order. It is a page that `nth` gives, too.
+    pub fn slot_page(&self, slot: usize) -> Option<KeptPage<'_>>
+        ensures { IfSome result (λ page. (n : ℕ) × (nth_handed n self.now ≡ Some (shows_page page))) }
+    {
+        match self.slots.in_slot(slot) {
             Some((place, bytes)) => match self.stamp(&place.file) {
                 Some(stamp) => Some(KeptPage {
                     file: place.file,

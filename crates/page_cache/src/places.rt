@@ -1,6 +1,6 @@
 //! Which page of which file each slot holds.
 
-ghost use Rattle.std.specs.Prelude.{◌≡◌, ◌≢◌, ◌<◌, ◌≤◌, ℕ, IfOk, IfSome, None, Some, get_or, set, replicate, map};
+ghost use Rattle.std.specs.Prelude.{◌≡◌, ◌≢◌, ◌<◌, ◌≤◌, ℕ, IfOk, IfSome, None, Some, get_or, length, set, replicate, map};
 ghost use Rattle.page_cache.specs.Slots.{index_in, FindsPage};
 ghost use Rattle.page_cache.specs.Sorted.{freed, IsRun};
 
@@ -11,7 +11,7 @@ use std::alloc::Global;
 use std::marker::Model;
 use xdr_codec::Memory;
 
-/// The page that each of 1,024 slots holds, if any. No two slots hold the same page.
+/// The page that each of some slots holds, if any. No two slots hold the same page.
 #[derive(Drop)]
 pub(crate) struct Places {
     by_slot: Vec<Option<PagePlace>>,
@@ -25,7 +25,7 @@ pub(crate) struct Places {
 }
 
 impl Model for Places {
-    ghost use Rattle.std.specs.Prelude.{◌≤◌, List, Option};
+    ghost use Rattle.std.specs.Prelude.{◌≤◌, List, length, Option};
     ghost use Rattle.std.specs.Vec.{vec_capacity};
     ghost use Rattle.page_cache.specs.declared.place.PagePlace.{PagePlace};
     ghost use Rattle.page_cache.specs.Sorted.{IsSorted};
@@ -34,22 +34,21 @@ impl Model for Places {
 
     ghost view = { λ p. p.by_slot.items };
 
-    ghost invariant = { λ p. IsSorted p.by_slot.items p.sorted.items × (1024 ≤ vec_capacity p.sorted) };
+    ghost invariant = { λ p. IsSorted (length p.by_slot.items) p.by_slot.items p.sorted.items
+        × (length p.by_slot.items ≤ vec_capacity p.sorted) × (length p.by_slot.items ≤ 65536) };
 }
 
 impl Places {
-    /// How many slots there are.
-    pub(crate) const SLOTS: usize = 1024;
-
-    /// Every slot is free.
-    pub(crate) fn new(alloc: Global) -> Result<Places, Memory>
-        ensures { IfOk result (λ p. p ≡ replicate 1024 None) }
+    /// So many slots, at most 65,536. Every slot is free.
+    pub(crate) fn new(alloc: Global, count: usize) -> Result<Places, Memory>
+        requires { count ≤ 65536 }
+        ensures { IfOk result (λ p. p ≡ replicate count None) }
     {
         let mut by_slot = Vec::new(alloc);
-        by_slot.resize(Places::SLOTS, None)?;
+        by_slot.resize(count, None)?;
         Ok(Places {
             by_slot,
-            sorted: Vec::with_capacity(alloc, Places::SLOTS)?,
+            sorted: Vec::with_capacity(alloc, count)?,
             near: 0,
             oldest: 0,
         })
@@ -57,7 +56,7 @@ impl Places {
 
     /// The slot that holds a page; None exactly where none does.
     pub(crate) fn find(&mut self, file: &Handle, index: u64) -> Option<usize>
-        ensures found { FindsPage file.now index self.old result }
+        ensures found { FindsPage (length self.old) file.now index self.old result }
         ensures same { self.new ≡ self.old }
     {
         let at = count_near(&self.by_slot, &self.sorted, file, Some(index), self.near);
@@ -67,7 +66,7 @@ impl Places {
 
     /// The page that a slot holds.
     pub(crate) fn at(&self, slot: usize) -> Option<PagePlace>
-        requires { slot < 1024 }
+        requires { slot < length self.now }
         ensures { result ≡ get_or self.now slot None }
     {
         self.by_slot[slot]
@@ -77,7 +76,7 @@ impl Places {
     /// above all numbers.
     pub(crate) fn slots_of(&self, file: &Handle, low: u64, high: Option<u64>) -> &[u16]
         requires { IfSome high (λ h. low ≤ h) }
-        ensures { IsRun file.now low high self.now result.now }
+        ensures { IsRun (length self.now) file.now low high self.now result.now }
     {
         let (from, to) = run_of(&self.by_slot, &self.sorted, file, low, high);
         &self.sorted[from..to]
@@ -85,7 +84,7 @@ impl Places {
 
     /// The number of the page of a file that a slot holds; None where it holds none of the file.
     pub(crate) fn index_in(&self, slot: usize, file: &Handle) -> Option<u64>
-        requires { slot < 1024 }
+        requires { slot < length self.now }
         ensures { result ≡ index_in file.now (get_or self.now slot None) }
     {
         let place = self.by_slot[slot]?;
@@ -98,8 +97,8 @@ impl Places {
 
     /// A slot holds this page from now on, which no other slot holds.
     pub(crate) fn hold(&mut self, slot: usize, place: PagePlace)
-        requires low { slot < 1024 }
-        requires alone { (t : ℕ) → t < 1024 → get_or self.old t None ≡ Some place → t ≡ slot }
+        requires low { slot < length self.old }
+        requires alone { (t : ℕ) → t < length self.old → get_or self.old t None ≡ Some place → t ≡ slot }
         ensures { self.new ≡ set self.old slot (Some place) }
     {
         if holds(&self.by_slot, slot, &place.file, place.index) {

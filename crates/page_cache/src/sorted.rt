@@ -53,7 +53,7 @@ pub(crate) fn count_before(
     file: &Handle,
     bound: Option<u64>,
 ) -> usize
-    requires { IsSorted by_slot.now sorted.now }
+    requires { IsSorted (length by_slot.now) by_slot.now sorted.now }
     ensures { IsGap by_slot.now sorted.now file.now bound result }
 {
     sorted.partition_point(|slot| is_before(by_slot, *slot as usize, file, bound))
@@ -83,7 +83,7 @@ fn count_if_near(
     bound: Option<u64>,
     near: usize,
 ) -> Option<usize>
-    requires { IsSorted by_slot.now sorted.now }
+    requires { IsSorted (length by_slot.now) by_slot.now sorted.now }
     ensures { IfSome result (λ at. IsGap by_slot.now sorted.now file.now bound at) }
 {
     if is_before_at(by_slot, sorted, near, file, bound) {
@@ -110,7 +110,7 @@ pub(crate) fn count_near(
     bound: Option<u64>,
     near: usize,
 ) -> usize
-    requires { IsSorted by_slot.now sorted.now }
+    requires { IsSorted (length by_slot.now) by_slot.now sorted.now }
     ensures { IsGap by_slot.now sorted.now file.now bound result }
 {
     match count_if_near(by_slot, sorted, file, bound, near) {
@@ -138,9 +138,9 @@ pub(crate) fn holder_at(
     file: &Handle,
     index: u64,
 ) -> Option<usize>
-    requires sorted { IsSorted by_slot.now sorted.now }
+    requires sorted { IsSorted (length by_slot.now) by_slot.now sorted.now }
     requires gap { IsGap by_slot.now sorted.now file.now (Some index) at }
-    ensures { FindsPage file.now index by_slot.now result }
+    ensures { FindsPage (length by_slot.now) file.now index by_slot.now result }
 {
     let slot = *sorted.get(at)? as usize;
     if holds(by_slot, slot, file, index) {
@@ -168,8 +168,8 @@ fn place_of(
     page: &PagePlace,
     near: usize,
 ) -> usize
-    requires sorted { IsSorted by_slot.now sorted.now }
-    requires low { slot < 1024 }
+    requires sorted { IsSorted (length by_slot.now) by_slot.now sorted.now }
+    requires low { slot < length by_slot.now }
     requires holds { get_or by_slot.now slot None ≡ Some page.now }
     ensures within { result < length sorted.now }
     ensures there { get_or sorted.now result 0 ≡ slot }
@@ -189,7 +189,7 @@ pub(crate) fn run_of(
     low: u64,
     high: Option<u64>,
 ) -> (usize, usize)
-    requires { IsSorted by_slot.now sorted.now }
+    requires { IsSorted (length by_slot.now) by_slot.now sorted.now }
     ensures { AreEnds file.now low high by_slot.now sorted.now result.0 result.1 }
 {
     let from = count_before(by_slot, sorted, file, Some(low));
@@ -204,10 +204,10 @@ pub(crate) fn free_slot(
     slot: usize,
     near: usize,
 ) -> usize
-    requires sorted { IsSorted by_slot.old.items sorted.old.items }
-    requires low { slot < 1024 }
+    requires sorted { IsSorted (length by_slot.old.items) by_slot.old.items sorted.old.items }
+    requires low { slot < length by_slot.old.items }
     ensures held { by_slot.new.items ≡ set by_slot.old.items slot None }
-    ensures sorted { IsSorted by_slot.new.items sorted.new.items }
+    ensures sorted { IsSorted (length by_slot.old.items) by_slot.new.items sorted.new.items }
     ensures room { vec_capacity sorted.new ≡ vec_capacity sorted.old }
 {
     let Some(place) = by_slot[slot] else {
@@ -228,14 +228,15 @@ pub(crate) fn give_slot(
     place: PagePlace,
     near: usize,
 ) -> usize
-    requires sorted { IsSorted by_slot.old.items sorted.old.items }
-    requires low { slot < 1024 }
+    requires sorted { IsSorted (length by_slot.old.items) by_slot.old.items sorted.old.items }
+    requires low { slot < length by_slot.old.items }
     requires free { get_or by_slot.old.items slot None ≡ None }
-    requires alone { (t : ℕ) → t < 1024 → get_or by_slot.old.items t None ≢ Some place }
-    requires room { 1024 ≤ vec_capacity sorted.old }
+    requires alone { (t : ℕ) → t < length by_slot.old.items → get_or by_slot.old.items t None ≢ Some place }
+    requires room { length by_slot.old.items ≤ vec_capacity sorted.old }
+    requires most { length by_slot.old.items ≤ 65536 }
     ensures held { by_slot.new.items ≡ set by_slot.old.items slot (Some place) }
-    ensures sorted { IsSorted by_slot.new.items sorted.new.items }
-    ensures room { 1024 ≤ vec_capacity sorted.new }
+    ensures sorted { IsSorted (length by_slot.old.items) by_slot.new.items sorted.new.items }
+    ensures room { length by_slot.old.items ≤ vec_capacity sorted.new }
 {
     let at = count_near(by_slot, sorted, &place.file, Some(place.index), near);
     let _ = sorted.insert(at, slot as u16);
@@ -245,9 +246,9 @@ pub(crate) fn give_slot(
 
 /// Frees the slots that hold pages of a file.
 pub(crate) fn free_run(by_slot: &mut Vec<Option<PagePlace>>, sorted: &mut Vec<u16>, file: &Handle)
-    requires { IsSorted by_slot.old.items sorted.old.items }
+    requires { IsSorted (length by_slot.old.items) by_slot.old.items sorted.old.items }
     ensures held { by_slot.new.items ≡ map (freed file.now) by_slot.old.items }
-    ensures sorted { IsSorted by_slot.new.items sorted.new.items }
+    ensures sorted { IsSorted (length by_slot.old.items) by_slot.new.items sorted.new.items }
     ensures room { vec_capacity sorted.new ≡ vec_capacity sorted.old }
 {
     let (from, to) = run_of(by_slot, sorted, file, 0, None);
@@ -267,8 +268,7 @@ fn take_out(sorted: &mut Vec<u16>, from: usize, to: usize)
 
 /// Frees these slots.
 fn free_all(by_slot: &mut [Option<PagePlace>], run: &[u16])
-    requires slots { length by_slot.old ≡ 1024 }
-    requires low { (i : ℕ) → i < length run.now → get_or run.now i 0 < 1024 }
+    requires { (i : ℕ) → i < length run.now → get_or run.now i 0 < length by_slot.old }
     ensures { by_slot.new ≡ freeing run.now by_slot.old }
 {
     for slot in run {

@@ -6,8 +6,9 @@
 //!   is left out
 //! - `full`: at which byte no more may be pending
 //! - `oldest`: which file has the oldest byte, as bytes are cut and given up
-//! - `pages FIRST LAST COUNT`: so many calls of `page_cache` by each seed
-//! - `evicted COUNT`: which pages are kept once so many were offered
+//! - `pages FIRST LAST COUNT ROOM`: so many calls of `page_cache` by each seed, with room for so many pages, or for 1,024 without
+//!   that number
+//! - `evicted COUNT ROOM`: which pages are kept once so many were offered
 #![tactic(auto)]
 
 mod back;
@@ -33,11 +34,11 @@ enum Told {
     From(u64, u64),
 }
 
-/// The first three numbers of a text; a word that isn't a number counts as 0.
-fn numbers(text: &str) -> [u64; 3] {
-    let mut found = [0; 3];
+/// The first four numbers of a text; a word that isn't a number counts as 0, and so does one that isn't there.
+fn numbers(text: &str) -> [u64; 4] {
+    let mut found = [0; 4];
     for (at, word) in text.split_whitespace().enumerate() {
-        if at < 3 {
+        if at < 4 {
             found[at] = word.parse::<u64>().unwrap_or(0);
         }
     }
@@ -59,13 +60,19 @@ fn by_one(alike: bool) -> Told {
 
 /// Makes the comparison that a line asks for. None where it asks for none.
 fn compare(alloc: Global, word: &str, rest: &str) -> Result<Option<Told>, Fault> {
-    let [first, last, count] = numbers(rest);
+    let [first, last, count, room] = numbers(rest);
     Ok(match word {
         "writes" => Some(by_seed(writes::compare(alloc, first, last, count)?)),
         "full" => Some(by_one(writes::full(alloc)?)),
         "oldest" => Some(by_one(writes::oldest(alloc)?)),
-        "pages" => Some(by_seed(page_rows::compare(alloc, first, last, count)?)),
-        "evicted" => Some(by_one(page_rows::evicted(alloc, first)?)),
+        "pages" => Some(by_seed(page_rows::compare(
+            alloc,
+            first,
+            last,
+            count,
+            page_rows::room_of(room),
+        )?)),
+        "evicted" => Some(by_one(page_rows::evicted(alloc, first, page_rows::room_of(last))?)),
         _ => None,
     })
 }

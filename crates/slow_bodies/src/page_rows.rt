@@ -1,5 +1,7 @@
 //! `PageCache` and the slow body answer the same calls alike.
 
+ghost use Rattle.std.specs.Prelude.{◌≤◌};
+
 use crate::fault::Fault;
 use crate::made::Made;
 use crate::pages::SlowPages;
@@ -15,6 +17,18 @@ struct Pair {
     moment: u64,
     cache: PageCache,
     slow: SlowPages,
+}
+
+/// For how many pages a line wants room, from 1 to 65,536; 0 stands for 1,024.
+pub fn room_of(number: u64) -> usize
+    ensures least { 1 ≤ result }
+    ensures most { result ≤ 65536 }
+{
+    if number == 0 {
+        1024
+    } else {
+        number.min(65_536) as usize
+    }
 }
 
 /// One of a few files.
@@ -168,20 +182,26 @@ fn step(pair: &mut Pair) -> Result<bool, Fault> {
     Ok(same && same_page(pair, &file, wanted)?)
 }
 
-/// Both bodies, with nothing kept.
-fn new_pair(alloc: Global, seed: u64) -> Result<Pair, Fault> {
+/// Both bodies, with nothing kept and room for so many pages.
+fn new_pair(alloc: Global, seed: u64, room: usize) -> Result<Pair, Fault>
+    requires least { 1 ≤ room }
+    requires most { room ≤ 65536 }
+{
     Ok(Pair {
         alloc,
         made: Made::of(seed),
         moment: 4,
-        cache: PageCache::new(alloc)?,
-        slow: SlowPages::new(alloc),
+        cache: PageCache::with_room(alloc, room)?,
+        slow: SlowPages::with_room(alloc, room),
     })
 }
 
 /// How many made calls were answered alike, of so many.
-fn run(alloc: Global, seed: u64, count: u64) -> Result<u64, Fault> {
-    let mut pair = new_pair(alloc, seed)?;
+fn run(alloc: Global, seed: u64, count: u64, room: usize) -> Result<u64, Fault>
+    requires least { 1 ≤ room }
+    requires most { room ≤ 65536 }
+{
+    let mut pair = new_pair(alloc, seed, room)?;
     for done in 0..count {
         if !step(&mut pair)? {
             return Ok(done);
@@ -197,9 +217,13 @@ pub fn compare(
     first: u64,
     last: u64,
     count: u64,
-) -> Result<Option<(u64, u64)>, Fault> {
+    room: usize,
+) -> Result<Option<(u64, u64)>, Fault>
+    requires least { 1 ≤ room }
+    requires most { room ≤ 65536 }
+{
     for seed in first..last {
-        let alike = run(alloc, seed, count)?;
+        let alike = run(alloc, seed, count, room)?;
         if alike < count {
             return Ok(Some((seed, alike)));
         }
@@ -224,8 +248,11 @@ fn fill(pair: &mut Pair, file: &Handle, count: u64) -> Result<bool, Fault> {
 }
 
 /// Whether the same pages are kept once so many were offered, one after the other.
-pub fn evicted(alloc: Global, count: u64) -> Result<bool, Fault> {
-    let mut pair = new_pair(alloc, 7)?;
+pub fn evicted(alloc: Global, count: u64, room: usize) -> Result<bool, Fault>
+    requires least { 1 ≤ room }
+    requires most { room ≤ 65536 }
+{
+    let mut pair = new_pair(alloc, 7, room)?;
     let file = file(1)?;
     pair.cache.opened(&file, &stamp(1), 5)?;
     pair.slow.opened(&file, &stamp(1), 5)?;

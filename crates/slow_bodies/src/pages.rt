@@ -6,9 +6,6 @@ use nfs_types::{Handle, Stamp, Wcc};
 use page_cache::Keep;
 use std::alloc::{AllocError, Global};
 
-/// The most pages that are kept.
-const MOST_PAGES: usize = 1024;
-
 /// The bytes of a page.
 const PAGE: u64 = 4096;
 
@@ -32,15 +29,17 @@ struct Kept {
 #[derive(Drop)]
 pub struct SlowPages {
     alloc: Global,
+    room: usize,
     files: Vec<Known>,
     pages: Vec<Kept>,
 }
 
 impl SlowPages {
-    /// Knows no file.
-    pub fn new(alloc: Global) -> SlowPages {
+    /// Knows no file, and has room for so many pages.
+    pub fn with_room(alloc: Global, room: usize) -> SlowPages {
         SlowPages {
             alloc,
+            room,
             files: Vec::new(alloc),
             pages: Vec::new(alloc),
         }
@@ -146,7 +145,7 @@ impl SlowPages {
             bytes: bytes.to_vec(self.alloc)?,
         };
         self.pages.insert(0, page)?;
-        self.pages.truncate(MOST_PAGES);
+        self.pages.truncate(self.room);
         Ok(())
     }
 

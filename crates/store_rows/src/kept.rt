@@ -35,7 +35,7 @@ fn keep(cache: &mut PageCache, rest: &str) {
 
 /// Prints the pages of a cache, from the front.
 fn show_cache(rt: &HostRuntime, alloc: Global, cache: &PageCache) -> io::Result<()> {
-    for n in 0..PageCache::MAX {
+    for n in 0..cache.room() {
         match cache.nth(n) {
             Some(page) => show_page(rt, alloc, &page)?,
             None => break,

@@ -69,9 +69,9 @@ module _ (file : List ℕ) (c : Pages) where
       place : PagePlace
       place = record { file = file; index = index }
 
-      by : (o : Option FileState) → AreKnown (option_map_or (λ state. with_state place.file (Some stamp) state.mark (record c { pages = fronted place bytes c.pages })) o c)
+      by : (o : Option FileState) → AreKnown (option_map_or (λ state. with_state place.file (Some stamp) state.mark (record c { pages = fronted c.room place bytes c.pages })) o c)
       by None = all
-      by (Some state) = All-fronted (IsKnown (with_state file (Some stamp) state.mark c)) place bytes c.pages (known-still stamp state.mark all) (of-file stamp state.mark (place, bytes) (same-self file))
+      by (Some state) = All-fronted (IsKnown (with_state file (Some stamp) state.mark c)) c.room place bytes c.pages (known-still stamp state.mark all) (of-file stamp state.mark (place, bytes) (same-self file))
 
   pub known-offered : (answer : Keep) (stamp : Stamp) (index : ℕ) (bytes : List ℕ) → AreKnown c → AreKnown (after_keep answer stamp (record { file = file; index = index }) bytes c)
   known-offered Stale stamp index bytes all = all

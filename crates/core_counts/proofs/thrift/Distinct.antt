@@ -1,5 +1,5 @@
 -- Each page is kept once, and so no page gives way where the reads met no more pages than are kept.
-use Rattle.core_counts.proofs.Prelude.{◌≡◌, ◌≢◌, ◌≤◌, ℕ, zero, suc, Bool, true, false, not, cond, nat_eq, List, [], ◌∷◌, length, map, take, All, Option, Some, None, refl, sym, ap, subst, ◌∙◌, arith, option_map_or, remove_entry, All-nil, All-head, All-cons, All-weaker, PagePlace, is_place, fronted}
+use Rattle.core_counts.proofs.Prelude.{◌≡◌, ◌≢◌, ◌≤◌, ◌-◌, ℕ, zero, suc, Bool, true, false, not, cond, nat_eq, List, [], ◌∷◌, length, map, take, All, Option, Some, None, refl, sym, ap, subst, ◌∙◌, arith, option_map_or, remove_entry, All-nil, All-head, All-cons, All-weaker, PagePlace, is_place, fronted}
 use Rattle.std.specs.Map.{lookup_entry}
 use Rattle.std.proofs.lemmas.List.Elements.{All-tail, All-take, All-map}
 use Rattle.page_cache.specs.Pages.{without_file}
@@ -125,9 +125,11 @@ distinct-take zero pages d = tt
 distinct-take (suc n) [] d = tt
 distinct-take (suc n) (p ∷ pages) d = (All-take (IsApart p) n pages d.0, distinct-take n pages d.1)
 
-pub distinct-fronted : (place : PagePlace) (bytes : List ℕ) (pages : List Entry) → is_place place.file place.index place ≡ true → Distinct pages → Distinct (fronted place bytes pages)
-distinct-fronted place bytes pages own d =
-    distinct-take 1024 ((place, bytes) ∷ remove_entry (is_place place.file place.index) pages) (distinct-front place bytes pages own d)
+pub distinct-fronted : (room : ℕ) (place : PagePlace) (bytes : List ℕ) (pages : List Entry) → is_place place.file place.index place ≡ true → Distinct pages → Distinct (fronted room place bytes pages)
+distinct-fronted room place bytes pages own d =
+    let front = distinct-front place bytes pages own d in
+    let rest = remove_entry (is_place place.file place.index) pages in
+    (All-take (IsApart (place, bytes)) (room - 1) rest front.0, distinct-take (room - 1) rest front.1)
 
 -- ---- how many there may be
 
@@ -148,7 +150,7 @@ keys-apart (p ∷ pages) d =
     (All-map (λ (b : FilePage). key p ≢ b) key pages (All-weaker (IsApart p) (λ (q : Entry). key p ≢ key q) (λ q off same. off (key-place p q same)) pages d.0))
     (keys-apart pages d.1)
 
-pub few-kept : (M : List ℕ → ℕ → Type 0) (pages : List Entry) → Few M → Distinct pages → All (λ (p : Entry). M p.0.file p.0.index) pages → length pages ≤ 1024
+pub few-kept : (M : List ℕ → ℕ → Type 0) (pages : List Entry) → Few M → Distinct pages → All (λ (p : Entry). M p.0.file p.0.index) pages → length pages ≤ most_pages
 few-kept M pages few d all =
     let most = few (map key pages) (keys-apart pages d) (All-map (λ (p : FilePage). M p.0 p.1) key pages all) in
     let long = length-map pages key in

@@ -1,9 +1,11 @@
 -- What is known of all kept pages where operations only read: marks are no later than a moment, each page was met, and those that are followed stay.
-use Rattle.core_counts.proofs.Prelude.{◌≡◌, ◌≤◌, ◌||◌, ℕ, Bool, true, false, nat_le, List, ◌∷◌, length, Option, Some, None, option_map, refl, sym, ap, ◌∙◌, arith, if◌then◌else◌, option_map_or, remove_entry, eq-eqb, All-cons, Stamp, FileState, Keep, Kept, Stale, Differs, Pages, state_of, known_of, is_place, fronted, keep_answer, after_keep, after_page, saw, same-self, kept_page}
+use Rattle.core_counts.proofs.Prelude.{◌≡◌, ◌≤◌, ◌||◌, ℕ, Bool, true, false, nat_le, List, ◌∷◌, length, Option, Some, None, option_map, refl, sym, ap, subst, ◌∙◌, arith, if◌then◌else◌, option_map_or, remove_entry, eq-eqb, All-cons, Stamp, FileState, Keep, Kept, Stale, Differs, Pages, state_of, known_of, is_place, fronted, keep_answer, after_keep, after_page, saw, same-self, kept_page}
 use Rattle.std.proofs.Common.{max}
 use Rattle.page_cache.specs.Pages.{mark_of, with_state, restarted, is_stamp, opened, opened_over, kept, saw_over}
 use Rattle.page_cache.proofs.Inserts.{same}
+use Rattle.page_cache.proofs.Room.{room-opened, room-saw, room-kept}
 use Rattle.page_cache.proofs.States.{state_opened, state_kept, state_saw, state-opened, state-kept, state-saw, mark-after}
+use Rattle.claims.specs.Thrifty.{most_pages}
 use Rattle.core_counts.proofs.thrift.Distinct.{Entry, Distinct, Few, all-removed, distinct-promoted, distinct-others, distinct-front, distinct-fronted, few-kept}
 use Rattle.core_counts.proofs.thrift.Holds.{HoldsPage, holds-shown, holds-opened, holds-saw, holds-kept}
 use Rattle.core_counts.proofs.thrift.PageNames.{AllOf, quiet-all, answer-all}
@@ -82,9 +84,9 @@ distinct-kept Stale file stamp index bytes c d = d
 distinct-kept Differs file stamp index bytes c d = d
 distinct-kept Kept file stamp index bytes c d = by (state_of file c)
   where
-    by : (o : Option FileState) → Distinct (option_map_or (λ state. with_state file (Some stamp) state.mark (record c { pages = fronted (record { file = file; index = index }) bytes c.pages })) o c).pages
+    by : (o : Option FileState) → Distinct (option_map_or (λ state. with_state file (Some stamp) state.mark (record c { pages = fronted c.room (record { file = file; index = index }) bytes c.pages })) o c).pages
     by None = d
-    by (Some state) = distinct-fronted (record { file = file; index = index }) bytes c.pages (own-place file index) d
+    by (Some state) = distinct-fronted c.room (record { file = file; index = index }) bytes c.pages (own-place file index) d
 
 distinct-opened : (file : List ℕ) (stamp : Stamp) (mark : ℕ) (c : Pages) → Distinct c.pages → Distinct (opened file stamp mark c).pages
 distinct-opened file stamp mark c d = by (state_of file c)
@@ -115,6 +117,7 @@ module _ (M : List ℕ → ℕ → Type 0) (P : List ℕ → Stamp → ℕ → T
     pub marks : Marks b c
     pub met : AllOf M c
     pub distinct : Distinct c.pages
+    pub room : c.room ≡ most_pages
     pub holds : (f : List ℕ) (s : Stamp) (i : ℕ) → P f s i → HoldsPage f s i c
 
   -- of the files that are followed this stamp is told alone
@@ -127,6 +130,7 @@ module _ (M : List ℕ → ℕ → Type 0) (P : List ℕ → Stamp → ℕ → T
       marks = k.marks;
       met = (quiet-all M).shows file index c k.met;
       distinct = distinct-promoted (is_place file index) c.pages k.distinct;
+      room = k.room;
       holds = λ f s i p. holds-shown f s i file index c (k.holds f s i p);
     }
 
@@ -135,6 +139,7 @@ module _ (M : List ℕ → ℕ → Type 0) (P : List ℕ → Stamp → ℕ → T
       marks = marks-opened b file stamp mark c low k.marks;
       met = (quiet-all M).opens file stamp mark c k.met;
       distinct = distinct-opened file stamp mark c k.distinct;
+      room = room-opened file c stamp mark ∙ k.room;
       holds = λ f s i p. holds-opened f s i file stamp mark c (tells f s i p) (k.holds f s i p);
     }
 
@@ -149,16 +154,17 @@ module _ (M : List ℕ → ℕ → Type 0) (P : List ℕ → Stamp → ℕ → T
       marks = marks-saw b file stamp sent c k.marks;
       met = (quiet-all M).sees file stamp sent c k.met;
       distinct = distinct-saw file stamp sent c k.distinct;
+      room = room-saw file c stamp sent ∙ k.room;
       holds = λ f s i p. holds-saw f s i file stamp sent c (tells f s i p) (k.holds f s i p);
     }
 
     -- there is room for a page that was met
     pub fits : (file : List ℕ) (index : ℕ) (bytes : List ℕ) (c : Pages) → M file index → Few M → GoodPages b c
-        → length ((record { file = file; index = index }, bytes) ∷ remove_entry (is_place file index) c.pages) ≤ 1024
-    fits file index bytes c here most k = few-kept M ((record { file = file; index = index }, bytes) ∷ remove_entry (is_place file index) c.pages) most
+        → length ((record { file = file; index = index }, bytes) ∷ remove_entry (is_place file index) c.pages) ≤ c.room
+    fits file index bytes c here most k = subst (λ (n : ℕ). length ((record { file = file; index = index }, bytes) ∷ remove_entry (is_place file index) c.pages) ≤ n) (sym k.room) (few-kept M ((record { file = file; index = index }, bytes) ∷ remove_entry (is_place file index) c.pages) most
         (distinct-front (record { file = file; index = index }) bytes c.pages (own-place file index) k.distinct)
         (All-cons (λ (p : Entry). M p.0.file p.0.index) (record { file = file; index = index }, bytes) (remove_entry (is_place file index) c.pages) here
-        (all-removed (λ (p : Entry). M p.0.file p.0.index) (is_place file index) c.pages k.met))
+        (all-removed (λ (p : Entry). M p.0.file p.0.index) (is_place file index) c.pages k.met)))
 
     pub good-kept : (file : List ℕ) (stamp : Stamp) (sent index : ℕ) (bytes : List ℕ) (c : Pages) → M file index → GoodPages b c → GoodPages b (kept_page file stamp sent index bytes c)
     unfolding kept_page
@@ -166,5 +172,6 @@ module _ (M : List ℕ → ℕ → Type 0) (P : List ℕ → Stamp → ℕ → T
       marks = marks-kept b (keep_answer file stamp sent c) file stamp index bytes c k.marks;
       met = answer-all M (keep_answer file stamp sent c) file stamp index bytes c here k.met;
       distinct = distinct-kept (keep_answer file stamp sent c) file stamp index bytes c k.distinct;
+      room = room-kept (keep_answer file stamp sent c) stamp (record { file = file; index = index }) bytes c ∙ k.room;
       holds = λ f s i p. holds-kept f s i file stamp sent index bytes c (fits file index bytes c here (few f s i p) k) (k.holds f s i p);
     }

@@ -1,5 +1,5 @@
 -- A page that is kept under its file's known stamp stays so, after each call of the cache that tells of no other state of the file and needs no room.
-use Rattle.core_counts.proofs.Prelude.{◌≡◌, ◌<◌, ◌≤◌, inl, inr, ℕ, Bool, true, false, not, cond, ◌||◌, nat_eq, nat_le, List, [], ◌∷◌, length, Option, Some, None, option_map, refl, sym, ap, subst, ◌∙◌, arith, if◌then◌else◌, option_map_or, remove_entry, eq-eqb, nat_tests, Stamp, PagePlace, FileState, Keep, Kept, Stale, Differs, Pages, state_of, known_of, is_place, fronted, keep_answer, after_keep, after_page, saw, same-self}
+use Rattle.core_counts.proofs.Prelude.{◌≡◌, ◌<◌, ◌≤◌, ◌-◌, inl, inr, ℕ, Bool, true, false, not, cond, ◌||◌, nat_eq, nat_le, List, [], ◌∷◌, length, Option, Some, None, option_map, refl, sym, ap, subst, ◌∙◌, arith, if◌then◌else◌, option_map_or, remove_entry, eq-eqb, nat_tests, Stamp, PagePlace, FileState, Keep, Kept, Stale, Differs, Pages, state_of, known_of, is_place, fronted, keep_answer, after_keep, after_page, saw, same-self}
 use Rattle.std.proofs.Common.{max, option_and_then}
 use Rattle.std.specs.Map.{lookup, lookup_entry}
 use Rattle.page_cache.specs.Pages.{mark_of, with_state, restarted, is_stamp, without_file, opened, opened_over, kept, saw_over}
@@ -162,10 +162,11 @@ module _ (f : List ℕ) (s : Stamp) (i : ℕ) where
           }
 
   -- a page more, where all fit
-  there-kept : (place : PagePlace) (bytes : List ℕ) (pages : List (PagePlace × List ℕ)) → length ((place, bytes) ∷ remove_entry (is_place place.file place.index) pages) ≤ 1024 → IsThere f i pages
-      → IsThere f i (fronted place bytes pages)
-  there-kept place bytes pages fits there =
-      subst (IsThere f i) (sym (take_all 1024 ((place, bytes) ∷ remove_entry (is_place place.file place.index) pages) fits)) (by (is_place f i place) refl)
+  there-kept : (room : ℕ) (place : PagePlace) (bytes : List ℕ) (pages : List (PagePlace × List ℕ)) → length ((place, bytes) ∷ remove_entry (is_place place.file place.index) pages) ≤ room → IsThere f i pages
+      → IsThere f i (fronted room place bytes pages)
+  there-kept room place bytes pages fits there =
+      subst (λ (l : List (PagePlace × List ℕ)). IsThere f i ((place, bytes) ∷ l)) (sym (take_all (room - 1) (remove_entry (is_place place.file place.index) pages) (omega (arith, fits))))
+      (by (is_place f i place) refl)
     where
       by : (b : Bool) → is_place f i place ≡ b → IsThere f i ((place, bytes) ∷ remove_entry (is_place place.file place.index) pages)
       by true t = there-front f i (place, bytes) (remove_entry (is_place place.file place.index) pages) t
@@ -177,7 +178,7 @@ module _ (f : List ℕ) (s : Stamp) (i : ℕ) where
           apart p at true e = absurd (let no_way : false ≡ true = sym t ∙ ap (is_place f i) (sym (same_place place.file place.index p e)) ∙ at in cc)
 
   pub holds-kept : (g : List ℕ) (stamp : Stamp) (sent index : ℕ) (bytes : List ℕ) (c : Pages)
-      → length ((record { file = g; index = index }, bytes) ∷ remove_entry (is_place g index) c.pages) ≤ 1024 → HoldsPage f s i c
+      → length ((record { file = g; index = index }, bytes) ∷ remove_entry (is_place g index) c.pages) ≤ c.room → HoldsPage f s i c
       → HoldsPage f s i (after_keep (keep_answer g stamp sent c) stamp (record { file = g; index = index }) bytes c)
   holds-kept g stamp sent index bytes c fits k = by (keep_answer g stamp sent c) (keep-tells g stamp sent c)
     where
@@ -202,9 +203,9 @@ module _ (f : List ℕ) (s : Stamp) (i : ℕ) where
           known false t =
               after ∙ ap (λ (b : Bool). if b then option_and_then (λ (z : FileState). z.known) (option_map (state_kept stamp) (state_of g c)) else known_of f c) t ∙ k.known
 
-          there : (o : Option FileState) → IsThere f i (option_map_or (λ state. with_state g (Some stamp) state.mark (record c { pages = fronted (record { file = g; index = index }) bytes c.pages })) o c).pages
+          there : (o : Option FileState) → IsThere f i (option_map_or (λ state. with_state g (Some stamp) state.mark (record c { pages = fronted c.room (record { file = g; index = index }) bytes c.pages })) o c).pages
           there None = k.there
-          there (Some state) = there-kept (record { file = g; index = index }) bytes c.pages fits k.there
+          there (Some state) = there-kept c.room (record { file = g; index = index }) bytes c.pages fits k.there
 
   -- ---- as it is kept
 

@@ -91,7 +91,7 @@ module _ (f : List ℕ) (s : Stamp) (sent : ℕ) where
   kept-there : (index : ℕ) (bytes : List ℕ) (c : Pages) → Ready c → HoldsPage f s index (kept s (record { file = f; index = index }) bytes c)
   kept-there index bytes c r = record {
     known = ready-known (kept s (record { file = f; index = index }) bytes c) (kept-ready index bytes c r);
-    there = rw (r.there) (there-front f index (record { file = f; index = index }, bytes) (take 1023 (remove_entry (is_place f index) c.pages)) (own-place f index));
+    there = rw (r.there) (there-front f index (record { file = f; index = index }, bytes) (take (c.room - 1) (remove_entry (is_place f index) c.pages)) (own-place f index));
   }
 
   page-there : (index : ℕ) (bytes : List ℕ) (c : Pages) → Ready c → HoldsPage f s index (kept_page f s sent index bytes c)
@@ -130,6 +130,7 @@ module _ (M : List ℕ → ℕ → Type 0) (P : List ℕ → Stamp → ℕ → T
     marks = k.marks;
     met = k.met;
     distinct = k.distinct;
+    room = k.room;
     holds = λ g t j is. subst (λ (x : List ℕ). HoldsPage x t j c) (sym is.0) (subst (λ (x : Stamp). HoldsPage f x j c) (sym is.1) (subst (λ (x : ℕ). HoldsPage f s x c) (sym is.2) held));
   }
 

@@ -5,6 +5,7 @@ use Rattle.std.proofs.lemmas.List.Elements.{All-map}
 use Rattle.page_cache.specs.Pages.{is_of_other, changed_page, changed_over, led_on, led_to, wrote, cut}
 use Rattle.page_cache.specs.Bytes.{put_page, cut_page}
 use Rattle.page_cache.proofs.Inserts.{same, same-is}
+use Rattle.page_cache.proofs.Room.{room-wrote, room-cut}
 use Rattle.page_cache.proofs.States.{state_changed, state-wrote, state-cut, known-after, mark-after}
 use Rattle.core_counts.proofs.thrift.Distinct.{Entry, Distinct, Few, IsApart, distinct-others}
 use Rattle.core_counts.proofs.thrift.Growth.{GoodPages, Marks, marks-by, some-mark}
@@ -122,6 +123,7 @@ module _ (M : List ℕ → ℕ → Type 0) (P : List ℕ → Stamp → ℕ → T
     marks = marks-wrote b file wcc moment c low offset bytes k.marks;
     met = wrote-all M file wcc offset bytes moment c k.met;
     distinct = distinct-over file (λ index. put_page index offset bytes) wcc moment c k.distinct;
+    room = room-wrote file c wcc offset bytes moment ∙ k.room;
     holds = λ f s i p. holds-wrote f s i file wcc moment c (apart f s i p) offset bytes (k.holds f s i p);
   }
 
@@ -130,6 +132,7 @@ module _ (M : List ℕ → ℕ → Type 0) (P : List ℕ → Stamp → ℕ → T
     marks = marks-cut b file wcc moment c low size k.marks;
     met = cut-all M file wcc size moment c k.met;
     distinct = distinct-over file (λ index. cut_page index size) wcc moment c k.distinct;
+    room = room-cut file c wcc size moment ∙ k.room;
     holds = λ f s i p. holds-cut f s i file wcc moment c (apart f s i p) size (k.holds f s i p);
   }
 
@@ -140,5 +143,6 @@ module _ (M : List ℕ → ℕ → Type 0) (P : List ℕ → Stamp → ℕ → T
     marks = λ g j is. let low = k.marks g j is in omega (arith, low, le);
     met = k.met;
     distinct = k.distinct;
+    room = k.room;
     holds = λ f s i q. k.holds f s i (fewer f s i q);
   }

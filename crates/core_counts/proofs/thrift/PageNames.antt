@@ -92,9 +92,9 @@ module _ (P : List ℕ → ℕ → Type 0) where
       place : PagePlace
       place = record { file = file; index = index }
 
-      by : (o : Option FileState) → AllOf (option_map_or (λ state. with_state place.file (Some stamp) state.mark (record c { pages = fronted place bytes c.pages })) o c)
+      by : (o : Option FileState) → AllOf (option_map_or (λ state. with_state place.file (Some stamp) state.mark (record c { pages = fronted c.room place bytes c.pages })) o c)
       by None = all
-      by (Some state) = All-fronted Of place bytes c.pages all here
+      by (Some state) = All-fronted Of c.room place bytes c.pages all here
 
   pub answer-all : (answer : Keep) (file : List ℕ) (stamp : Stamp) (index : ℕ) (bytes : List ℕ) (c : Pages) → P file index → AllOf c
       → AllOf (after_keep answer stamp (record { file = file; index = index }) bytes c)

@@ -81,6 +81,7 @@ module _ (m : Mounted) (setup : Setup) (q : Case m setup) where
     marks = λ g j is. let low = k.marks g j is in omega (arith, low, le);
     met = k.met;
     distinct = k.distinct;
+    room = k.room;
     holds = λ g t j p. by g t j p (cases_lt q.at (length h));
   }
     where
@@ -155,6 +156,7 @@ module _ (m : Mounted) (setup : Setup) (q : Case m setup) where
       marks = λ g k at_. absurd (cc);
       met = All-nil (λ p. Met p.0.file p.0.index);
       distinct = tt;
+      room = refl;
       holds = λ g t j p.
           let low = p.3 in
           let first = q.after in

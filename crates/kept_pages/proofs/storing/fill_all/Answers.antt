@@ -1,4 +1,4 @@
-use Rattle.std.proofs.Common.{◌≡◌, ◌≤◌, ◌∙◌, ℕ, List, Option, length, ap, refl, arith}
+use Rattle.std.proofs.Common.{◌≡◌, ◌∙◌, List, Option, length, ap, refl, arith}
 use Rattle.page_store.specs.Pages.{StoredPage}
 use Rattle.kept_pages.proofs.KeptRounds.{fills-itself, fills-then}
 use Rattle.kept_pages.proofs.storing.fill_all.Goals as goal
@@ -20,19 +20,19 @@ loop-at-preserved g c = record {
   fills = λ tells n fits s u.
       let so_far = c.loop-at.invariant.fills tells n fits s u in
       let same : length c.loop-at.store.pages ≡ length c.args.store.now.pages = ap (λ (ps : List (Option StoredPage)). length ps) c.loop-at.invariant.pages in
-      fills-then g.D.Disk.seen g.D.Disk.may_leave g.D.Disk.moment g.D.Disk.left_since n c.args.store.now c.loop-at.store c.fill_nth.new.store so_far
-      (c.fill_nth.ensures.fills (c.loop-at.invariant.goes_on tells) n (omega (arith, same, fits)) so_far.sound so_far.under_way);
-  kept = λ all. c.fill_nth.ensures.kept (c.loop-at.invariant.kept all);
-  short = let so_far = c.loop-at.invariant.short in let this = c.fill_nth.ensures.short in omega (arith, so_far, this);
-  pages = c.fill_nth.ensures.pages ∙ c.loop-at.invariant.pages;
-  label = c.fill_nth.ensures.label ∙ c.loop-at.invariant.label;
-  goes_on = λ tells. c.fill_nth.ensures.goes_on (c.loop-at.invariant.goes_on tells);
-  later = let so_far = c.loop-at.invariant.later in let this = c.fill_nth.ensures.cause.later in omega (arith, so_far, this);
+      fills-then g.D.Disk.seen g.D.Disk.may_leave g.D.Disk.moment g.D.Disk.left_since n c.args.store.now c.loop-at.store c.fill_from.new.store so_far
+      (c.fill_from.ensures.fills (c.loop-at.invariant.goes_on tells) n (omega (arith, same, fits)) so_far.sound so_far.under_way);
+  kept = λ all. c.fill_from.ensures.kept (c.loop-at.invariant.kept all);
+  short = let so_far = c.loop-at.invariant.short in let this = c.fill_from.ensures.short in omega (arith, so_far, this);
+  pages = c.fill_from.ensures.pages ∙ c.loop-at.invariant.pages;
+  label = c.fill_from.ensures.label ∙ c.loop-at.invariant.label;
+  goes_on = λ tells. c.fill_from.ensures.goes_on (c.loop-at.invariant.goes_on tells);
+  later = let so_far = c.loop-at.invariant.later in let this = c.fill_from.ensures.cause.later in omega (arith, so_far, this);
 }
 
 pub returns-in-Err-clause-fills : goal.returns-in-Err-clause-fills
 returns-in-Err-clause-fills g c = λ tells n fits s u.
     let so_far = c.loop-at.invariant.fills tells n fits s u in
     let same : length c.loop-at.store.pages ≡ length c.args.store.now.pages = ap (λ (ps : List (Option StoredPage)). length ps) c.loop-at.invariant.pages in
-    fills-then g.D.Disk.seen g.D.Disk.may_leave g.D.Disk.moment g.D.Disk.left_since n c.args.store.now c.loop-at.store c.fill_nth.new.store so_far
-    (c.fill_nth.ensures.fills (c.loop-at.invariant.goes_on tells) n (omega (arith, same, fits)) so_far.sound so_far.under_way)
+    fills-then g.D.Disk.seen g.D.Disk.may_leave g.D.Disk.moment g.D.Disk.left_since n c.args.store.now c.loop-at.store c.fill_from.new.store so_far
+    (c.fill_from.ensures.fills (c.loop-at.invariant.goes_on tells) n (omega (arith, same, fits)) so_far.sound so_far.under_way)

@@ -1,4 +1,3 @@
-use Rattle.std.proofs.Common.{ℕ}
 use Rattle.page_store.specs.Pages.{shows_page}
 use Rattle.kept_pages.proofs.KeptRounds.{sound-less, kept-more, round-short, fills-itself}
 use Rattle.kept_pages.proofs.storing.fill_with.Goals as goal

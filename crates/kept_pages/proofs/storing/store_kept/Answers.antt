@@ -1,4 +1,4 @@
-use Rattle.std.proofs.Common.{◌≡◌, ◌≤◌, ◌∙◌, ℕ, List, Option, length, ap, arith}
+use Rattle.std.proofs.Common.{◌≡◌, ◌∙◌, List, Option, length, ap, arith}
 use Rattle.page_store.specs.Pages.{StoredPage}
 use Rattle.page_store.proofs.InMemory.{cleared-long, all-long}
 use Rattle.kept_pages.specs.Kept.{Fills}

@@ -12,5 +12,5 @@ loop-slot-preserved c = rw c.in_ok-put.ensures.entries
 
 pub returns : goal.returns
 returns c =
-    let whole : c.loop-slot.slot ≡ 1024 = omega (arith, c.loop-slot-test.false, c.loop-slot.auto.slot-end) in
+    let whole : c.loop-slot.slot ≡ c.args.count = omega (arith, c.loop-slot-test.false, c.loop-slot.auto.slot-end) in
     subst (λ n. AreAll n c.loop-slot.order.entries) whole c.loop-slot.invariant.1

@@ -3,4 +3,4 @@ use Rattle.page_cache.specs.Slots.{AreAll}
 use Rattle.page_cache.proofs.slots.all_slots.Given as goal
 
 abbrev pub invariant-loop-slot : goal.invariant-loop-slot
-invariant-loop-slot l = (l.order.cap ≡ 1024) × AreAll l.slot l.order.entries
+invariant-loop-slot l = (l.order.cap ≡ l.count) × AreAll l.slot l.order.entries

@@ -15,10 +15,10 @@ slice_bounds-free_all-count c =
     let ends = rw (c.deref.ensures.value, c.deref-2.ensures.value) at c.run_of-from.ensures in
     in_order c.args.file.now c.args.by_slot.now.items c.args.sorted.now.items c.requires c.run_of-from.result.0 c.run_of-from.result.1 ends
 
-pub free_all-requires-clause-low : goal.free_all-requires-clause-low
-free_all-requires-clause-low c =
+pub free_all-requires : goal.free_all-requires
+free_all-requires c =
     let ends = rw (c.deref.ensures.value, c.deref-2.ensures.value) at c.run_of-from.ensures in
-    rw c.deref-3.ensures.value (λ i within. (is-run c.args.file.now 0 None tt c.args.by_slot.now.items c.args.sorted.now.items c.requires c.run_of-from.result.0 c.run_of-from.result.1 ends).low_slots i within)
+    rw (c.deref_mut.ensures.value, c.deref-3.ensures.value) (λ i within. (is-run c.args.file.now 0 None tt c.args.by_slot.now.items c.args.sorted.now.items c.requires c.run_of-from.result.0 c.run_of-from.result.1 ends).low_slots i within)
 
 pub take_out-requires-clause-order : goal.take_out-requires-clause-order
 take_out-requires-clause-order c =

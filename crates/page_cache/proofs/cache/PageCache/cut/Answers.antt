@@ -8,18 +8,18 @@ use Rattle.page_cache.proofs.Changed.{changed-now}
 use Rattle.page_cache.proofs.cache.PageCache.cut.Goals as goal
 
 pub cut_file-requires : goal.cut_file-requires
-cut_file-requires c = rw c.full_below-full_below.ensures (full-below (full_below_of c.self.inside.files) c.args.file.now c.self.inside.slots c.self.invariant.0)
+cut_file-requires c = rw c.full_below-full_below.ensures (full-below (full_below_of c.self.inside.files) c.args.file.now c.self.inside.slots.pages c.self.invariant.0)
 
 pub invariant_of-self : goal.invariant_of-self
 invariant_of-self c = rw c.cut_file.ensures (
-  full-cut (full_below_of c.self.inside.files) (full_below_of c.change.new.self) c.args.file.now c.holding.result c.change.ensures.bound c.args.size c.self.inside.slots c.holding.ensures c.self.invariant.0,
-  known-changed (states_of c.self.inside.files) (states_of c.change.new.self) c.args.file.now _ c.change.ensures.known c.in-Some-after.known refl (λ index. cut_page index c.args.size) c.self.inside.slots c.self.invariant.1,
+  full-cut (full_below_of c.self.inside.files) (full_below_of c.change.new.self) c.args.file.now c.holding.result c.change.ensures.bound c.args.size c.self.inside.slots.pages c.holding.ensures c.self.invariant.0,
+  known-changed (states_of c.self.inside.files) (states_of c.change.new.self) c.args.file.now _ c.change.ensures.known c.in-Some-after.known refl (λ index. cut_page index c.args.size) c.self.inside.slots.pages c.self.invariant.1,
 )
 
 pub invariant_of-self-in-None-after : goal.invariant_of-self-in-None-after
 invariant_of-self-in-None-after c = rw c.drop_file.ensures (
-  full-dropped (full_below_of c.self.inside.files) (full_below_of c.change-in-None-after.new.self) c.args.file.now _ c.change-in-None-after.ensures.bound c.self.inside.slots c.self.invariant.0,
-  known-dropped (states_of c.self.inside.files) (states_of c.change-in-None-after.new.self) c.args.file.now _ c.change-in-None-after.ensures.known c.self.inside.slots c.self.invariant.1,
+  full-dropped (full_below_of c.self.inside.files) (full_below_of c.change-in-None-after.new.self) c.args.file.now _ c.change-in-None-after.ensures.bound c.self.inside.slots.pages c.self.invariant.0,
+  known-dropped (states_of c.self.inside.files) (states_of c.change-in-None-after.new.self) c.args.file.now _ c.change-in-None-after.ensures.known c.self.inside.slots.pages c.self.invariant.1,
 )
 
 pub returns-in-None-clause-of_the_file : goal.returns-in-None-clause-of_the_file
@@ -32,6 +32,6 @@ pub returns-in-None-after-clause-of_the_file : goal.returns-in-None-after-clause
 returns-in-None-after-clause-of_the_file c = λ index old. page-cut index c.args.size old
 
 pub returns-in-Some-after-clause-after : goal.returns-in-Some-after-clause-after
-returns-in-Some-after-clause-after c = rw (← c.self.view_is)
-    (changed-now c.args.file.now c.args.wcc.now (λ index. cut_page index c.args.size) c.args.moment (states_of c.self.inside.files) (states_of c.change.new.self) c.self.inside.slots c.cut_file.new.self
-    c.in-Some.state c.in-Some-after.known c.in-Some.ensures c.in-Some-after.ensures c.change.ensures.known c.cut_file.ensures)
+returns-in-Some-after-clause-after c = rw (← c.self.view_is, c.cut_file.ensures)
+    (changed-now c.args.file.now c.args.wcc.now (λ index. cut_page index c.args.size) c.args.moment c.self.inside.slots.room (states_of c.self.inside.files) (states_of c.change.new.self) c.self.inside.slots.pages _
+    c.in-Some.state c.in-Some-after.known c.in-Some.ensures c.in-Some-after.ensures c.change.ensures.known refl)

@@ -7,6 +7,6 @@ use Rattle.page_cache.proofs.cache.PageCache.page.Goals as goal
 
 pub invariant_of-self : goal.invariant_of-self
 invariant_of-self c = rw c.show.follows.holds-at-none (
-  full-promoted (full_below_of c.self.inside.files) (is_place c.args.file.now c.args.index) c.self.inside.slots c.self.invariant.0,
-  All-promoted (Known (states_of c.self.inside.files)) (is_place c.args.file.now c.args.index) c.self.inside.slots c.self.invariant.1,
+  full-promoted (full_below_of c.self.inside.files) (is_place c.args.file.now c.args.index) c.self.inside.slots.pages c.self.invariant.0,
+  All-promoted (Known (states_of c.self.inside.files)) (is_place c.args.file.now c.args.index) c.self.inside.slots.pages c.self.invariant.1,
 )

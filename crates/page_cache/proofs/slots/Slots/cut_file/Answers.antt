@@ -1,4 +1,4 @@
-use Rattle.std.proofs.Common.{◌∙◌, min, ap, None, arith}
+use Rattle.std.proofs.Common.{◌∙◌, min, ap, length, None, arith}
 use Rattle.page_cache.specs.Bytes.{cut_page}
 use Rattle.page_cache.proofs.Parts.{front, others}
 use Rattle.page_cache.proofs.Changing.{changes-start, changes-on, sound-changed, changes-end, outside-cut}
@@ -10,23 +10,27 @@ loop-slot-init c = changes-start c.args.file.now c.min-low.result None (λ index
 pub index_mut-requires : goal.index_mut-requires
 index_mut-requires c =
     let low = c.slots_of-run.ensures.low_slots c.loop-slot.slot-index c.loop-slot-test.true in
-    omega (arith, low, c.loop-slot.invariant.same, c.self.invariant.bytes, (front (others (others (others c.loop-slot.self-inside)))).ok.0)
+    omega (arith, low, c.loop-slot.invariant.same, c.self.invariant.0.bytes, (front (others (others (others c.loop-slot.self-inside)))).ok.0)
 
 pub loop-slot-preserved : goal.loop-slot-preserved
 loop-slot-preserved c = changes-on c.args.file.now c.min-low.result None (λ index. cut_page index c.args.size) c.self.inside.places c.self.inside.pages.items c.slots_of-run.result.now c.slots_of-run.ensures
-    c.self.invariant.bytes c.loop-slot.slot-index c.loop-slot-test.true (front (others (others (others c.loop-slot.self-inside)))).items c.loop-slot.invariant
+    c.self.invariant.0.bytes c.loop-slot.slot-index c.loop-slot-test.true (front (others (others (others c.loop-slot.self-inside)))).items c.loop-slot.invariant
     c.index_mut.result.now c.cut_at.new.self c.index_in-index.result
     c.index_in-index.ensures c.index_mut.ensures.value c.cut_at.ensures
 
 pub invariant_of-self : goal.invariant_of-self
-invariant_of-self c = sound-changed c.args.file.now c.min-low.result None (λ index. cut_page index c.args.size) c.self.inside.places c.self.inside.pages.items c.slots_of-run.result.now c.slots_of-run.ensures c.self.inside.order.entries
-    c.loop-slot.slot-index (omega (arith, c.loop-slot-test.false)) (front (others (others (others c.loop-slot.self-inside)))).items c.self.invariant c.loop-slot.invariant
-    (outside-cut c.args.file.now c.args.full_below c.self.inside.order.entries c.self.inside.places c.self.inside.pages.items c.self.invariant (rw (← c.self.view_is) at c.requires)
-    c.min-low.result c.args.size (c.min-low.ensures ∙ ap (min c.args.full_below) c.holding.ensures))
+invariant_of-self c = (
+  sound-changed c.args.file.now c.min-low.result None (λ index. cut_page index c.args.size) c.self.inside.places c.self.inside.pages.items c.slots_of-run.result.now c.slots_of-run.ensures c.self.inside.order.entries
+      c.loop-slot.slot-index (omega (arith, c.loop-slot-test.false)) (front (others (others (others c.loop-slot.self-inside)))).items c.self.invariant.0 c.loop-slot.invariant
+      (outside-cut c.args.file.now c.args.full_below c.self.inside.order.entries c.self.inside.places c.self.inside.pages.items c.self.invariant.0 (rw (← c.self.view_is) at c.requires)
+      c.min-low.result c.args.size (c.min-low.ensures ∙ ap (min c.args.full_below) c.holding.ensures)),
+  c.self.invariant.1,
+)
 
 pub returns : goal.returns
 returns c = rw (← c.self.view_is)
+    (ap (λ pages. record { room = length c.self.inside.places; pages = pages })
     (changes-end c.args.file.now c.min-low.result None (λ index. cut_page index c.args.size) c.self.inside.places c.self.inside.pages.items c.slots_of-run.result.now c.slots_of-run.ensures c.self.inside.order.entries
-    c.loop-slot.slot-index (omega (arith, c.loop-slot-test.false)) (front (others (others (others c.loop-slot.self-inside)))).items c.self.invariant c.loop-slot.invariant
-    (outside-cut c.args.file.now c.args.full_below c.self.inside.order.entries c.self.inside.places c.self.inside.pages.items c.self.invariant (rw (← c.self.view_is) at c.requires)
-    c.min-low.result c.args.size (c.min-low.ensures ∙ ap (min c.args.full_below) c.holding.ensures)))
+    c.loop-slot.slot-index (omega (arith, c.loop-slot-test.false)) (front (others (others (others c.loop-slot.self-inside)))).items c.self.invariant.0 c.loop-slot.invariant
+    (outside-cut c.args.file.now c.args.full_below c.self.inside.order.entries c.self.inside.places c.self.inside.pages.items c.self.invariant.0 (rw (← c.self.view_is) at c.requires)
+    c.min-low.result c.args.size (c.min-low.ensures ∙ ap (min c.args.full_below) c.holding.ensures))))

@@ -1,9 +1,8 @@
-use Rattle.std.proofs.Common.{sym}
 use Rattle.kept_pages.proofs.KeptRounds.{fills-itself}
-use Rattle.kept_pages.proofs.storing.fill_nth.Goals as goal
+use Rattle.kept_pages.proofs.storing.fill_from.Goals as goal
 
 pub returns-in-Some-clause-kept : goal.returns-in-Some-clause-kept
-returns-in-Some-clause-kept g c = c.fill_with.ensures.kept c.args.cache.now (c.args.n, sym c.in-Some.ensures)
+returns-in-Some-clause-kept g c = c.fill_with.ensures.kept c.args.cache.now c.in-Some.ensures
 
 pub returns-in-None-clause-fills : goal.returns-in-None-clause-fills
 returns-in-None-clause-fills g c = λ tells n fits s u.
