@@ -50,9 +50,10 @@ pub fn read_script<S: Source>(alloc: Global, source: &mut S) -> Result<Vec<u8>, 
     ensures cause { HasFault result (Rose (S.faults source.old) (S.faults source.new)) }
 {
     let mut text = Vec::new(alloc);
+    let mut buffer = [0; PIECE];
     let mut room = SCRIPT_LIMIT;
     while room > 0 {
-        match read_piece(source, room, &mut text) {
+        match read_piece(source, room, &mut buffer, &mut text) {
             Ok(count) => {
                 if count == 0 {
                     break;
@@ -65,10 +66,11 @@ pub fn read_script<S: Source>(alloc: Global, source: &mut S) -> Result<Vec<u8>, 
     Ok(text)
 }
 
-/// Reads a piece of at most so many bytes, and answers how many; 0 is the end.
+/// Reads a piece of at most so many bytes by way of the buffer, and answers how many; 0 is the end.
 fn read_piece<S: Source>(
     source: &mut S,
     room: usize,
+    buffer: &mut [u8; PIECE],
     text: &mut Vec<u8>,
 ) -> Result<usize, ReadFault>
     requires { 0 < room }
@@ -76,7 +78,6 @@ fn read_piece<S: Source>(
     ensures later { S.faults source.old ≤ S.faults source.new }
     ensures cause { HasFault result (Rose (S.faults source.old) (S.faults source.new)) }
 {
-    let mut buffer = [0; PIECE];
     let (front, _) = buffer.split_at_mut(room.min(PIECE));
     let count = source.read(front)?;
     let (piece, _) = front.split_at(count);
