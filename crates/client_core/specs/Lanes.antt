@@ -11,7 +11,7 @@ use Rattle.world_model.specs.declared.answer.Answer.TheVariants.{Refused}
 use Rattle.world_model.specs.declared.answer.Fault.TheVariants as faults
 use Rattle.op_machines.specs.declared.machine.Machine.{Machine}
 use Rattle.op_machines.specs.Fits.{Fits}
-use Rattle.op_machines.specs.Rests.{rests}
+use Rattle.op_machines.specs.Rests.{Rests}
 use Rattle.op_machines.specs.Steps.{Resumes, Takes}
 use Rattle.client_core.specs.declared.lane.Lane.{Lane}
 use Rattle.client_core.specs.declared.lane.State.{State}
@@ -112,13 +112,13 @@ LaneTakes wsize lane sent turn came old next new shelf = StateTakes wsize lane.s
 abbrev pub IsAt : List Lane → ℕ → ℕ → State → Type 0
 IsAt lanes at number state = slice_get lanes at ≡ Some (record { number = number; state = state })
 
--- whether its operation waits for the reply to its call, or has its answer
-abbrev pub state_rests : State → Bool
-state_rests (Busy machine) = rests machine
-state_rests (Over answer) = true
+-- a step of its operation that no reply made possible waits and changes nothing, unless it has its answer
+abbrev pub StateRests : State → Shelf → Type 0
+StateRests (Busy machine) shelf = Rests machine shelf
+StateRests (Over answer) shelf = Unit {0}
 
-abbrev pub lane_rests : Lane → Bool
-lane_rests lane = state_rests lane.state
+abbrev pub LaneRests : Lane → Shelf → Type 0
+LaneRests lane shelf = StateRests lane.state shelf
 
 -- whether a step waits
 abbrev pub waits : Step → Bool

@@ -1,9 +1,10 @@
 //! A lane, in which operations run one after the other.
 
 ghost use Rattle.std.specs.Prelude.{◌≡◌, None, position, map};
+ghost use Rattle.std.specs.Bool.{OnTrue};
 ghost use Rattle.client_shelf.specs.Coming.{reply_of};
 ghost use Rattle.op_machines.specs.MayStep.{MayStep};
-ghost use Rattle.client_core.specs.Lanes.{is_busy, is_over, least_by, least_answered, state_rests, lane_rests, lost_state, lost_lane, StateFits, LaneFits, StateResumes, StateTakes, LaneResumes, LaneTakes};
+ghost use Rattle.client_core.specs.Lanes.{is_busy, is_over, least_by, least_answered, StateRests, LaneRests, lost_state, lost_lane, StateFits, LaneFits, StateResumes, StateTakes, LaneResumes, LaneTakes};
 ghost use Rattle.client_core.specs.declared.lane.State.TheVariants as states;
 
 use client_shelf::{Came, Shelf, Step, Turn};
@@ -41,12 +42,13 @@ pub struct Lane {
 }
 
 impl State {
-    /// Whether it waits for the reply to its call, or has its answer: nothing else lets it go on.
-    fn rests(&self) -> bool
-        ensures { result ≡ state_rests self.now }
+    /// Whether it waits for a call of its own or for its turn, or has its answer: a step that no reply made possible does
+    /// nothing.
+    fn rests(&self, shelf: &Shelf) -> bool
+        ensures { OnTrue result (StateRests self.now shelf.now) }
     {
         match self {
-            State::Busy(machine) => machine.rests(),
+            State::Busy(machine) => machine.rests(shelf),
             State::Over(_) => true,
         }
     }
@@ -85,11 +87,11 @@ impl State {
 }
 
 impl Lane {
-    /// Whether its operation waits for the reply to its call, or has its answer.
-    pub(crate) fn rests(&self) -> bool
-        ensures { result ≡ lane_rests self.now }
+    /// Whether its operation waits for a call of its own or for its turn, or has its answer.
+    pub(crate) fn rests(&self, shelf: &Shelf) -> bool
+        ensures { OnTrue result (LaneRests self.now shelf.now) }
     {
-        self.state.rests()
+        self.state.rests(shelf)
     }
 
     /// Its operation goes on, as far as it can.

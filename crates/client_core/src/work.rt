@@ -35,7 +35,7 @@ use mount_calls::{mount_proc, write_mount_call};
 use nfs_dir_calls::{dir_proc, write_dir_call};
 use nfs_file_calls::{file_proc, write_file_call};
 use nfs_types::NFS_PROGRAM;
-use op_machines::{Machine, resting_is_still};
+use op_machines::Machine;
 use page_cache::PageCache;
 use rpc_retry::{AfterFailure, Calls};
 use std::alloc::Global;
@@ -352,13 +352,13 @@ impl Work {
         self.stir_awake(at)
     }
 
-    /// Whether the operation of the lane at a place waits for the reply to its call, or has its answer. It takes no step to tell.
+    /// Whether the operation of the lane at a place waits for a call of its own or for its turn, or has its answer. It takes no
+    /// step to tell, and isn't said of each that waits.
     fn rests_at(&self, at: usize) -> bool
         requires { at < length self.now.lanes }
         ensures { OnTrue result (Rests self.now at) }
     {
-        resting_is_still();
-        self.lanes[at].rests()
+        self.lanes[at].rests(&self.shelf)
     }
 
     /// The same, by a step of its operation.

@@ -1,3 +1,4 @@
+pub mod Resting
 pub mod Again
 pub mod Free
 pub mod Rooms

@@ -21,6 +21,7 @@ pub mod ReadReply
 pub mod Reading
 pub mod ReadFile
 pub mod PagesOpened
+pub mod Rests
 pub mod Laws
 pub mod Ready
 pub mod Endings

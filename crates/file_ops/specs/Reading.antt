@@ -66,6 +66,15 @@ wants phases.Rest = true
 wants (phases.Asked count) = false
 wants phases.Ended = false
 
+-- whether it waits for the reply to its call
+abbrev pub has_asked : Phase → Bool
+has_asked phases.Attrs = false
+has_asked phases.AskedAttrs = true
+has_asked phases.Pages = false
+has_asked phases.Rest = false
+has_asked (phases.Asked count) = true
+has_asked phases.Ended = false
+
 -- whether that is for the file's attributes, and whether it waits for them
 abbrev pub asks_attrs : Phase → Bool
 asks_attrs phases.Attrs = true

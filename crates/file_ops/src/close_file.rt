@@ -1,9 +1,11 @@
 //! A close: what is pending of a file is made stable, and its slot is free.
 
 ghost use Rattle.std.specs.Prelude.{◌≡◌, ◌≤◌};
+ghost use Rattle.std.specs.Bool.{OnTrue};
 ghost use Rattle.client_shelf.specs.Coming.{reply_of};
 ghost use Rattle.file_ops.specs.declared.close_file.Closing.TheVariants as states;
 ghost use Rattle.client_shelf.specs.LaneFiles.{is_first};
+ghost use Rattle.file_ops.specs.Rests.{CloseRests};
 ghost use Rattle.file_ops.specs.SlotFiles.{IsUnused};
 ghost use Rattle.file_ops.specs.Closes.{waits_as, ask_next, ask_state, Ends, Frees, Follows, GoesOn, GoesOnIf, Queues, Starts, Resumes, TakesOne, Removed, Takes};
 
@@ -11,7 +13,7 @@ use crate::closing::{
     Removal, closed_answer, give_up_by, last_place, note_removal, refusal_of, remove_busy,
     remove_of,
 };
-use crate::saving::{Saving, SavingStep};
+use crate::saving::{Saving, SavingStep, rests_in_turn};
 use crate::slots::file_at;
 use client_shelf::busy::again;
 use client_shelf::{Came, Shelf, Step, Turn};
@@ -88,6 +90,20 @@ impl CloseFile {
             Closing::ToRemove(removal) => self.ask(removal, turn.room),
             Closing::Idle => Step::Wait,
             Closing::Removing(_) => Step::Wait,
+        }
+    }
+
+    /// Whether a step that no reply made possible does nothing: it waits for its turn, its save for calls of its own, or it for the
+    /// reply to its REMOVE.
+    pub fn rests(&self, shelf: &Shelf) -> bool
+        ensures { OnTrue result (CloseRests self.now shelf.now) }
+    {
+        match &self.state {
+            Closing::Queued(_) => !shelf.order.is_first(self.lane),
+            Closing::Saves(saving) => rests_in_turn(self.lane, saving, shelf),
+            Closing::Removing(_) => true,
+            Closing::Idle => false,
+            Closing::ToRemove(_) => false,
         }
     }
 

@@ -1,6 +1,7 @@
 //! A put: bytes are written to the file of a name, and made stable.
 
 ghost use Rattle.std.specs.Prelude.{◌≡◌, ◌+◌, ◌-◌, ◌^◌, ◌<◌, ◌≤◌, length};
+ghost use Rattle.std.specs.Bool.{OnTrue};
 ghost use Rattle.client_shelf.specs.Coming.{reply_of};
 ghost use Rattle.world_model.specs.declared.answer.Answer.TheVariants.{Done as WasDone};
 ghost use Rattle.world_model.specs.declared.answer.Value.{Value as Told};
@@ -10,13 +11,14 @@ ghost use Rattle.file_ops.specs.declared.put_file.Putting.TheVariants as states;
 ghost use Rattle.file_ops.specs.Opening.{go_next, go_after};
 ghost use Rattle.file_ops.specs.OpenFile.{goes_as};
 ghost use Rattle.file_ops.specs.WriteFile.{made_bytes};
+ghost use Rattle.file_ops.specs.Rests.{PutRests};
 ghost use Rattle.file_ops.specs.SlotFiles.{IsUnused};
 ghost use Rattle.file_ops.specs.PutFile.{keeps_refused, GivesUpAlone, Ends, Follows, GoesOn, Queues, SavesFile, AfterWrite, TakesOne, not_begun, opening_at, AfterOpening, AddsBytes, TakesOpening, TakesRoom, ResumesRoom, Resumes, Takes};
 
 use crate::closing::{closed_answer, give_up_by, refusal_of};
 use crate::open_file::going;
 use crate::opening::{Opening, OpeningStep};
-use crate::saving::{Saving, SavingStep};
+use crate::saving::{Saving, SavingStep, rests_in_turn};
 use crate::write_file::{Text, WriteFile};
 use client_shelf::{Came, LaneFiles, Shelf, Step, Turn};
 use nfs_types::{Handle, Mode, Name};
@@ -92,6 +94,19 @@ impl PutFile {
             Putting::Opens => going(self.opening.go(turn)),
             Putting::Adds(file) => self.resume_room(alloc, wsize, &file, turn, shelf),
             Putting::Saves(saving) => self.queue(saving, alloc, wsize, turn, shelf),
+        }
+    }
+
+    /// Whether a step that no reply made possible does nothing: its opening waits for a reply, or a save for its turn or for calls
+    /// of its own.
+    pub fn rests(&self, shelf: &Shelf) -> bool
+        ensures { OnTrue result (PutRests self.now shelf.now) }
+    {
+        match &self.state {
+            Putting::Opens => self.opening.asked,
+            Putting::Adds(_) => self.write.rests(shelf),
+            Putting::Saves(saving) => rests_in_turn(self.write.lane, saving, shelf),
+            Putting::Idle => false,
         }
     }
 

@@ -2,9 +2,11 @@
 
 ghost use Rattle.std.specs.Prelude.{◌≡◌, ◌≤◌, None, Ok};
 ghost use Rattle.std.specs.FinMap as finite;
+ghost use Rattle.std.specs.Bool.{OnTrue};
 ghost use Rattle.std.specs.Option.{option_copied};
 ghost use Rattle.client_shelf.specs.Coming.{reply_of};
 ghost use Rattle.client_shelf.specs.Learning.{Learns};
+ghost use Rattle.file_ops.specs.Rests.{ReadRests};
 ghost use Rattle.file_ops.specs.ReadFile.{begun, begun_in, begun_at, Begins, Starts, StartsWith, ResumesIn, TakesIn, file_of, attr_heard, repeats_heard, first_phase};
 
 use crate::base::Base;
@@ -97,6 +99,16 @@ impl ReadFile {
             &mut shelf.repeats,
             &shelf.back,
         )
+    }
+
+    /// Whether a step that no reply made possible does nothing: it waits for the reply to its call.
+    pub fn rests(&self) -> bool
+        ensures { OnTrue result (ReadRests self.now) }
+    {
+        match &self.reading {
+            Some(reading) => reading.has_asked(),
+            None => false,
+        }
     }
 
     /// It may go on.

@@ -1,7 +1,7 @@
 //! A read that has begun.
 
 ghost use Rattle.std.specs.Prelude.{◌≡◌, ◌&&◌, take, IfSome};
-ghost use Rattle.file_ops.specs.Reading.{settled, wants, asks_attrs, attrs_call, asked_call, asked, read_call, asked_part, answer_of, answered, shown_next, Stays, gone, Goes, phase_of};
+ghost use Rattle.file_ops.specs.Reading.{settled, wants, has_asked, asks_attrs, attrs_call, asked_call, asked, read_call, asked_part, answer_of, answered, shown_next, Stays, gone, Goes, phase_of};
 ghost use Rattle.file_ops.specs.Overlaid.{bytes_from};
 
 use crate::base::Base;
@@ -117,6 +117,20 @@ impl Reading {
             Phase::Pages => true,
             Phase::Rest => true,
             Phase::Asked(_) => false,
+            Phase::Ended => false,
+        }
+    }
+
+    /// Whether it waits for the reply to its call.
+    pub(crate) fn has_asked(&self) -> bool
+        ensures { result ≡ has_asked self.now.phase }
+    {
+        match self.phase {
+            Phase::Attrs => false,
+            Phase::AskedAttrs => true,
+            Phase::Pages => false,
+            Phase::Rest => false,
+            Phase::Asked(_) => true,
             Phase::Ended => false,
         }
     }

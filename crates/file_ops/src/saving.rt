@@ -1,6 +1,7 @@
 //! Making stable what is pending of a file.
 
-ghost use Rattle.std.specs.Prelude.{◌≡◌, ◌<◌, ◌≤◌, ◌-◌, take};
+ghost use Rattle.std.specs.Prelude.{◌≡◌, ◌<◌, ◌≤◌, ◌-◌, true, nat_lt, None, take};
+ghost use Rattle.std.specs.Bool.{OnTrue};
 ghost use Rattle.nfs_file_calls.specs.declared.call.FileCall.TheVariants.{Write};
 ghost use Rattle.world_model.specs.declared.message.Call.TheVariants as calls;
 ghost use Rattle.write_back.specs.Choice.{chosen};
@@ -11,6 +12,7 @@ ghost use Rattle.commit_verf.specs.Decisions.{decided, verdict_of};
 ghost use Rattle.write_back.specs.Changes.{lost};
 ghost use Rattle.file_ops.specs.Judging.{after_of};
 ghost use Rattle.client_shelf.specs.Learning.{Learns};
+ghost use Rattle.file_ops.specs.Rests.{SaveRests, TurnRests};
 ghost use Rattle.file_ops.specs.Saves.{answered, told_of, pages_told, pages_after, counts_all, counts_whole, Lands, LandsWhole, refused_by, ended_by, TakesWrite, TakesVerf, TakesCommit, Takes, TakesTold, TakesBusy, TakesFirst, last_next, last_saving, commit_again, commit_repeats, commit_of, less_waiting, may_again, may_commit, told_busy, CopiesPiece, begun, is_sending, is_again, commit_phase, refused_next, may_send, CallsWrite, Sends, Goes, next_sent, saving_sent};
 
 use crate::failing::{drop_pages, note_failed};
@@ -19,7 +21,7 @@ use crate::put_off::MOST_TIMES;
 use attr_cache::AttrCache;
 use client_shelf::busy::{JUKEBOX, again, fails_busy};
 use client_shelf::learning::learn;
-use client_shelf::{Came, Repeats, Turn};
+use client_shelf::{Came, Repeats, Shelf, Turn};
 use commit_verf::{Verdict, decide};
 use nfs_file_calls::FileCall;
 use nfs_types::{Handle, Verf};
@@ -108,6 +110,47 @@ impl Saving {
             return SavingStep::Wait;
         }
         self.send(alloc, wsize, turn.xid, by_reply, back)
+    }
+
+    /// Whether it waits for calls of its own, so that a step that no reply made possible does nothing. It isn't said of each that
+    /// does.
+    fn rests(&self, back: &WriteBack) -> bool
+        ensures { OnTrue result (SaveRests self.now back.now) }
+    {
+        match self.refusal {
+            Some(_) => self.has_waiting(),
+            None => self.rests_unrefused(back),
+        }
+    }
+
+    /// The same of one that wasn't refused.
+    fn rests_unrefused(&self, back: &WriteBack) -> bool
+        requires { self.now.refusal ≡ None }
+        ensures { OnTrue result (SaveRests self.now back.now) }
+    {
+        if self.may_send(true) {
+            return self.rests_sent(back);
+        }
+        true
+    }
+
+    /// The same of one that may send, if it had something to send.
+    fn rests_sent(&self, back: &WriteBack) -> bool
+        requires unrefused { self.now.refusal ≡ None }
+        requires may { may_send true self.now ≡ true }
+        ensures { OnTrue result (SaveRests self.now back.now) }
+    {
+        if self.has_waiting() {
+            return back.is_sent(&self.file, self.upto);
+        }
+        false
+    }
+
+    /// Whether a call of its own waits.
+    fn has_waiting(&self) -> bool
+        ensures { result ≡ nat_lt 0 self.now.waiting }
+    {
+        self.waiting > 0
     }
 
     fn may_send(&self, room: bool) -> bool
@@ -369,6 +412,16 @@ impl Saving {
             }
         }
     }
+}
+
+/// Whether the save of a lane waits for its turn in the order of its file, or for calls of its own.
+pub(crate) fn rests_in_turn(lane: u8, saving: &Saving, shelf: &Shelf) -> bool
+    ensures { OnTrue result (TurnRests lane saving.now shelf.now) }
+{
+    if shelf.order.is_first(lane) {
+        return saving.rests(&shelf.back);
+    }
+    true
 }
 
 fn is_sending(phase: Phase) -> bool

@@ -1,12 +1,14 @@
 //! A sync: what is pending of a file is made stable.
 
 ghost use Rattle.std.specs.Prelude.{◌≡◌, ◌≤◌};
+ghost use Rattle.std.specs.Bool.{OnTrue};
 ghost use Rattle.client_shelf.specs.Coming.{reply_of};
 ghost use Rattle.file_ops.specs.declared.sync_file.Syncing.TheVariants as states;
+ghost use Rattle.file_ops.specs.Rests.{SyncRests};
 ghost use Rattle.file_ops.specs.SlotFiles.{IsUnused};
 ghost use Rattle.file_ops.specs.Syncs.{answer_of, Follows, Queues, Starts, Resumes, Takes};
 
-use crate::saving::{Saving, SavingStep};
+use crate::saving::{Saving, SavingStep, rests_in_turn};
 use crate::slots::file_at;
 use client_shelf::{Came, LaneFiles, Shelf, Step, Turn};
 use std::alloc::Global;
@@ -72,6 +74,16 @@ impl SyncFile {
         match state {
             Syncing::Saves(saving) => self.queue(saving, alloc, wsize, turn, shelf),
             Syncing::Idle => Step::Wait,
+        }
+    }
+
+    /// Whether a step that no reply made possible does nothing: its save waits for its turn, or for calls of its own.
+    pub fn rests(&self, shelf: &Shelf) -> bool
+        ensures { OnTrue result (SyncRests self.now shelf.now) }
+    {
+        match &self.state {
+            Syncing::Saves(saving) => rests_in_turn(self.lane, saving, shelf),
+            Syncing::Idle => false,
         }
     }
 

@@ -1,6 +1,7 @@
 //! A write or a fill: its bytes become pending.
 
 ghost use Rattle.std.specs.Prelude.{◌≡◌, ◌+◌, ◌-◌, ◌^◌, ◌<◌, ◌≤◌, ℕ, List, length, replicate, ◌⊎◌, Ok, IfOk, OnOk, OnErr};
+ghost use Rattle.std.specs.Bool.{OnTrue};
 ghost use Rattle.client_shelf.specs.Coming.{reply_of};
 ghost use Rattle.file_ops.specs.declared.saving.SavingStep.TheVariants.{Ended};
 ghost use Rattle.write_back.specs.Files.{IsNewest};
@@ -10,12 +11,13 @@ ghost use Rattle.client_shelf.specs.declared.step.Step.TheVariants.{Done};
 ghost use Rattle.world_model.specs.declared.answer.Fault.TheVariants.{Memory as Lacks};
 ghost use Rattle.world_model.specs.declared.answer.Answer.TheVariants.{Refused};
 ghost use Rattle.file_ops.specs.WriteFile.{text_bytes, made_bytes, room_next, room_state, room_shelf, SavesInTurn, MakesRoom, Writes, WritesMade, RefusesUnmade, Starts, ResumesIn, Follows, TakesIn};
+ghost use Rattle.file_ops.specs.Rests.{WriteRests};
 ghost use Rattle.file_ops.specs.Saves.{begun};
 ghost use Rattle.file_ops.specs.SlotFiles.{IsUnused, joined};
 
 use crate::adding::add_written;
 use crate::opens::file_to_write;
-use crate::saving::{Saving, SavingStep};
+use crate::saving::{Saving, SavingStep, rests_in_turn};
 use client_shelf::{Came, Shelf, Step, Turn};
 use nfs_types::Handle;
 use std::alloc::Global;
@@ -130,6 +132,17 @@ impl WriteFile {
         match state {
             Writing::Idle => Step::Wait,
             Writing::Room { file, saving } => self.go(alloc, wsize, &file, saving, turn, shelf),
+        }
+    }
+
+    /// Whether a step that no reply made possible does nothing: the save that makes room waits for its turn, or for calls of its
+    /// own.
+    pub fn rests(&self, shelf: &Shelf) -> bool
+        ensures { OnTrue result (WriteRests self.now.state self.now.lane shelf.now) }
+    {
+        match &self.state {
+            Writing::Room { saving, .. } => rests_in_turn(self.lane, saving, shelf),
+            Writing::Idle => false,
         }
     }
 

@@ -1,23 +1,23 @@
--- An operation whose call has no reply yet does nothing at any other step.
+-- An operation that waits for the reply to a call of its own, or for its turn, does nothing at any other step.
+use Rattle.std.specs.Bool.{OnTrue}
 use Rattle.std.proofs.Common.{◌≡◌, ℕ, Bool, true, false, ◌||◌, not, if◌then◌else◌, refl, sym, ap, subst, ◌∙◌}
 use Rattle.client_shelf.specs.declared.shelf.Shelf.{Shelf}
 use Rattle.client_shelf.specs.declared.turn.Turn.{Turn}
 use Rattle.client_shelf.specs.declared.step.Step.TheVariants as nexts
 use Rattle.file_ops.specs.declared.close_file.CloseFile.{CloseFile}
-use Rattle.file_ops.specs.declared.close_file.Closing.{Closing}
-use Rattle.file_ops.specs.declared.close_file.Closing.TheVariants as closings
+use Rattle.file_ops.specs.declared.open_file.OpenFile.{OpenFile}
 use Rattle.file_ops.specs.declared.opening.Opening.{Opening}
 use Rattle.file_ops.specs.declared.opening.OpeningStep.TheVariants as opening_nexts
 use Rattle.file_ops.specs.declared.put_file.PutFile.{PutFile}
-use Rattle.file_ops.specs.declared.put_file.Putting.{Putting}
-use Rattle.file_ops.specs.declared.put_file.Putting.TheVariants as puttings
+use Rattle.file_ops.specs.declared.read_file.ReadFile.{ReadFile}
+use Rattle.file_ops.specs.declared.sync_file.SyncFile.{SyncFile}
 use Rattle.file_ops.specs.declared.truncate_file.TruncateFile.{TruncateFile}
 use Rattle.file_ops.specs.declared.truncate_file.Truncating.{Truncating}
 use Rattle.file_ops.specs.declared.truncate_file.Truncating.TheVariants as truncatings
-use Rattle.file_ops.specs.Closes as closes
+use Rattle.file_ops.specs.declared.write_file.WriteFile.{WriteFile}
 use Rattle.file_ops.specs.OpenFile as opens
 use Rattle.file_ops.specs.Opening as openings
-use Rattle.file_ops.specs.PutFile as puts
+use Rattle.file_ops.specs.Rests.{SyncRests, WriteRests, CloseRests, PutRests, ReadRests}
 use Rattle.file_ops.specs.TruncateFile as truncates
 use Rattle.name_ops.specs.declared.pair.Pair.{Pair}
 use Rattle.name_ops.specs.declared.pair.PairStep.TheVariants as pair_nexts
@@ -43,14 +43,11 @@ use Rattle.op_machines.specs.declared.file_machine.FileMachine.TheVariants as fi
 use Rattle.op_machines.specs.declared.machine.Machine.TheVariants as machines
 use Rattle.op_machines.specs.declared.name_machine.NameMachine.{NameMachine}
 use Rattle.op_machines.specs.declared.name_machine.NameMachine.TheVariants as names
-use Rattle.op_machines.specs.declared.opener.Opener.{Opener}
-use Rattle.op_machines.specs.declared.opener.Opener.TheVariants as openers
 use Rattle.op_machines.specs.declared.path_machine.PathMachine.{PathMachine}
-use Rattle.op_machines.specs.FileSteps as file_steps
 use Rattle.op_machines.specs.NameSteps.{NameGoes, change_with, access_with, read_link_with, sym_link_with, list_with, rename_with, link_with}
 use Rattle.op_machines.specs.Openers.{file_of}
 use Rattle.op_machines.specs.PathSteps.{PathResumes, Follows}
-use Rattle.op_machines.specs.Rests.{RestsStill, file_rests, path_rests, opener_rests, put_rests, close_rests, truncate_rests, name_rests, visit_rests, pair_rests}
+use Rattle.op_machines.specs.Rests.{Rests, FileRests, PathRests, truncate_rests, name_rests, visit_rests, pair_rests}
 
 module _ {A : Type 0} where
   taken : (b : Bool) (x y : A) → b ≡ true → (if b then x else y) ≡ x
@@ -151,7 +148,7 @@ module _ (turn : Turn) (shelf : Shelf) where
   name_still (names.List m) h = let s = visit_still m.visit h in
       record { next_is = sym (ap (λ n. visits.next_by (page_call m.place) n) s.0); machine_is = ap (λ v. list_with m v) (sym s.1); shelf_is = sym s.2 }
 
-  -- ---- opens and puts
+  -- ---- opens
 
   opening_still : (o : Opening) → o.asked ≡ true → (openings.go_next o turn ≡ opening_nexts.Wait) × (openings.go_after o turn ≡ o)
   opening_still o h =
@@ -160,41 +157,12 @@ module _ (turn : Turn) (shelf : Shelf) where
         taken (openings.waits o turn) o (record o { asked = true }) waits,
       )
 
-  put_still : (wsize : ℕ) (m : PutFile) (state : Putting) → put_rests state m.opening.asked ≡ true → puts.Resumes state wsize m turn shelf nexts.Wait m shelf
-  put_still wsize m puttings.Opens h = let s = opening_still m.opening h in
-      (sym (ap (λ n. opens.goes_as n) s.0), ap (λ o. record m { opening = o }) (sym s.1), refl)
-  put_still wsize m puttings.Idle h = cc h
-  put_still wsize m (puttings.Adds file) h = cc h
-  put_still wsize m (puttings.Saves saving) h = cc h
-
-  opener_still : (wsize : ℕ) (o : Opener) → opener_rests o ≡ true → file_steps.Resumes wsize (file_of o) turn shelf nexts.Wait (file_of o) shelf
-  opener_still wsize (openers.Open m) h = let s = opening_still m.opening h in
-      record { next_is = sym (ap (λ n. opens.goes_as n) s.0); machine_is = ap (λ o. files.Open (record m { opening = o })) (sym s.1); shelf_is = refl }
-  opener_still wsize (openers.Put m) h = record { machine = m; machine_is = refl; step = put_still wsize m m.state h }
-
-  path_still : (wsize : ℕ) (m : PathMachine) → path_rests m ≡ true → PathResumes m.arrived wsize m turn shelf nexts.Wait m shelf
-  path_still wsize m h = by m.arrived refl
-    where
-      by : (b : Bool) → m.arrived ≡ b → PathResumes m.arrived wsize m turn shelf nexts.Wait m shelf
-      by true e = subst (λ (b : Bool). PathResumes b wsize m turn shelf nexts.Wait m shelf) (sym e) (record {
-        opener = m.opener;
-        machine_is = refl;
-        step = opener_still wsize m.opener (sym (taken m.arrived (opener_rests m.opener) m.walk.asked e) ∙ h);
-      })
-      by false e =
-          let w = walk_still m.walk (sym (passed m.arrived (opener_rests m.opener) m.walk.asked e) ∙ h) in
-          subst (λ (b : Bool). PathResumes b wsize m turn shelf nexts.Wait m shelf) (sym e)
-          (subst (λ n. Follows n wsize (record m { walk = walks.go_after m.walk turn shelf }) turn (walks.go_shelf m.walk turn shelf) nexts.Wait m shelf) (sym w.0)
-          (refl, ap (λ k. record m { walk = k }) (sym w.1), sym w.2))
-
-  -- ---- operations on files
-
-  close_still : (wsize : ℕ) (m : CloseFile) (state : Closing) → close_rests state ≡ true → closes.Resumes state wsize m turn shelf nexts.Wait state shelf
-  close_still wsize m (closings.Removing removal) h = record { next_is = refl; state_is = refl; shelf_is = refl }
-  close_still wsize m closings.Idle h = cc h
-  close_still wsize m (closings.Queued saving) h = cc h
-  close_still wsize m (closings.Saves saving) h = cc h
-  close_still wsize m (closings.ToRemove removal) h = cc h
+  walked_still : (wsize : ℕ) (m : PathMachine) → m.arrived ≡ false → m.walk.asked ≡ true → PathResumes m.arrived wsize m turn shelf nexts.Wait m shelf
+  walked_still wsize m e h =
+      let w = walk_still m.walk h in
+      subst (λ (b : Bool). PathResumes b wsize m turn shelf nexts.Wait m shelf) (sym e)
+      (subst (λ n. Follows n wsize (record m { walk = walks.go_after m.walk turn shelf }) turn (walks.go_shelf m.walk turn shelf) nexts.Wait m shelf) (sym w.0)
+      (refl, ap (λ k. record m { walk = k }) (sym w.1), sym w.2))
 
   truncate_still : (m : TruncateFile) (state : Truncating) → truncate_rests state ≡ true
       → (truncates.resumed_next state m turn shelf ≡ nexts.Wait) × (truncates.resumed_state state m turn shelf ≡ state)
@@ -202,19 +170,61 @@ module _ (turn : Turn) (shelf : Shelf) where
   truncate_still m truncatings.Idle h = cc h
   truncate_still m (truncatings.Queued file upto) h = cc h
 
-  file_still : (wsize : ℕ) (m : FileMachine) → file_rests m ≡ true → file_steps.Resumes wsize m turn shelf nexts.Wait m shelf
-  file_still wsize (files.Close m) h = record { state = m.state; machine_is = refl; step = close_still wsize m m.state h }
-  file_still wsize (files.Truncate m) h = let s = truncate_still m m.state h in
-      record { next_is = sym s.0; machine_is = ap (λ k. files.Truncate (record m { state = k })) (sym s.1); shelf_is = refl }
-  file_still wsize (files.Open m) h = cc h
-  file_still wsize (files.Read m) h = cc h
-  file_still wsize (files.Write m) h = cc h
-  file_still wsize (files.Sync m) h = cc h
-  file_still wsize (files.Put m) h = cc h
+-- ---- one on a file
+
+pub open-file : (m : OpenFile) (shelf : Shelf) (b : Bool) → b ≡ m.opening.asked → OnTrue b (FileRests (files.Open m) shelf)
+open-file m shelf false asked = tt
+open-file m shelf true asked = λ wsize turn.
+    let s = opening_still turn shelf m.opening (sym asked) in
+    record { next_is = sym (ap (λ n. opens.goes_as n) s.0); machine_is = ap (λ o. files.Open (record m { opening = o })) (sym s.1); shelf_is = refl }
+
+pub read-file : (m : ReadFile) (shelf : Shelf) (b : Bool) → OnTrue b (ReadRests m) → OnTrue b (FileRests (files.Read m) shelf)
+read-file m shelf false rests = tt
+read-file m shelf true rests = λ wsize turn. record { machine = m; machine_is = refl; step = rests turn.room shelf.pages shelf.back; others = refl }
+
+pub write-file : (m : WriteFile) (shelf : Shelf) (b : Bool) → OnTrue b (WriteRests m.state m.lane shelf) → OnTrue b (FileRests (files.Write m) shelf)
+write-file m shelf false rests = tt
+write-file m shelf true rests = λ wsize turn. record { state = m.state; machine_is = refl; step = rests wsize turn }
+
+pub sync-file : (m : SyncFile) (shelf : Shelf) (b : Bool) → OnTrue b (SyncRests m shelf) → OnTrue b (FileRests (files.Sync m) shelf)
+sync-file m shelf false rests = tt
+sync-file m shelf true rests = λ wsize turn. record { state = m.state; machine_is = refl; step = rests wsize turn }
+
+pub close-file : (m : CloseFile) (shelf : Shelf) (b : Bool) → OnTrue b (CloseRests m shelf) → OnTrue b (FileRests (files.Close m) shelf)
+close-file m shelf false rests = tt
+close-file m shelf true rests = λ wsize turn. record { state = m.state; machine_is = refl; step = rests wsize turn }
+
+pub truncate-file : (m : TruncateFile) (shelf : Shelf) (b : Bool) → b ≡ truncate_rests m.state → OnTrue b (FileRests (files.Truncate m) shelf)
+truncate-file m shelf false rests = tt
+truncate-file m shelf true rests = λ wsize turn.
+    let s = truncate_still turn shelf m m.state (sym rests) in
+    record { next_is = sym s.0; machine_is = ap (λ k. files.Truncate (record m { state = k })) (sym s.1); shelf_is = refl }
+
+pub put-file : (m : PutFile) (shelf : Shelf) (b : Bool) → OnTrue b (PutRests m shelf) → OnTrue b (FileRests (files.Put m) shelf)
+put-file m shelf false rests = tt
+put-file m shelf true rests = λ wsize turn. record { machine = m; machine_is = refl; step = rests wsize turn }
+
+-- ---- an open or a put, at its directory or on the way
+
+pub arrived-rests : (m : PathMachine) (shelf : Shelf) (b : Bool) → m.arrived ≡ true → OnTrue b (FileRests (file_of m.opener) shelf) → OnTrue b (PathRests m shelf)
+arrived-rests m shelf false at rests = tt
+arrived-rests m shelf true at rests = λ wsize turn.
+    subst (λ (b : Bool). PathResumes b wsize m turn shelf nexts.Wait m shelf) (sym at) (record { opener = m.opener; machine_is = refl; step = rests wsize turn })
+
+pub walking-rests : (m : PathMachine) (shelf : Shelf) (b : Bool) → m.arrived ≡ false → b ≡ m.walk.asked → OnTrue b (PathRests m shelf)
+walking-rests m shelf false at asked = tt
+walking-rests m shelf true at asked = λ wsize turn. walked_still turn shelf wsize m at (sym asked)
 
 -- ---- any of them
 
-pub rested : RestsStill
-rested (machines.File m) h wsize turn shelf = record { machine = m; machine_is = refl; step = file_still turn shelf wsize m h }
-rested (machines.Path m) h wsize turn shelf = record { machine = m; machine_is = refl; step = path_still turn shelf wsize m h }
-rested (machines.Name m) h wsize turn shelf = record { machine = m; machine_is = refl; step = name_still turn shelf m h }
+pub file-rests : (m : FileMachine) (shelf : Shelf) (b : Bool) → OnTrue b (FileRests m shelf) → OnTrue b (Rests (machines.File m) shelf)
+file-rests m shelf false rests = tt
+file-rests m shelf true rests = λ wsize turn. record { machine = m; machine_is = refl; step = rests wsize turn }
+
+pub path-rests : (m : PathMachine) (shelf : Shelf) (b : Bool) → OnTrue b (PathRests m shelf) → OnTrue b (Rests (machines.Path m) shelf)
+path-rests m shelf false rests = tt
+path-rests m shelf true rests = λ wsize turn. record { machine = m; machine_is = refl; step = rests wsize turn }
+
+pub name-rests : (m : NameMachine) (shelf : Shelf) (b : Bool) → b ≡ name_rests m → OnTrue b (Rests (machines.Name m) shelf)
+name-rests m shelf false rests = tt
+name-rests m shelf true rests = λ wsize turn. record { machine = m; machine_is = refl; step = name_still turn shelf m (sym rests) }

@@ -2,18 +2,11 @@
 
 ghost use Rattle.op_machines.specs.Endings.{FewLeft, RefusalsEnd};
 ghost use Rattle.op_machines.specs.Laws.{WaitsStill, StartsFit, ResumesFit, TakesFit, StartsReady, ResumesReady, TakesReady, StartsUnsent, ResumesUnsent, TakesUnsent, StartsNumber, ResumesNumber, TakesNumber, RefusalsNumber, StartsRoomless, ResumesRoomless, TakesRoomless, StartsSpellable, ResumesSpellable, TakesSpellable, StartsUnmade, ResumesUnmade, TakesUnmade};
-ghost use Rattle.op_machines.specs.Rests.{RestsStill};
 
 /// A step that no reply made possible and that waits, though there is room for a call, changes neither the operation nor the
 /// shelf.
 pub fn waits_still()
     ensures { WaitsStill }
-{}
-
-/// An operation of which `Machine::rests` says that it rests waits at a step that no reply made possible, and neither it nor the
-/// shelf changes.
-pub fn resting_is_still()
-    ensures { RestsStill }
 {}
 
 /// The bytes that an operation has to write go on to end within all places of a file.

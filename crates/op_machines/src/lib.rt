@@ -13,7 +13,7 @@ mod resting;
 pub use begun::Mounted;
 pub use file_machine::FileMachine;
 pub use laws::{
-    calls_are_spellable, no_room_no_call, refusals_end, refusals_number_nothing, resting_is_still,
+    calls_are_spellable, no_room_no_call, refusals_end, refusals_number_nothing,
     steps_number_writes, steps_stay_fit, steps_stay_ready, unmade_calls_leave_nothing,
     unsent_steps_stay_ready, waits_still,
 };

@@ -1,68 +1,72 @@
-//! Whether an operation waits for the reply to its call, so that nothing else lets it go on.
+//! Whether an operation waits so that a step that no reply made possible does nothing.
 
 ghost use Rattle.std.specs.Prelude.{◌≡◌};
-ghost use Rattle.op_machines.specs.Rests.{rests, file_rests, path_rests, opener_rests, name_rests, visit_rests, pair_rests};
+ghost use Rattle.std.specs.Bool.{OnTrue};
+ghost use Rattle.op_machines.specs.Openers.{file_of};
+ghost use Rattle.op_machines.specs.Rests.{Rests, FileRests, PathRests, truncate_rests, name_rests, visit_rests, pair_rests};
 
 use crate::file_machine::FileMachine;
 use crate::machine::Machine;
 use crate::name_machine::NameMachine;
 use crate::opener::Opener;
 use crate::path_machine::PathMachine;
-use file_ops::{Closing, Putting, Truncating};
+use client_shelf::Shelf;
+use file_ops::{TruncateFile, Truncating};
 use name_ops::{Pair, Visit};
 
 impl Machine {
-    /// Whether it waits for the reply to its call, so that no other step does anything (`resting_is_still`). Of reads, and of
-    /// operations that save, it never says so.
-    pub fn rests(&self) -> bool
-        ensures { result ≡ rests self.now }
+    /// Whether a step that no reply made possible does nothing: the operation waits for the reply to a call of its own, or for its
+    /// turn at a file. It isn't said of each that does nothing.
+    pub fn rests(&self, shelf: &Shelf) -> bool
+        ensures { OnTrue result (Rests self.now shelf.now) }
     {
         match self {
-            Machine::File(file) => file_rests(file),
-            Machine::Path(path) => path_rests(path),
+            Machine::File(file) => file_rests(file, shelf),
+            Machine::Path(path) => path_rests(path, shelf),
             Machine::Name(name) => name_rests(name),
         }
     }
 }
 
 /// An operation on a file.
-fn file_rests(file: &FileMachine) -> bool
-    ensures { result ≡ file_rests file.now }
+fn file_rests(file: &FileMachine, shelf: &Shelf) -> bool
+    ensures { OnTrue result (FileRests file.now shelf.now) }
 {
     match file {
-        FileMachine::Close(close) => matches!(close.state, Closing::Removing(_)),
-        FileMachine::Truncate(truncate) => matches!(truncate.state, Truncating::Asked { .. }),
+        FileMachine::Read(read) => read.rests(),
+        FileMachine::Write(write) => write.rests(shelf),
+        FileMachine::Sync(sync) => sync.rests(shelf),
+        FileMachine::Close(close) => close.rests(shelf),
+        FileMachine::Truncate(truncate) => truncate_rests(truncate),
+        FileMachine::Put(put) => put.rests(shelf),
         FileMachine::Open(_) => false,
-        FileMachine::Read(_) => false,
-        FileMachine::Write(_) => false,
-        FileMachine::Sync(_) => false,
-        FileMachine::Put(_) => false,
     }
+}
+
+/// A truncate waits for the reply to its SETATTR.
+fn truncate_rests(truncate: &TruncateFile) -> bool
+    ensures { result ≡ truncate_rests truncate.now.state }
+{
+    matches!(truncate.state, Truncating::Asked { .. })
 }
 
 /// An open or a put: its walk waits, or what it leads to.
-fn path_rests(path: &PathMachine) -> bool
-    ensures { result ≡ path_rests path.now }
+fn path_rests(path: &PathMachine, shelf: &Shelf) -> bool
+    ensures { OnTrue result (PathRests path.now shelf.now) }
 {
     if path.arrived {
-        opener_rests(&path.opener)
-    } else {
-        path.walk.asked
+        return opener_rests(&path.opener, shelf);
     }
+    path.walk.asked
 }
 
 /// The open or the put at the directory of its name.
-fn opener_rests(opener: &Opener) -> bool
-    ensures { result ≡ opener_rests opener.now }
+fn opener_rests(opener: &Opener, shelf: &Shelf) -> bool
+    ensures { OnTrue result (FileRests (file_of opener.now) shelf.now) }
 {
     match opener {
         Opener::Open(open) => open.opening.asked,
-        Opener::Put(put) => match put.state {
-            Putting::Opens => put.opening.asked,
-            Putting::Idle => false,
-            Putting::Adds(_) => false,
-            Putting::Saves(_) => false,
-        },
+        Opener::Put(put) => put.rests(shelf),
     }
 }
 

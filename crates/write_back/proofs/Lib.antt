@@ -30,6 +30,7 @@ pub mod Overlaying
 pub mod OwnBytes
 pub mod PartSums
 pub mod Passed
+pub mod PastAll
 pub mod Putting
 pub mod Ranges
 pub mod Replying

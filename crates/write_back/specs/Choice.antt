@@ -77,3 +77,7 @@ IsPut xid (e ∷ es) old new done = (done ≡ Ok true) × (new ≡ with_sent (pi
 abbrev pub some_go : Segments → Bool
 some_go [] = false
 some_go (e ∷ es) = true
+
+-- no segment with a number up to another may go
+abbrev pub NoneGo : ℕ → FilePending → Type 0
+NoneGo upto of = (wsize : ℕ) → chosen upto wsize of ≡ []

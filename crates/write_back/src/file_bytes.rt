@@ -1,9 +1,11 @@
 //! What is pending of one file.
 
 ghost use Rattle.std.specs.Prelude.{◌≡◌, ◌+◌, ◌^◌, ◌<◌, ◌-◌, ◌≤◌, ◌↔◌, [], ℕ, List, None, IsTrue, length, IsOk, OnOk, OnErr, IfSome, nat_le, min, if◌then◌else◌};
+ghost use Rattle.std.specs.Bool.{OnTrue};
 ghost use Rattle.std.specs.Option.{option_map};
 ghost use Rattle.write_back.specs.declared.change.Change.TheVariants as by;
-ghost use Rattle.write_back.specs.Choice.{chosen, may_go, IsPut};
+ghost use Rattle.write_back.specs.Choice.{chosen, may_go, IsPut, NoneGo};
+ghost use Rattle.write_back.specs.Cursor.{place_of};
 ghost use Rattle.write_back.specs.Effects.{IsAnswer, IsOfHeld};
 ghost use Rattle.write_back.specs.Ages.{kept_by, written_by, gone_by, parts_by, parts_in, pending_by, Gains, IsUnknown, Lessens, Loses, Raises, SameKept, Takes};
 ghost use Rattle.write_back.specs.Segments.{added};
@@ -166,11 +168,24 @@ impl FileBytes {
         ensures told { result ≡ option_map (λ e. e.0) (first_that (may_go self.old.pieces upto) 0 self.old.segments) }
         ensures small { IfSome result (λ at. at < 2 ^ 63) }
     {
-        self.resume = self.spans.first_ready(self.resume)?;
+        let Some(resume) = self.spans.first_ready(self.resume) else {
+            self.resume = u64::MAX;
+            self.passed = u64::MAX;
+            return None;
+        };
+        self.resume = resume;
         let from = passed_before(self.passed, self.passed_upto, self.resume, upto);
         self.passed_upto = upto;
         self.passed = self.spans.first_waiting(from, upto);
         self.spans.first_to_go(self.passed, upto, &self.sent)
+    }
+
+    /// Whether it is known without a walk that no segment with a number up to `upto` may go. It isn't known of all that
+    /// have none.
+    pub fn is_sent(&self, upto: u64) -> bool
+        ensures { OnTrue result (NoneGo upto self.now) }
+    {
+        is_past_all(passed_before(self.passed, self.passed_upto, self.resume, upto))
     }
 
     /// The piece that was sent last.
@@ -274,6 +289,13 @@ fn passed_before(passed: u64, passed_upto: u64, resume: u64, upto: u64) -> u64
     ensures { result ≡ (if nat_le upto passed_upto then passed else resume) }
 {
     if upto <= passed_upto { passed } else { resume }
+}
+
+/// Whether each segment begins before a place.
+fn is_past_all(place: u64) -> bool
+    ensures { OnTrue result (place ≡ place_of None) }
+{
+    place == u64::MAX
 }
 
 /// Such a place once bytes with a number were added at an offset.

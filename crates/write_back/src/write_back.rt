@@ -1,6 +1,7 @@
 //! The bytes that were written and that the server hasn't made stable.
 
 ghost use Rattle.std.specs.Prelude.{◌≡◌, ◌↔◌, ◌+◌, ◌-◌, ◌^◌, ◌<◌, ◌≤◌, ℕ, List, [], Err, None, IsOk, IsSome, IsTrue, length, OnOk, OnErr, IfOk, IfSome};
+ghost use Rattle.std.specs.Bool.{OnTrue};
 ghost use Rattle.std.specs.Borrow.{sem};
 ghost use Rattle.std.specs.Option.{option_map};
 ghost use Rattle.std.specs.Vec.{vec_capacity};
@@ -9,7 +10,7 @@ ghost use Rattle.write_back.specs.declared.change.Change.TheVariants as by;
 ghost use Rattle.write_back.specs.Segments.{shown, last_end};
 ghost use Rattle.write_back.specs.Changes.{count_all_changed};
 ghost use Rattle.write_back.specs.Pieces.{nothing, last_of, bytes_sent, piece_under};
-ghost use Rattle.write_back.specs.Choice.{chosen, some_go};
+ghost use Rattle.write_back.specs.Choice.{chosen, some_go, NoneGo};
 ghost use Rattle.write_back.specs.Effects.{IsAnswer, IsOfHeld};
 ghost use Rattle.write_back.specs.Sound.{IsSound, most_pending};
 ghost use Rattle.write_back.specs.Places.{PutsBytes, Lands, ChangesAll, Cuts};
@@ -206,6 +207,17 @@ impl WriteBack {
     {
         match self.files.get(file) {
             Some(of) => of.is_quiet(),
+            None => true,
+        }
+    }
+
+    /// Whether it is known without a walk that none of a file's segments with a number up to `upto` may go. It isn't known of
+    /// all files that have none.
+    pub fn is_sent(&self, file: &Handle, upto: u64) -> bool
+        ensures { OnTrue result (NoneGo upto (of_file file.now self.now)) }
+    {
+        match self.files.get(file) {
+            Some(of) => of.is_sent(upto),
             None => true,
         }
     }

@@ -8,4 +8,4 @@ pub returns : goal.returns
 returns c =
     let v : View = record { calls = c.self.inside.calls; shelf = c.self.inside.shelf; lanes = c.self.inside.lanes.items; wsize = c.self.inside.wsize; clock = c.self.inside.clock; moments = c.self.inside.moments; begun = c.self.inside.begun; lost = c.self.inside.lost } in
     let there = at-read v.lanes c.args.at c.index.result.now (subst (λ (w : View). c.args.at < length w.lanes) (sym c.self.view_is) c.requires) c.index.ensures in
-    rw (← c.self.view_is) (rests-at c.resting_is_still.ensures v c.args.at c.index.result.now c.rests.result there c.rests.ensures)
+    rw (← c.self.view_is) (rests-at v c.args.at c.index.result.now c.rests.result there c.rests.ensures)
