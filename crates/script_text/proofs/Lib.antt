@@ -9,3 +9,5 @@ pub mod FormRows
 pub mod Firsts
 pub mod Lanewise
 pub mod Pairwise
+pub mod Plainly
+pub mod Fronts

@@ -11,13 +11,9 @@ use Rattle.hex.specs.Hex.{decode_of, decode_pairs, pair_value, hex_digit_value, 
 use Rattle.hex.specs.declared.error.FromHexError.{FromHexError}
 use Rattle.hex.proofs.Pairs.{decode_pairs-ok_pair, cons_byte}
 use Rattle.hex.proofs.HexLemmas.{decode_of-even, decode_of-ok}
-use Rattle.script_text.specs.Digits.{digit_of, pairs_of, Tells}
+use Rattle.script_text.specs.Digits.{digit_of, pairs_of, AreRead, IsSeen, Tells}
 use Rattle.script_text.specs.Paths.{escaped}
 use Rattle.script_text.proofs.Lanewise.{IsSmall, small_parts, small_both, all_small, small_all}
-
--- the bytes at these places are those of their digits
-abbrev pub AreRead : List ℕ → List ℕ → ℕ → ℕ → Type 0
-AreRead hex bytes from to = (i : ℕ) → from ≤ i → i < to → escaped (get_or hex (2 * i) 0) (get_or hex (2 * i + 1) 0) ≡ Some (get_or bytes i 0)
 
 pub length_pairs : (values : List ℕ) (n : ℕ) → length values ≡ 2 * n → length (pairs_of values) ≡ n
 length_pairs [] n e = omega (arith, e)
@@ -151,12 +147,6 @@ small_block hex values from e all =
 lengths : (values digits : List ℕ) → map digit_of values ≡ map hex_digit_value digits → length values ≡ length digits
 lengths values digits e = sym (length-map values digit_of) ∙ ap (λ (l : List (Option ℕ)). length l) e ∙ length-map digits hex_digit_value
 
--- What was seen of the digits of the bytes before a place: where all values are below sixteen the bytes are theirs, and they are where all are digits.
-pub record IsSeen (hex bytes seen : List ℕ) (to : ℕ) : Type 0 where
-  pub many : length seen ≡ 32
-  pub found : Each1 IsSmall seen → AreRead hex bytes 0 to
-  pub small : AllPass is_hex_digit hex → Each1 IsSmall seen
-
 pub nothing_seen : (hex bytes : List ℕ) → IsSeen hex bytes (replicate 32 0) 0
 nothing_seen hex bytes = record {
   many = refl;
@@ -181,6 +171,9 @@ more_seen hex bytes after seen values from at room fits le e put s =
           (block_read hex bytes values at fits room long e parts.1) (omega arith));
       small = λ all. small_both seen values (s.small all) (small_block hex values (2 * at) e all);
     }
+
+pub seen_to : (hex bytes seen : List ℕ) (to end : ℕ) → to ≡ end → IsSeen hex bytes seen to → IsSeen hex bytes seen end
+seen_to hex bytes seen to end e s = subst (λ (n : ℕ). IsSeen hex bytes seen n) e s
 
 pub all_seen : (hex bytes seen : List ℕ) (to : ℕ) → length hex ≡ 2 * length bytes → to ≡ length bytes → IsSeen hex bytes seen to
     → Tells hex (nat_lt (fold_l bit_or 0 seen) 16) bytes

@@ -8,7 +8,7 @@ use Rattle.std.proofs.lemmas.List.Sums.{prefix_len-le-length}
 use Rattle.script_text.specs.Lines.{if_some, lines_of, lines, words, is_feed, is_blank, is_empty, without_return}
 
 -- no element passes
-none_passes : (test : ℕ → Bool) (text : List ℕ) → position test text ≡ None → position_or_len test text ≡ length text
+pub none_passes : (test : ℕ → Bool) (text : List ℕ) → position test text ≡ None → position_or_len test text ≡ length text
 none_passes test text e = elim (nat_lt (position_or_len test text) (length text)) as (λ t. nat_lt (position_or_len test text) (length text) ≡ t → cond t (Some (position_or_len test text)) None ≡ None → position_or_len test text ≡ length text) [
   | true ↦ λ h e. absurd cc
   | false ↦ λ h e. omega (arith, ltb-false _ _ h, prefix_len-le-length (λ b. not (test b)) text)
@@ -18,7 +18,7 @@ pub record Passes (test : ℕ → Bool) (text : List ℕ) (n : ℕ) : Type 0 whe
   pub at : position_or_len test text ≡ n
   pub inside : n < length text
 
-first_passes : (test : ℕ → Bool) (text : List ℕ) (n : ℕ) → position test text ≡ Some n → Passes test text n
+pub first_passes : (test : ℕ → Bool) (text : List ℕ) (n : ℕ) → position test text ≡ Some n → Passes test text n
 first_passes test text n e = elim (nat_lt (position_or_len test text) (length text)) as (λ t. nat_lt (position_or_len test text) (length text) ≡ t → cond t (Some (position_or_len test text)) None ≡ Some n → Passes test text n) [
   | true ↦ λ h e. let same : position_or_len test text ≡ n = cc in record { at = same; inside = omega (arith, ltb-true _ _ h, same) }
   | false ↦ λ h e. absurd cc

@@ -3,3 +3,4 @@ pub mod Numbers
 pub mod Payloads
 pub mod Paths
 pub mod Digits
+pub mod Plain

@@ -9,9 +9,11 @@ mod lines;
 mod numbers;
 mod paths;
 mod payloads;
+mod plain;
 
 pub use lines::{
-    first_line, four_words, is_skipped, is_utf8, next_word, one_word, three_words, two_words,
+    first_line, first_text, four_words, is_skipped, is_utf8, next_word, one_word, three_words,
+    two_words,
 };
 pub use numbers::{long_number, number};
 pub use paths::{decoded, path, target};

@@ -1,10 +1,13 @@
 //! Text as lines, and lines as words.
 
-ghost use Rattle.std.specs.Prelude.{◌≡◌, ◌<◌, [], ◌∷◌, length, position, MatchOption, if◌then◌else◌};
+ghost use Rattle.std.specs.Prelude.{◌≡◌, ◌<◌, ◌≤◌, [], ◌∷◌, length, take, position, MatchOption, if◌then◌else◌};
 ghost use Rattle.std.specs.Option.{option_map};
+ghost use Rattle.std.specs.Simd.Lanes.{Each1};
 ghost use Rattle.std.specs.Str.{is_utf8};
 ghost use Rattle.script_text.specs.Lines.{is_feed, is_blank, is_skipped, lines, words, is_empty, without_return, one, two, three, four};
+ghost use Rattle.script_text.specs.Plain.{IsPlain};
 
+use crate::plain::plain_front;
 use memchr::{memchr, memchr2};
 use simdutf8::basic::from_utf8;
 
@@ -18,6 +21,45 @@ pub fn first_line<'a>(text: &'a [u8]) -> (&'a [u8], &'a [u8])
         None => (text, &text[text.len()..]),
         Some(at) => (without_return(&text[..at]), &text[at + 1..]),
     }
+}
+
+/// The first line of a text and what follows it, as `first_line` gives them, and whether the line is UTF-8. The bytes of a
+/// front that is ASCII are looked at once.
+pub fn first_text<'a>(text: &'a [u8]) -> (&'a [u8], &'a [u8], bool)
+    ensures first { 0 < length text.entry.now → lines text.entry.now ≡ result.0.now ∷ lines result.1.now }
+    ensures shorter { 0 < length text.entry.now → length result.1.now < length text.entry.now }
+    ensures text { result.2 ≡ is_utf8 result.0.now }
+{
+    let plain = plain_front(text);
+    match feed_behind(text, plain) {
+        None => (text, &text[text.len()..], is_utf8_behind(text, plain)),
+        Some(at) => {
+            let line = without_return(&text[..at]);
+            (line, &text[at + 1..], is_utf8_behind(line, plain))
+        }
+    }
+}
+
+/// The place of the first line feed of a text with that many plain bytes at its front.
+fn feed_behind(text: &[u8], plain: usize) -> Option<usize>
+    requires within { plain ≤ length text.now }
+    requires plain { Each1 IsPlain (take plain text.now) }
+    ensures { result ≡ position is_feed text.now }
+{
+    let (_, rest) = text.split_at(plain);
+    match feed(rest) {
+        None => None,
+        Some(at) => Some(plain + at),
+    }
+}
+
+/// Whether a line is UTF-8 text, if as many bytes at its front are plain, or all of them.
+fn is_utf8_behind(line: &[u8], plain: usize) -> bool
+    requires { Each1 IsPlain (take plain line.now) }
+    ensures { result ≡ is_utf8 line.now }
+{
+    let (_, rest) = line.split_at(plain.min(line.len()));
+    is_utf8(rest)
 }
 
 /// The place of the first line feed.
