@@ -6,4 +6,5 @@ mod opened;
 mod tree;
 mod unread;
 
+pub use listing::Listing;
 pub use tree::DiskTree;

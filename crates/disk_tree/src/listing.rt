@@ -13,7 +13,7 @@ const ROOM: usize = 16_384;
 
 /// A folder that is being listed: its names are read piece by piece.
 #[derive(Drop)]
-pub(crate) struct Listing<R: Files> {
+pub struct Listing<R: Files> {
     dir: R::Dir,
     /// The path of the folder below the root, and nothing for the root itself.
     below: String,
@@ -26,7 +26,7 @@ pub(crate) struct Listing<R: Files> {
 
 impl<R: Files> Listing<R> {
     /// A folder that was opened, of which nothing is read yet.
-    pub(crate) fn new(alloc: Global, dir: R::Dir, below: String, path: Vec<Name>) -> Listing<R> {
+    pub fn new(alloc: Global, dir: R::Dir, below: String, path: Vec<Name>) -> Listing<R> {
         Listing {
             dir,
             below,
@@ -47,7 +47,7 @@ impl<R: Files> Listing<R> {
     }
 
     /// The next name; none at the end. `.` and `..` are passed over.
-    pub(crate) fn next(&mut self) -> io::Result<Option<Name>> {
+    pub fn next(&mut self) -> io::Result<Option<Name>> {
         for _ in 0..u64::MAX {
             if self.at >= self.names.len() {
                 let count = self.fill()?;
