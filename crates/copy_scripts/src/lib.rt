@@ -7,6 +7,6 @@ mod paths;
 mod telling;
 mod upload;
 
-pub use paths::server_path;
+pub use paths::{below, server_path};
 pub use telling::{Progress, Teller};
 pub use upload::{Sent, Upload};

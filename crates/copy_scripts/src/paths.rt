@@ -73,7 +73,7 @@ fn short_path(names: Vec<Name>) -> Option<Path>
 }
 
 /// The path below another one; none if it has no name, or more than 1,024 bytes.
-pub(crate) fn below(alloc: Global, to: &Path, path: &Path) -> Result<Option<Path>, Memory>
+pub fn below(alloc: Global, to: &Path, path: &Path) -> Result<Option<Path>, Memory>
     ensures { IfOk result (λ found. IfSome found (λ p. (p ≡ to.now ++ path.now) × IsNamed p)) }
 {
     let mut names = Vec::new(alloc);

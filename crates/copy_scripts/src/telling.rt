@@ -51,7 +51,7 @@ impl<'a, K: Sink, C: Clock> Teller<'a, K, C> {
     }
 
     /// Why something wasn't copied, in words.
-    pub(crate) fn complain(&mut self, path: &Path, why: &[u8]) -> Result<(), Memory> {
+    pub fn complain(&mut self, path: &Path, why: &[u8]) -> Result<(), Memory> {
         let mut text = Writer::new(self.alloc);
         text.raw(b"nfs3: ")?;
         write_path(&mut text, path)?;
@@ -77,12 +77,12 @@ impl<'a, K: Sink, C: Clock> Teller<'a, K, C> {
     }
 
     /// So many bytes of a file were taken.
-    pub(crate) fn add_bytes(&mut self, count: usize) {
+    pub fn add_bytes(&mut self, count: usize) {
         self.bytes = self.bytes.saturating_add(count as u64);
     }
 
     /// A file was taken to its end.
-    pub(crate) fn add_file(&mut self) {
+    pub fn add_file(&mut self) {
         self.files = self.files.saturating_add(1);
     }
 
