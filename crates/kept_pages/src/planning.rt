@@ -13,7 +13,7 @@ pub(crate) struct Plan {
     /// The slots that change. Those behind as many as there are pages are only closed.
     pub(crate) slots: Vec<u32>,
     /// The slots of the cache whose pages go into the first of them, in their order.
-    pub(crate) pages: Vec<u32>,
+    pub(crate) pages: Vec<usize>,
 }
 
 /// The pages of a cache that no slot has, and slots for them: those that have no page of the cache, as far as there are any. A
@@ -26,7 +26,7 @@ pub(crate) fn plan_for<D: Disk + Drop>(
     let places = places_of(alloc, store)?;
     let mut stays = vec![in alloc; false; store.count() as usize]?;
     let mut pages = Vec::new(alloc);
-    let room = cache.room() as u32;
+    let room = cache.room();
     for done in 0..room {
         // Pages take the cache's slots from the first on, so the last ones mostly have the pages that were used last.
         choose(
@@ -47,11 +47,11 @@ fn choose<D: Disk + Drop>(
     cache: &PageCache,
     store: &PageStore<D>,
     places: &IndexMap<(Handle, u64), u32>,
-    from: u32,
+    from: usize,
     stays: &mut Vec<bool>,
-    pages: &mut Vec<u32>,
+    pages: &mut Vec<usize>,
 ) -> Result<(), Memory> {
-    let Some(page) = cache.slot_page(from as usize) else {
+    let Some(page) = cache.slot_page(from) else {
         return Ok(());
     };
     match slot_with(store, places, &page) {

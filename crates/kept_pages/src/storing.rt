@@ -67,7 +67,7 @@ fn fill_all<D: Disk + Drop>(
     cache: &PageCache,
     store: &mut PageStore<D>,
     slots: &[u32],
-    pages: &[u32],
+    pages: &[usize],
 ) -> Result<(), StoreFault>
     ensures fills { D.tells store.old.disk → (n : ℕ) → length store.old.pages ≤ n → IsSound n (D.may_leave store.old.disk)
         → IsUnderWay (D.seen store.old.disk) (D.may_leave store.old.disk) store.old.round
@@ -93,7 +93,7 @@ fn fill_from<D: Disk + Drop>(
     cache: &PageCache,
     store: &mut PageStore<D>,
     slot: u32,
-    from: u32,
+    from: usize,
 ) -> Result<(), StoreFault>
     ensures fills { D.tells store.old.disk → (n : ℕ) → length store.old.pages ≤ n → IsSound n (D.may_leave store.old.disk)
         → IsUnderWay (D.seen store.old.disk) (D.may_leave store.old.disk) store.old.round
@@ -105,7 +105,7 @@ fn fill_from<D: Disk + Drop>(
     ensures goes_on { D.tells store.old.disk → D.tells store.new.disk }
     ensures cause { HasStoreCause (D.faults store.old.disk) (D.faults store.new.disk) result }
 {
-    match cache.slot_page(from as usize) {
+    match cache.slot_page(from) {
         Some(page) => fill_with(store, slot, &page),
         None => Ok(()),
     }

@@ -6,3 +6,6 @@ returns-clause-pages c = λ slots k shown all. c.keep.ensures.pages slots ((k, s
 
 pub returns-clause-room : goal.returns-clause-room
 returns-clause-room c = c.keep.ensures.room ∙ c.learn.ensures.room
+
+pub returns-in-Err-clause-pages : goal.returns-in-Err-clause-pages
+returns-in-Err-clause-pages c = λ slots k shown all. c.learn.ensures.pages slots all
