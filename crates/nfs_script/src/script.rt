@@ -1,6 +1,7 @@
 //! Scripts: the operations that are asked for, each with its lane and its line.
 
 ghost use Rattle.std.specs.Prelude.{◌≡◌, ◌≤◌, ◌<◌, ◌+◌, ◌++◌, [], ◌∷◌, length, slice_get, All, IfOk, OnOk};
+ghost use Rattle.std.specs.Str.{is_utf8};
 ghost use Rattle.script_text.specs.Lines.{lines};
 ghost use Rattle.nfs_script.specs.Asked.{IsAskedLine};
 ghost use Rattle.nfs_script.specs.Script.{after_line, last_line, first_of_faults, lines_by, lines_fault, script_by, script_from, script_of, AreText, GoesOn, IsParsed, Takes};
@@ -8,7 +9,7 @@ ghost use Rattle.nfs_script.specs.declared.script.ScriptLine.{ScriptLine};
 
 use crate::asked::asked;
 use crate::fault::{Cause, LineFault, ParseFault, ScriptFault};
-use script_text::{first_line, is_utf8};
+use script_text::{first_line, first_text, is_utf8};
 use std::alloc::Global;
 use std::marker::Model;
 use world_model::Op;
@@ -101,14 +102,16 @@ impl Script {
         last: u32,
         number: u32,
         line: &[u8],
+        is_text: bool,
         rest: &[u8],
     ) -> Result<(), ParseFault>
+        requires text { is_text ≡ is_utf8 line.now }
         requires number { number ≤ 268435456 }
         requires within { last ≤ 268435455 }
         requires short { length rest.now ≤ 1048576 }
         ensures { GoesOn last number self.old line.now (lines rest.now) result self.new }
     {
-        if !is_utf8(line) {
+        if !is_text {
             return Err(ParseFault::Script(Cause::Utf8.at(number)));
         }
         match self.read_line(alloc, number, line) {
@@ -133,9 +136,9 @@ impl Script {
         let mut rest = text;
         let mut number = before;
         while number < last && !rest.is_empty() {
-            let (line, after) = first_line(rest);
+            let (line, after, is_text) = first_text(rest);
             number += 1;
-            match self.read_next(alloc, last, number, line, after) {
+            match self.read_next(alloc, last, number, line, is_text, after) {
                 Ok(()) => {}
                 Err(fault) => return Err(fault),
             }
