@@ -58,15 +58,10 @@ begun_block bytes digits block at fits room begun is =
     more ∙ ap (λ (k : List ℕ). k ++ block) begun ∙ ap (λ (k : List ℕ). encode_lower (take at bytes) ++ k) is
     ∙ sym (encode-append lower_digits (take at bytes) (chunk at 16 bytes)) ∙ ap encode_lower (take-add at 16 bytes)
 
-pub begun_none : (bytes digits : List ℕ) → take (2 * (16 * 0)) digits ≡ encode_lower (take (16 * 0) bytes)
+pub begun_none : (bytes digits : List ℕ) → take (2 * (64 * 0)) digits ≡ encode_lower (take (64 * 0) bytes)
 unfolding encode_with
 begun_none bytes digits = refl
 
-pub begun_more : (bytes digits : List ℕ) (block : ℕ) → take (2 * (16 * block + 16)) digits ≡ encode_lower (take (16 * block + 16) bytes)
-    → take (2 * (16 * (block + 1))) digits ≡ encode_lower (take (16 * (block + 1)) bytes)
-begun_more bytes digits block h = let next : 16 * (block + 1) ≡ 16 * block + 16 = omega arith in rw next h
-
--- after the last block
-pub begun_blocks : (bytes digits : List ℕ) (block blocks : ℕ) → block ≡ blocks → take (2 * (16 * block)) digits ≡ encode_lower (take (16 * block) bytes)
-    → take (2 * (16 * blocks)) digits ≡ encode_lower (take (16 * blocks) bytes)
-begun_blocks bytes digits block blocks e h = rw e at h
+-- up to a place that is told in two ways
+pub begun_to : (bytes digits : List ℕ) (at to : ℕ) → at ≡ to → take (2 * at) digits ≡ encode_lower (take at bytes) → take (2 * to) digits ≡ encode_lower (take to bytes)
+begun_to bytes digits at to e h = rw e at h

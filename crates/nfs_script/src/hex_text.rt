@@ -14,6 +14,9 @@ const PIECE: usize = 1024;
 /// How many bytes make a vector.
 const BLOCK: usize = 16;
 
+/// How many bytes are written in a turn.
+const GROUP: usize = 4 * BLOCK;
+
 /// The digits, each at its number.
 const DIGITS: [u8; 16] = *b"0123456789abcdef";
 
@@ -77,8 +80,36 @@ pub(crate) fn encode(bytes: &[u8], digits: &mut [u8])
     requires { length digits.old ≡ 2 * length bytes.now }
     ensures { digits.new ≡ encode_lower bytes.now }
 {
+    let groups = bytes.len() / GROUP;
+    for group in 0..groups {
+        encode_group(bytes, GROUP * group, digits);
+    }
+    encode_blocks(bytes, 4 * groups, digits);
+}
+
+/// Writes the digits of the sixty-four bytes from a place on.
+#[inline(always)]
+fn encode_group(bytes: &[u8], at: usize, digits: &mut [u8])
+    requires fits { at + 64 ≤ length bytes.now }
+    requires room { length digits.old ≡ 2 * length bytes.now }
+    requires begun { take (2 * at) digits.old ≡ encode_lower (take at bytes.now) }
+    ensures { take (2 * (at + 64)) digits.new ≡ encode_lower (take (at + 64) bytes.now) }
+{
+    encode_block(bytes, at, digits);
+    encode_block(bytes, at + 16, digits);
+    encode_block(bytes, at + 32, digits);
+    encode_block(bytes, at + 48, digits);
+}
+
+/// Writes the digits of the bytes behind so many blocks.
+fn encode_blocks(bytes: &[u8], done: usize, digits: &mut [u8])
+    requires fits { 16 * done ≤ length bytes.now }
+    requires room { length digits.old ≡ 2 * length bytes.now }
+    requires begun { take (2 * (16 * done)) digits.old ≡ encode_lower (take (16 * done) bytes.now) }
+    ensures { digits.new ≡ encode_lower bytes.now }
+{
     let blocks = bytes.len() / BLOCK;
-    for block in 0..blocks {
+    for block in done..blocks {
         encode_block(bytes, BLOCK * block, digits);
     }
     encode_rest(bytes, BLOCK * blocks, digits);
