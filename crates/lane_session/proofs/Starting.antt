@@ -21,7 +21,7 @@ use Rattle.lane_session.specs.Going.{GoesOn, CutsOff, NotesBeginning}
 use Rattle.lane_session.specs.Holding.{IsHeld, Lessens}
 use Rattle.lane_session.specs.Places.{FoundAt, Seeks}
 use Rattle.lane_session.specs.Running.{LineIs, Starts, NotesStart}
-use Rattle.lane_session.specs.Streams.{Reads, ReadsOnce}
+use Rattle.lane_session.specs.Streams.{Reads}
 use Rattle.lane_session.proofs.Alive.{alive-begins}
 use Rattle.lane_session.proofs.Marking.{started, unstarted, rested-on}
 use Rattle.lane_session.proofs.Passing.{reads_same, reads_one, relates_same, relates_less}
@@ -37,34 +37,30 @@ module _ (r0 r1 : Option (List ℕ)) (t0 t1 : Option History) (P : List ℕ → 
 
 -- ---- an operation begins
 
-pub start-none : (r : Option (List ℕ)) (t : Option History) (lane line : ℕ) (op : Op) (old new : Session) (e : Memory)
-    → Reads r r (λ given. Starts lane op old new (Err e) given × Relates t t (NotesStart lane line op (Err e) given))
-start-none r t lane line op old new e = record { given = []; are = reads_same r; is = (omega arith, relates_same t _ (λ h. inl refl)) }
+pub start-read : (r0 r1 : Option (List ℕ)) (t : Option History) (lane line : ℕ) (op : Op) (old new : Session) (e : Memory) (ms : ℕ) → ReadsClock r0 r1 ms
+    → Reads r0 r1 (λ given. Starts lane op old new (Err e) given × Relates t t (NotesStart lane line op (Err e) given))
+start-read r0 r1 t lane line op old new e ms reads = record { given = ms ∷ []; are = reads_one r0 r1 ms reads; is = (omega arith, relates_same t _ (λ h. inl refl)) }
 
-pub start-now : (r0 r1 : Option (List ℕ)) (t0 t1 : Option History) (lane line : ℕ) (op noted : Op) (machine : Machine) (old : Session) (core : View) (now : ℕ) → noted ≡ op → machine ≡ machine_of old.mounted lane op
-    → ReadsClock r0 r1 now → Begins old.core lane machine now core → ReadsOnce r0 r1 (λ ms. Relates t0 t1 (NotesBeginning lane line noted ms (Ok now)))
+pub start-now : (r0 r1 : Option (List ℕ)) (t0 t1 : Option History) (lane line : ℕ) (op : Op) (machine : Machine) (old : Session) (core : View) (ms now : ℕ) → machine ≡ machine_of old.mounted lane op
+    → now ≡ ms → ReadsClock r0 r1 ms → Begins old.core lane machine now core → Relates t0 t1 (NotesBeginning lane line op ms (Ok now))
     → Reads r0 r1 (λ given. Starts lane op old (record old { core = core }) (Ok tt) given × Relates t0 t1 (NotesStart lane line op (Ok tt) given))
-start-now r0 r1 t0 t1 lane line op noted machine old core now noted_is machine_is reads begins once = record {
-  given = now ∷ [];
-  are = reads_one r0 r1 now reads;
+start-now r0 r1 t0 t1 lane line op machine old core ms now machine_is now_is reads begins notes = record {
+  given = ms ∷ [];
+  are = reads_one r0 r1 ms reads;
   is = (
-    (now, refl, subst (λ (m : Machine). Begins old.core lane m now core) machine_is begins, refl),
-    relates_less t0 t1 (NotesBeginning lane line noted once.ms (Ok now)) (NotesStart lane line op (Ok tt) (now ∷ [])) (λ h k n. (
-      now,
-      refl,
-      subst (λ (o : Op). k ≡ h ++ Clock now ∷ Began lane line o ∷ []) noted_is (subst (λ (m : ℕ). k ≡ h ++ Clock m ∷ Began lane line noted ∷ []) (sym n.0) n.1),
-    )) once.is,
+    (ms, refl, subst (λ (n : ℕ). Begins old.core lane (machine_of old.mounted lane op) n core) now_is (subst (λ (m : Machine). Begins old.core lane m now core) machine_is begins), refl),
+    relates_less t0 t1 (NotesBeginning lane line op ms (Ok now)) (NotesStart lane line op (Ok tt) (ms ∷ [])) (λ h k n. (ms, refl, n.1)) notes,
   );
 }
 
-pub start-cut : (r0 r1 : Option (List ℕ)) (t0 t1 : Option History) (lane line : ℕ) (op noted : Op) (old new : Session) (e : Memory) → ReadsOnce r0 r1 (λ ms. Relates t0 t1 (NotesBeginning lane line noted ms (Err e)))
+pub start-cut : (r0 r1 : Option (List ℕ)) (t0 t1 : Option History) (lane line : ℕ) (op : Op) (old new : Session) (e : Memory) (ms : ℕ) → ReadsClock r0 r1 ms → Relates t0 t1 (NotesBeginning lane line op ms (Err e))
     → Reads r0 r1 (λ given. Starts lane op old new (Err e) given × Relates t0 t1 (NotesStart lane line op (Err e) given))
-start-cut r0 r1 t0 t1 lane line op noted old new e once = record {
-  given = once.ms ∷ [];
-  are = reads_one r0 r1 once.ms once.reads;
+start-cut r0 r1 t0 t1 lane line op old new e ms reads notes = record {
+  given = ms ∷ [];
+  are = reads_one r0 r1 ms reads;
   is = (
     omega arith,
-    relates_less t0 t1 (NotesBeginning lane line noted once.ms (Err e)) (NotesStart lane line op (Err e) (once.ms ∷ [])) (λ h k n. elim n [ inl is ↦ inl is | inr is ↦ inr (once.ms, refl, is) ]) once.is,
+    relates_less t0 t1 (NotesBeginning lane line op ms (Err e)) (NotesStart lane line op (Err e) (ms ∷ [])) (λ h k n. elim n [ inl is ↦ inl is | inr is ↦ inr (ms, refl, is) ]) notes,
   );
 }
 

@@ -3,7 +3,9 @@
 ghost use Rattle.std.specs.Prelude.{◌≡◌, ◌≤◌, IfOk, OnOk, OnErr};
 ghost use Rattle.outside.specs.Causes.{Rose};
 ghost use Rattle.outside.specs.Clock.{ReadsClock};
+ghost use Rattle.outside.specs.Link.{NotesOnly, noted_as};
 ghost use Rattle.world_model.specs.Counts.{tally_text};
+ghost use Rattle.world_model.specs.declared.entry.Mark.TheVariants as marks;
 ghost use Rattle.world_model.specs.Told.{Relates};
 ghost use Rattle.lane_session.specs.Going.{NotesBeginning, TellsAnswer};
 ghost use Rattle.lane_session.specs.Streams.{Appends, IsFrontOf, ReadsOnce, Says};
@@ -17,7 +19,7 @@ use std::alloc::Global;
 use world_model::{Answer, Mark, Op, Tally};
 use xdr_codec::{Blob, Memory, Writer};
 
-/// Notes the time, and right after it that a line begins: the time. The operation is copied only if the link tells its history.
+/// Reads the clock and notes the time, and right after it that a line begins: the time.
 pub fn note_beginning<L: Link, C: Clock>(
     alloc: Global,
     lane: u8,
@@ -33,6 +35,23 @@ pub fn note_beginning<L: Link, C: Clock>(
     ensures honest { L.honest link.old → L.honest link.new }
 {
     let ms = clock.now();
+    note_start(alloc, ms, lane, line, op, link)
+}
+
+/// Notes this time, and right after it that a line begins: the time. The operation is copied only if the link tells its history.
+pub fn note_start<L: Link>(
+    alloc: Global,
+    ms: u64,
+    lane: u8,
+    line: u32,
+    op: &Op,
+    link: &mut L,
+) -> Result<u64, Memory>
+    ensures goes { Relates (L.told link.old) (L.told link.new) (NotesBeginning lane line op.now ms result) }
+    ensures is { IfOk result (λ now. now ≡ ms) }
+    ensures stays { (first : L) → L.stays first link.old → L.stays first link.new }
+    ensures honest { L.honest link.old → L.honest link.new }
+{
     if !link.tells() {
         return Ok(ms);
     }
@@ -42,7 +61,7 @@ pub fn note_beginning<L: Link, C: Clock>(
     }
 }
 
-/// Notes this time, and right after it that a line begins.
+/// The same of an operation that the link keeps.
 fn note_at<L: Link>(ms: u64, lane: u8, line: u32, op: Op, link: &mut L) -> Result<u64, Memory>
     ensures goes { Relates (L.told link.old) (L.told link.new) (NotesBeginning lane line op ms result) }
     ensures is { IfOk result (λ now. now ≡ ms) }
@@ -79,10 +98,22 @@ pub fn tell_answer<L: Link, K: Sink>(
     let Ok(text) = whole_line(alloc, lane, line, &answer) else {
         return Err(Halt::Memory);
     };
-    match link.note(Mark::Answered { lane, line, answer }) {
+    match note_answer(lane, line, answer, link) {
         Ok(()) => write_line(out, label, text.bytes()),
         Err(_) => Err(Halt::Memory),
     }
+}
+
+/// Notes an answer. No mark is made for a link that doesn't tell its history.
+fn note_answer<L: Link>(lane: u8, line: u32, answer: Answer, link: &mut L) -> Result<(), Memory>
+    ensures told { NotesOnly (L.told link.old) (L.told link.new) (noted_as (marks.Answered lane line answer) result) }
+    ensures stays { (first : L) → L.stays first link.old → L.stays first link.new }
+    ensures honest { L.honest link.old → L.honest link.new }
+{
+    if !link.tells() {
+        return Ok(());
+    }
+    link.note(Mark::Answered { lane, line, answer })
 }
 
 /// Writes the line of counts.

@@ -30,7 +30,7 @@ use crate::buffer::Buffer;
 use crate::counts::Counts;
 use crate::halt::Halt;
 use crate::lanes::Lanes;
-use crate::lines::{note_beginning, tell_answer};
+use crate::lines::{note_start, tell_answer};
 use crate::status;
 use client_core::{Core, Setup};
 use limits::{ATTEMPTS, CONNECTS, LANES, STRAY_RECORDS, WAIT_MS};
@@ -535,10 +535,12 @@ impl Session {
         ensures stays { (first : L) → L.stays first link.old → L.stays first link.new }
         ensures honest { L.honest link.old → L.honest link.new }
     {
+        let ms = clock.now();
+        // It is made after the clock was read, so that it goes into the core by one move.
         let Ok(machine) = self.machine(lane, op) else {
             return Err(Memory);
         };
-        match note_beginning(self.alloc, lane, line, op, link, clock) {
+        match note_start(self.alloc, ms, lane, line, op, link) {
             Ok(now) => {
                 self.core.begin(lane, machine, now);
                 Ok(())

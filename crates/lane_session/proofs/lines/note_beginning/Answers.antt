@@ -1,41 +1,13 @@
-use Rattle.std.proofs.Common.{◌≡◌, ◌++◌, ◌⊎◌, [], ◌∷◌, ℕ, List, Option, None, Some, Result, Ok, Err, IfOk, inl, refl, sym, subst}
+use Rattle.std.proofs.Common.{◌≡◌, ℕ, List, Option, Result, Ok, Err, IfOk, sym, subst}
 use Rattle.outside.specs.Clock.{ReadsClock}
-use Rattle.world_model.specs.History.{History}
-use Rattle.world_model.specs.declared.entry.Entry.{Entry}
-use Rattle.world_model.specs.declared.entry.Entry.TheVariants.{Clock}
-use Rattle.world_model.specs.declared.op.Op.{Op}
-use Rattle.world_model.specs.Told.{Relates}
-use Rattle.lane_session.specs.Going.{NotesBeginning}
-use Rattle.lane_session.proofs.Passing.{relates_same}
 use Rattle.lane_session.proofs.lines.note_beginning.Goals as goal
 
 reads-as : {E : Type 0} (r0 r1 : Option (List ℕ)) (ms : ℕ) (result : Result ℕ E) → IfOk result (λ now. now ≡ ms) → ReadsClock r0 r1 ms → IfOk result (ReadsClock r0 r1)
 reads-as r0 r1 ms (Ok now) is read = subst (ReadsClock r0 r1) (sym is) read
 reads-as r0 r1 ms (Err e) is read = tt
 
-untold : (t : Option History) (R : List Entry → List Entry → Type 0) → t ≡ None → Relates t t R
-untold None R e = tt
-untold (Some h) R e = absurd (cc)
+pub returns-clause-goes : goal.returns-clause-goes
+returns-clause-goes g c = record { ms = c.now-ms.result; reads = c.now-ms.ensures; is = c.note_start.ensures.goes }
 
-none-noted : (t : Option History) (ms : ℕ) → Relates t t (λ (h k : List Entry). (k ≡ h) ⊎ (k ≡ h ++ Clock ms ∷ []))
-none-noted t ms = relates_same t (λ (h k : List Entry). (k ≡ h) ⊎ (k ≡ h ++ Clock ms ∷ [])) (λ h. inl refl)
-
-pub returns-then-not-tells-clause-goes : goal.returns-then-not-tells-clause-goes
-returns-then-not-tells-clause-goes g c = record {
-  ms = c.now-ms.result;
-  reads = c.now-ms.ensures;
-  is = untold (g.L.Link.told c.args.link.now) (NotesBeginning c.args.lane c.args.line c.args.op.now c.now-ms.result (Ok c.now-ms.result)) c.if-not-tells.ensures;
-}
-
-pub returns-in-Ok-clause-goes : goal.returns-in-Ok-clause-goes
-returns-in-Ok-clause-goes g c = record {
-  ms = c.now-ms.result;
-  reads = c.now-ms.ensures;
-  is = subst (λ (op : Op). Relates (g.L.Link.told c.args.link.now) (g.L.Link.told c.note_at.new.link) (NotesBeginning c.args.lane c.args.line op c.now-ms.result c.note_at.result)) c.in-Ok.ensures c.note_at.ensures.goes;
-}
-
-pub returns-in-Err-clause-goes : goal.returns-in-Err-clause-goes
-returns-in-Err-clause-goes g c = record { ms = c.now-ms.result; reads = c.now-ms.ensures; is = none-noted (g.L.Link.told c.args.link.now) c.now-ms.result }
-
-pub returns-in-Ok-clause-reading : goal.returns-in-Ok-clause-reading
-returns-in-Ok-clause-reading g c = reads-as _ _ c.now-ms.result c.note_at.result c.note_at.ensures.is c.now-ms.ensures
+pub returns-clause-reading : goal.returns-clause-reading
+returns-clause-reading g c = reads-as _ _ c.now-ms.result c.note_start.result c.note_start.ensures.is c.now-ms.ensures
