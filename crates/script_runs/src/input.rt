@@ -10,7 +10,7 @@ use std::alloc::{AllocError, Global};
 /// The most bytes of a script that are read: one more than a script may have.
 const SCRIPT_LIMIT: usize = 1_048_577;
 /// How many bytes are asked for at once.
-const PIECE: usize = 4096;
+const PIECE: usize = 65_536;
 
 /// Why a script could not be read.
 #[derive(Clone, Copy, Debug, PartialEq, Eq)]
