@@ -1,12 +1,11 @@
 //! The true outside: TCP as a wire, UDP as datagrams, a port at which others connect, standard input as a source of
-//! bytes, standard output as a sink, and the clock of the system. What they pass on is told nowhere: each keeps a count of
-//! its failures, and the clock its last reading. A read or a write that the system interrupts is made again, and a standard
-//! stream that is closed when the program starts stays so.
+//! bytes, standard output and standard error as sinks, and the clock of the system. What they pass on is told nowhere:
+//! each keeps a count of its failures, and the clock its last reading. A read or a write that the system interrupts is made
+//! again, and a standard stream that is closed when the program starts stays so.
 #![tactic(auto)]
 
 mod again;
 mod datagram;
-mod error_output;
 mod flight;
 mod listener;
 mod output;
@@ -19,9 +18,8 @@ mod tcp;
 mod udp;
 
 pub use again::{read_again, write_again};
-pub use error_output::StandardError;
 pub use listener::LoopbackListener;
-pub use output::StandardOutput;
+pub use output::{StandardError, StandardOutput, WriterSink};
 pub use source::{ReaderSource, StandardInput, file_source};
 pub use stand_ins::{StandIns, StandardStream};
 pub use system_clock::SystemClock;

@@ -1,20 +1,26 @@
-//! Standard output.
+//! Standard output and standard error.
 
 ghost use Rattle.std.specs.Prelude.{◌≡◌};
 
 use crate::again::write_again;
 use outside::{LinkFault, Sink};
-use std::io::Stdout;
+use std::io::{Stderr, Stdout, Write};
 use std::marker::Model;
 
-/// Standard output as a sink. A contract sees the number of writes that failed.
+/// A stream of the system as a sink. A contract sees the number of writes that failed.
 #[derive(Drop)]
-pub struct StandardOutput {
-    stdout: Stdout,
+pub struct WriterSink<W: Write + Drop> {
+    writer: W,
     faults: u64,
 }
 
-impl Model for StandardOutput {
+/// Standard output as a sink.
+pub type StandardOutput = WriterSink<Stdout>;
+
+/// Standard error as a sink.
+pub type StandardError = WriterSink<Stderr>;
+
+impl<W: Write + Drop> Model for WriterSink<W> {
     ghost use Rattle.std.specs.Prelude.{ℕ};
 
     ghost Value = { ℕ };
@@ -22,16 +28,16 @@ impl Model for StandardOutput {
     ghost view = { λ s. s.faults };
 }
 
-impl StandardOutput {
-    /// Standard output, of which no write has failed.
-    pub fn new(stdout: Stdout) -> StandardOutput
+impl<W: Write + Drop> WriterSink<W> {
+    /// A sink over that stream, of which no write has failed.
+    pub fn new(writer: W) -> WriterSink<W>
         ensures { result ≡ 0 }
     {
-        StandardOutput { stdout, faults: 0 }
+        WriterSink { writer, faults: 0 }
     }
 }
 
-impl Sink for StandardOutput {
+impl<W: Write + Drop> Sink for WriterSink<W> {
     ghost use Rattle.std.specs.Prelude.{None, IfOk};
     ghost use Rattle.outside.specs.Causes.{HasCause};
     ghost use Rattle.outside.specs.Sink.{TakesSome, WritesTo};
@@ -52,7 +58,7 @@ impl Sink for StandardOutput {
         if bytes.is_empty() {
             return Ok(0);
         }
-        match write_again(&mut self.stdout, bytes) {
+        match write_again(&mut self.writer, bytes) {
             Ok(count) if count > 0 => Ok(count),
             _ => {
                 self.faults = self.faults.saturating_add(1);
