@@ -1,4 +1,4 @@
-use Rattle.std.proofs.Common.{arith}
+use Rattle.std.proofs.Common.{◌+◌, ◌*◌, arith}
 use Rattle.nfs_script.proofs.Hexed.{begun_to}
 use Rattle.nfs_script.proofs.hex_text.encode_blocks.Goals as goal
 
