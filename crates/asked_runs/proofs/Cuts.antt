@@ -15,7 +15,7 @@ use Rattle.lane_session.specs.Holding.{IsHeld}
 use Rattle.lane_session.specs.Statuses.{IsLeft}
 use Rattle.lane_session.proofs.Marking.{unstarted}
 use Rattle.script_runs.specs.Run.{IsCutOff}
-use Rattle.batch_runs.proofs.UpTo.{all-append}
+use Rattle.script_runs.proofs.Finishing.{all-append}
 use Rattle.asked_runs.specs.declared.stop.Stop.{Stop}
 use Rattle.asked_runs.specs.declared.stop.Stop.TheVariants as stops
 use Rattle.asked_runs.specs.Asking.{Round}

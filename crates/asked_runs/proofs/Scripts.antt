@@ -9,7 +9,7 @@ use Rattle.lane_session.specs.Going.{GoesBy}
 use Rattle.lane_session.specs.Holding.{IsHeld}
 use Rattle.lane_session.specs.Ports.{KeepsPort}
 use Rattle.lane_session.specs.Streams.{Passes}
-use Rattle.batch_runs.specs.Running.{IsOver}
+use Rattle.script_runs.specs.Scripts.{IsOver}
 use Rattle.asked_runs.specs.declared.stop.Stop.{Stop}
 use Rattle.asked_runs.specs.declared.stop.Stop.TheVariants as stops
 use Rattle.asked_runs.specs.Asking.{Round}

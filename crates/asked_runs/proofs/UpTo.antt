@@ -18,8 +18,8 @@ use Rattle.lane_session.specs.Statuses.{HasStatus}
 use Rattle.lane_session.specs.TogetherFrom.{TogetherFrom}
 use Rattle.lane_session.proofs.Labels.{told-append, told-plain}
 use Rattle.lane_session.proofs.Reaching.{core-of}
-use Rattle.batch_runs.specs.Running.{StandsBefore}
-use Rattle.batch_runs.proofs.UpTo.{all-append, script-finishes, script-follows}
+use Rattle.script_runs.specs.Scripts.{StandsBefore}
+use Rattle.script_runs.proofs.Finishing.{all-append, script-finishes, script-follows}
 use Rattle.asked_runs.specs.declared.stop.Stop.{Stop}
 use Rattle.asked_runs.specs.Asking.{Round}
 use Rattle.asked_runs.specs.Runs.{ArePartsFrom, Part, entries_in, last_status, lines_in}

@@ -15,7 +15,7 @@ use Rattle.lane_session.specs.Bonds.{Bonded, HasCore, Start}
 use Rattle.lane_session.specs.Going.{CutsOff, Goes, GoesOn}
 use Rattle.lane_session.specs.Running.{mounted_by}
 use Rattle.lane_session.specs.Streams.{Reads}
-use Rattle.batch_runs.specs.Running.{IsOver, StandsBefore}
+use Rattle.script_runs.specs.Scripts.{IsOver, StandsBefore}
 use Rattle.asked_runs.specs.declared.stop.Stop.{Stop}
 use Rattle.asked_runs.specs.Asking.{Round}
 use Rattle.asked_runs.specs.Runs.{SessionOf, lines_of, rounds_of}

@@ -24,6 +24,7 @@ use Rattle.lane_session.specs.TogetherFrom.{TogetherFrom}
 use Rattle.lane_session.proofs.Labels.{told-append}
 use Rattle.lane_session.proofs.Reaching.{core-of}
 use Rattle.script_runs.specs.Run.{IsCutOff}
+use Rattle.script_runs.proofs.Finishing.{all-append}
 use Rattle.batch_runs.specs.declared.answered.Answered.{Answered}
 use Rattle.batch_runs.specs.declared.stop.Stop.{Stop}
 use Rattle.batch_runs.specs.declared.stop.Stop.TheVariants as stops
@@ -32,7 +33,7 @@ use Rattle.batch_runs.specs.Reading.{Takes}
 use Rattle.batch_runs.specs.Running.{FromBatch, IsCut, RunsTo, RunsWhole}
 use Rattle.batch_runs.specs.Runs.{Rest, cut_done, cut_in}
 use Rattle.batch_runs.specs.Stops.{of_halt, status_of}
-use Rattle.batch_runs.proofs.UpTo.{UpTo, all-append, bonded-now, clocked-now, end-now, follows-now, goes-now, reads_in, status-now, text-now, together-now}
+use Rattle.batch_runs.proofs.UpTo.{UpTo, bonded-now, clocked-now, end-now, follows-now, goes-now, reads_in, status-now, text-now, together-now}
 
 -- ---- the text of what came since
 

@@ -9,11 +9,12 @@ use Rattle.lane_session.specs.declared.running.Session.{Session}
 use Rattle.lane_session.specs.Endings.{counts_text}
 use Rattle.lane_session.specs.Going.{CutsOff, GoesOn}
 use Rattle.lane_session.specs.Statuses.{IsSessionStatus}
+use Rattle.script_runs.specs.Scripts.{IsOver, StandsBefore}
 use Rattle.batch_runs.specs.declared.answered.Answered.{Answered}
 use Rattle.batch_runs.specs.declared.stop.Stop.{Stop}
 use Rattle.batch_runs.specs.Parts.{IsWorst, RefusedFrom}
 use Rattle.batch_runs.specs.Reading.{AnswersOne, FindsScript, StopsAt, no_batch}
-use Rattle.batch_runs.specs.Running.{IfNext, IsOver, RunsNext, RunsOne, RunsWhole, StandsBefore}
+use Rattle.batch_runs.specs.Running.{IfNext, RunsNext, RunsOne, RunsWhole}
 use Rattle.batch_runs.specs.Stops.{of_halt}
 
 -- there is no room for a script that was found: then the run ends

@@ -23,6 +23,7 @@ use Rattle.lane_session.proofs.LostAdds.{told-loses}
 use Rattle.lane_session.proofs.LostLaws.{entries-both}
 use Rattle.lane_session.proofs.Pushes.{begun-append, clocks-append}
 use Rattle.script_runs.specs.Run.{IsCutOff}
+use Rattle.script_runs.proofs.Finishing.{all-append}
 use Rattle.batch_runs.specs.declared.answered.Answered.{Answered}
 use Rattle.batch_runs.specs.declared.stop.Stop.{Stop}
 use Rattle.batch_runs.specs.declared.stop.Stop.TheVariants as stops
@@ -36,7 +37,7 @@ use Rattle.batch_runs.proofs.LostSo.{IsLostCut as IsCutShort, IsLostTo, lost-fin
 use Rattle.batch_runs.proofs.LostUpTo.{EachLosing, IsLostSoFar, each-both, in-order, none-heard, own-each, own-none, own-status, same-calls}
 use Rattle.batch_runs.proofs.Nexts.{max-two}
 use Rattle.batch_runs.proofs.Parts.{entries-append, length-append, lines-append, parts-append, reads-append, refused-are, refused-entries, refused-lines, takes-more, text-append, worst-append}
-use Rattle.batch_runs.proofs.UpTo.{all-append, max-none, max-one, reads_in, takes-current}
+use Rattle.batch_runs.proofs.UpTo.{max-none, max-one, reads_in, takes-current}
 
 -- The next script was read.
 pub record LostUpTo (count : Bool) (tally : Tally) (old now : Answered) (script : List ScriptLine) (left rest : Option (List Read)) (given text : List ℕ) (h k : List Entry) : Type 0 where

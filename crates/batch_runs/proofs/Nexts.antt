@@ -14,17 +14,19 @@ use Rattle.lane_session.specs.Endings.{entries_of}
 use Rattle.lane_session.specs.Going.{Goes}
 use Rattle.lane_session.specs.TogetherFrom.{TogetherFrom}
 use Rattle.lane_session.proofs.Reaching.{core-of}
+use Rattle.script_runs.specs.Scripts.{IsOver, StandsBefore}
+use Rattle.script_runs.proofs.Finishing.{script-follows}
 use Rattle.batch_runs.specs.declared.answered.Answered.{Answered}
 use Rattle.batch_runs.specs.declared.stop.Stop.{Stop}
 use Rattle.batch_runs.specs.declared.stop.Stop.TheVariants as stops
 use Rattle.batch_runs.specs.Parts.{RefusedFrom, asked_in, entries_in, lines_in, refused_text, text_in, worst_in}
 use Rattle.batch_runs.specs.Reading.{AnswersAll, IsAtEnd, IsFirst, StopsAt, Takes, in_refusal, no_batch}
-use Rattle.batch_runs.specs.Running.{FromBatch, IsOver, RunsTo, StandsBefore, ended_with}
+use Rattle.batch_runs.specs.Running.{FromBatch, RunsTo, ended_with}
 use Rattle.batch_runs.specs.Runs.{EndsBatches, IsNone, Rest, at_end, cut_between, cut_refused, no_source}
 use Rattle.batch_runs.specs.Stops.{status_of}
 use Rattle.script_runs.specs.Run.{IsCutOff}
 use Rattle.batch_runs.proofs.Parts.{entries-append, length-append, lines-append, parts-append, reads-append, refused-are, refused-entries, refused-lines, takes-more, text-append, worst-append}
-use Rattle.batch_runs.proofs.UpTo.{RanTo, UpTo, reads_in, script-follows}
+use Rattle.batch_runs.proofs.UpTo.{RanTo, UpTo, reads_in}
 
 pub max-two : (a b c d : ℕ) → b ≡ max a c → max b d ≡ max a (max c d)
 max-two a b c d is = omega (arith, is)

@@ -13,11 +13,12 @@ use Rattle.lane_session.specs.Ports.{KeepsPort}
 use Rattle.lane_session.specs.Streams.{Passes}
 use Rattle.lane_session.proofs.Passing.{passes_less}
 use Rattle.script_runs.specs.Run.{Says}
+use Rattle.script_runs.specs.Scripts.{IsOver}
 use Rattle.batch_runs.specs.declared.answered.Answered.{Answered}
 use Rattle.batch_runs.specs.declared.stop.Stop.{Stop}
 use Rattle.batch_runs.specs.Parts.{RefusedFrom}
 use Rattle.batch_runs.specs.Reading.{AnswersOne, FindsScript, StopsAt}
-use Rattle.batch_runs.specs.Running.{IfNext, IsOver, RunsNext, RunsOne}
+use Rattle.batch_runs.specs.Running.{IfNext, RunsNext, RunsOne}
 use Rattle.batch_runs.specs.Stops.{of_halt}
 use Rattle.batch_runs.proofs.Joining.{found-or-not, one-cut, one-ran, runs-found}
 use Rattle.batch_runs.proofs.Saying.{passes-on, says-less}

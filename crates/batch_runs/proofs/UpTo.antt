@@ -1,10 +1,10 @@
 -- A session of batches on its way: what was read, run and answered so far.
-use Rattle.std.proofs.Common.{◌≡◌, ◌<◌, ◌+◌, ◌⊎◌, inl, inr, ℕ, zero, suc, List, [], ◌∷◌, ◌++◌, All, length, map, max, drop, Bool, true, Option, Some, None, Ok, refl, sym, ap, subst, ◌∙◌, append-nil, append_assoc, arith}
+use Rattle.std.proofs.Common.{◌≡◌, ◌+◌, ℕ, suc, List, [], ◌∷◌, ◌++◌, All, length, map, max, drop, Bool, true, Option, Some, None, Ok, refl, sym, ap, subst, ◌∙◌, append-nil, append_assoc, arith}
 use Rattle.std.proofs.lemmas.List.{append_cancel_left}
 use Rattle.world_model.specs.declared.entry.Entry.{Entry}
 use Rattle.world_model.specs.Clocked.{clocks}
 use Rattle.world_model.specs.Counts.{tally_of}
-use Rattle.world_model.specs.Follows.{Finishes, Follows, begun}
+use Rattle.world_model.specs.Follows.{Finishes, Follows}
 use Rattle.world_model.specs.Transcript.{transcript}
 use Rattle.nfs_script.specs.Asked.{IsAskedLine}
 use Rattle.nfs_script.specs.DoneText.{done_text}
@@ -16,17 +16,16 @@ use Rattle.lane_session.specs.declared.running.Session.{Session}
 use Rattle.lane_session.specs.Bonds.{Bonded, Start}
 use Rattle.lane_session.specs.Endings.{counts_text, entries_of}
 use Rattle.lane_session.specs.Going.{Goes, GoesOn}
-use Rattle.lane_session.specs.LaneMarks.{IsResting}
 use Rattle.lane_session.specs.Labels.{told_by}
 use Rattle.lane_session.specs.Statuses.{HasStatus}
 use Rattle.lane_session.specs.TogetherFrom.{TogetherFrom}
-use Rattle.lane_session.proofs.Ending.{lane-at-end, none-out, which}
 use Rattle.lane_session.proofs.Labels.{told-append, told-plain}
-use Rattle.lane_session.proofs.LaneLaws.{resting-alternates}
+use Rattle.script_runs.specs.Scripts.{IsOver}
+use Rattle.script_runs.proofs.Finishing.{all-append, script-finishes, script-follows}
 use Rattle.batch_runs.specs.declared.answered.Answered.{Answered}
 use Rattle.batch_runs.specs.Parts.{ArePartsFrom, Part, PartIs, asked_in, entries_in, lines_in, ran_part, ran_text, text_in, worst_in}
 use Rattle.batch_runs.specs.Reading.{Counts, Takes}
-use Rattle.batch_runs.specs.Running.{IsOver, RunsWhole, in_front}
+use Rattle.batch_runs.specs.Running.{RunsWhole, in_front}
 use Rattle.batch_runs.proofs.Parts.{entries-append, length-append, lines-append, parts-append, reads-append, text-append, worst-append}
 
 -- each batch that was answered, as it was read
@@ -98,31 +97,6 @@ up-none count m setup start old script left s h current asks goes bonded = recor
 drop-past : (h more : List Entry) → drop (length h) (h ++ more) ≡ more
 drop-past [] more = refl
 drop-past (e ∷ h) more = drop-past h more
-
-pub all-append : (xs ys : List ScriptLine) → All IsAskedLine xs → All IsAskedLine ys → All IsAskedLine (xs ++ ys)
-all-append [] ys a b n y lt = b n y lt
-all-append (x ∷ xs) ys a b zero y lt = a zero y (omega arith)
-all-append (x ∷ xs) ys a b (suc n) y lt = all-append xs ys (λ k z in_it. a (suc k) z (omega (arith, in_it))) b n y (omega (arith, lt))
-
--- each line was begun and answered
-module _ (done script : List ScriptLine) (from : ℕ) (k : List Entry) (s : Session) (over : IsOver script s) (asked : All IsAskedLine (done ++ script)) (g : Goes done from script k s) where
-  lane-over : (lane : ℕ) → (begun lane k ≡ begun lane (entries_of (done ++ script))) × IsResting k lane
-  lane-over lane = by (which lane)
-    where
-      by : ((n : ℕ) × (n < 16) × (lane ≡ suc n)) ⊎ ((lane ≡ 0) ⊎ (16 < lane)) → (begun lane k ≡ begun lane (entries_of (done ++ script))) × IsResting k lane
-      by (inl w) =
-          subst (λ (n : ℕ). (begun n k ≡ begun n (entries_of (done ++ script))) × IsResting k n) (sym w.2)
-          (lane-at-end done from script k s over.held.seated.sixteen over.idle over.quiet g w.0 w.1)
-      by (inr out) = ((g.others lane out).0 ∙ sym (none-out (done ++ script) lane asked out), (g.others lane out).1)
-
-  pub script-finishes : Finishes (entries_of (done ++ script)) k
-  script-finishes = record { all = λ lane. (lane-over lane).0; answered = λ x lane line op at. (lane-over lane).1.answered x line op at }
-
-  pub script-follows : Follows (entries_of (done ++ script)) k
-  script-follows = record {
-    alternates = λ lane. resting-alternates k lane (lane-over lane).1;
-    begins = λ lane. record { rest = []; is = sym (lane-over lane).0 ∙ sym (append-nil (begun lane k)) };
-  }
 
 -- what was written of it
 told-more : (h more : List Entry) (text : List ℕ) → told_by [] (h ++ more) ≡ told_by [] h ++ text → text ≡ transcript more

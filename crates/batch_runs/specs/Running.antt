@@ -12,26 +12,19 @@ use Rattle.session_words.specs.declared.settings.Settings.{Settings}
 use Rattle.client_core.specs.declared.setup.Setup.{Setup}
 use Rattle.lane_session.specs.declared.halt.Halt.{Halt}
 use Rattle.lane_session.specs.declared.running.Session.{Session}
-use Rattle.lane_session.specs.Bonds.{Bonded, CoreGoes, HasCore, Start}
+use Rattle.lane_session.specs.Bonds.{Bonded, HasCore, Start}
 use Rattle.lane_session.specs.Endings.{NotesAll, counts_text, entries_of}
-use Rattle.lane_session.specs.Going.{AllTimed, CutsOff, Goes, GoesNext, GoesOn}
-use Rattle.lane_session.specs.Holding.{AreQuiet, IsHeld}
+use Rattle.lane_session.specs.Going.{AllTimed, CutsOff, Goes, GoesOn}
 use Rattle.lane_session.specs.Losing.{by_lanes, LosesBy, LosesOnly, status_of as status_of_lines}
-use Rattle.lane_session.specs.Places.{AreIdle}
 use Rattle.lane_session.specs.Running.{mounted_by}
 use Rattle.lane_session.specs.TogetherFrom.{TogetherFrom}
+use Rattle.script_runs.specs.Scripts.{IsOver, StandsBefore}
 use Rattle.batch_runs.specs.declared.answered.Answered.{Answered}
 use Rattle.batch_runs.specs.declared.stop.Stop.{Stop}
 use Rattle.batch_runs.specs.Parts.{ArePartsFrom, Part, RefusedFrom, asked_in, entries_in, lines_in, text_in, worst_in}
 use Rattle.batch_runs.specs.Reading.{AnswersOne, FindsScript, StopsAt}
 use Rattle.batch_runs.specs.Runs.{EndsBatches, Rest}
 use Rattle.batch_runs.specs.Stops.{of_halt, status_of}
-
--- each line of a script has its answer
-pub record IsOver (script : List ScriptLine) (s : Session) : Type 0 where
-  pub idle : AreIdle s.lanes
-  pub quiet : AreQuiet script s
-  pub held : IsHeld script s
 
 -- The lines of a script were run, and then what ends its batch was written, or a front of that.
 pub record RunsWhole (count : Bool) (lines : List ScriptLine) (old new : Session) (before after : Answered) (result : Result (Unit {0}) Stop)
@@ -109,11 +102,6 @@ pub record RunsAll (count : Bool) (old : Answered) (left : Option (List Read)) (
   pub clock : NotesAll (ended_with result) given h k
   pub timed : AllTimed k
   pub asked : All IsAskedLine (lines_in parts ++ rest.lines)
-
--- The session goes on to the lines of the next script.
-pub record StandsBefore (script next : List ScriptLine) (old new : Session) : Type 0 where
-  pub goes : GoesNext script next old new
-  pub core : (h : List Entry) → CoreGoes old new h h
 
 abbrev pub IfNext : List ScriptLine → Result (Option (List ScriptLine)) Stop → Session → Session → Type 0
 IfNext script (Ok (Some next)) old new = StandsBefore script next old new

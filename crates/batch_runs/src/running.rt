@@ -13,9 +13,10 @@ ghost use Rattle.lane_session.specs.Ports.{KeepsPort};
 ghost use Rattle.lane_session.specs.Streams.{Passes};
 ghost use Rattle.script_batches.specs.Batches.{work_left};
 ghost use Rattle.script_runs.specs.Run.{Says};
+ghost use Rattle.script_runs.specs.Scripts.{StandsBefore};
 ghost use Rattle.batch_runs.specs.Parts.{IsWorst, RefusedFrom};
 ghost use Rattle.batch_runs.specs.Reading.{FindsScript, MayRun, MayRunSome, StopsAt, left_in};
-ghost use Rattle.batch_runs.specs.Running.{IfNext, IsRead, RunsIn, RunsNext, RunsOne, RunsOver, StandsBefore};
+ghost use Rattle.batch_runs.specs.Running.{IfNext, IsRead, RunsIn, RunsNext, RunsOne, RunsOver};
 ghost use Rattle.batch_runs.specs.Stops.{CausedBy};
 
 use crate::answered::Answered;

@@ -4,3 +4,4 @@ pub mod Run
 pub mod Ends
 pub mod LaneRuns
 pub mod Stock
+pub mod Scripts
