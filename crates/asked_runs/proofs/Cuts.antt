@@ -69,6 +69,7 @@ up-cut m setup start Asked After script may s given given_now h k l u stop c =
         whole = λ uncut. absurd (uncut (stop-cuts stop));
         lost = λ six. absurd (stop-other stop six);
         kept = λ few. absurd (stop-above stop few);
+        ending = inr (inr (inr (stop-cuts stop)));
         follows = record { alternates = w.alternates; begins = w.begins };
         clock = record {
           last = c.cuts.last;

@@ -1,5 +1,5 @@
 -- A session of scripts that are asked for, over its set-up.
-use Rattle.std.proofs.Common.{◌≡◌, ℕ, List, [], true, false, Option, Some, None, Result, Err, refl, sym, append-nil, arith}
+use Rattle.std.proofs.Common.{◌≡◌, inr, ℕ, List, [], true, false, Option, Some, None, Result, Err, refl, sym, append-nil, arith}
 use Rattle.world_model.specs.declared.entry.Entry.{Entry}
 use Rattle.world_model.specs.History.{History}
 use Rattle.world_model.specs.Told.{Relates}
@@ -57,6 +57,7 @@ none-shows r t Asked s setup may sound = record { given = []; are = reads_same r
             whole = λ uncut. (refl, refl);
             lost = λ seven. absurd (omega (arith, seven));
             kept = λ few. absurd (omega (arith, few));
+            ending = inr (inr (inr (inr refl)));
             follows = none.follows;
             clock = record { last = []; is = refl; few = omega arith; whole = λ other. refl };
             timed = none.timed;

@@ -1,10 +1,10 @@
 -- Scripts that were run one after another, and one more behind them.
-use Rattle.std.proofs.Common.{◌≡◌, ℕ, List, [], ◌∷◌, ◌++◌, Option, Some, None, refl, sym, ap, subst, ◌∙◌, append-nil, append_assoc}
+use Rattle.std.proofs.Common.{◌≡◌, ◌≢◌, ℕ, List, [], ◌∷◌, ◌++◌, Option, Some, None, refl, sym, ap, subst, ◌∙◌, append-nil, append_assoc}
 use Rattle.world_model.specs.declared.entry.Entry.{Entry}
 use Rattle.world_model.specs.Transcript.{transcript}
 use Rattle.nfs_script.specs.declared.script.ScriptLine.{ScriptLine}
 use Rattle.asked_runs.specs.Asking.{Round}
-use Rattle.asked_runs.specs.Runs.{ArePartsFrom, Part, PartIs, entries_in, last_status, lines_in, rounds_of}
+use Rattle.asked_runs.specs.Runs.{AreKept, ArePartsFrom, Part, PartIs, entries_in, last_status, lines_in, rounds_of}
 
 pub lines-more : (ps : List Part) (p : Part) → lines_in (ps ++ p ∷ []) ≡ lines_in ps ++ p.lines
 lines-more [] p = append-nil p.lines
@@ -17,6 +17,10 @@ entries-more (q ∷ ps) p = ap (λ (t : List Entry). q.entries ++ t) (entries-mo
 pub status-more : (status : ℕ) (ps : List Part) (p : Part) → last_status status (ps ++ p ∷ []) ≡ p.status
 status-more status [] p = refl
 status-more status (q ∷ ps) p = status-more q.status ps p
+
+pub kept-more : (ps : List Part) (p : Part) → AreKept ps → p.status ≢ 6 → AreKept (ps ++ p ∷ [])
+kept-more [] p kept other = (other, tt)
+kept-more (q ∷ ps) p kept other = (kept.0, kept-more ps p kept.1 other)
 
 pub parts-more : (h : List Entry) (done : List ScriptLine) (ps : List Part) (p : Part) → ArePartsFrom h done ps → PartIs (h ++ entries_in ps) (done ++ lines_in ps) p
     → ArePartsFrom h done (ps ++ p ∷ [])

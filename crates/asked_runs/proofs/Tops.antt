@@ -18,9 +18,13 @@ pub stop-most : (stop : Stop) (status : ℕ) → status ≡ status_of stop → s
 stop-most stops.Output status is = omega (arith, is)
 stop-most stops.Memory status is = omega (arith, is)
 
-pub stop-some : (P : Type 0) (stop : Stop) (status : ℕ) → status ≡ status_of stop → status ≡ 0 → P
-stop-some P stops.Output status is none = absurd (omega (arith, is, none))
-stop-some P stops.Memory status is none = absurd (omega (arith, is, none))
+pub stop-some : (P : Type 0) (stop : Stop) (status : ℕ) → status ≡ status_of stop → status ≤ 1 → P
+stop-some P stops.Output status is few = absurd (omega (arith, is, few))
+stop-some P stops.Memory status is few = absurd (omega (arith, is, few))
+
+-- the status of a lost session, or of a mount that is refused, isn't the asker's
+pub above : (P : Type 0) (least status : ℕ) → 2 ≤ least → status ≡ least → status ≤ 1 → P
+above P least status two is few = absurd (omega (arith, two, is, few))
 
 -- the mount was refused
 pub refuse-ends : (result : Result ℕ Stop) → IfOk result (λ status. status ≡ 8) → (ended_with result ≡ 8) ⊎ IsCutOff (ended_with result)

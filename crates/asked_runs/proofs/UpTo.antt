@@ -14,7 +14,7 @@ use Rattle.lane_session.specs.Bonds.{Bonded, Start}
 use Rattle.lane_session.specs.Endings.{entries_of}
 use Rattle.lane_session.specs.Going.{Goes}
 use Rattle.lane_session.specs.Labels.{told_by}
-use Rattle.lane_session.specs.Statuses.{HasStatus}
+use Rattle.lane_session.specs.Statuses.{HasStatus, IsEnding}
 use Rattle.lane_session.specs.TogetherFrom.{TogetherFrom}
 use Rattle.lane_session.proofs.Labels.{told-append, told-plain}
 use Rattle.lane_session.proofs.Reaching.{core-of}
@@ -22,10 +22,10 @@ use Rattle.script_runs.specs.Scripts.{StandsBefore}
 use Rattle.script_runs.proofs.Finishing.{all-append, script-finishes, script-follows}
 use Rattle.asked_runs.specs.declared.stop.Stop.{Stop}
 use Rattle.asked_runs.specs.Asking.{Round}
-use Rattle.asked_runs.specs.Runs.{ArePartsFrom, Part, entries_in, last_status, lines_in}
+use Rattle.asked_runs.specs.Runs.{AreKept, ArePartsFrom, Part, entries_in, last_status, lines_in}
 use Rattle.asked_runs.specs.Running.{RunsTo, RunsWhole, first_round}
 use Rattle.asked_runs.specs.Stops.{ended_with}
-use Rattle.asked_runs.proofs.Parts.{entries-more, lines-more, parts-more, rounds-more, rounds-none, rounds_to, status-more}
+use Rattle.asked_runs.proofs.Parts.{entries-more, kept-more, lines-more, parts-more, rounds-more, rounds-none, rounds_to, status-more}
 
 -- The session stands before the lines of a script, which was asked for behind those that were run.
 pub record UpTo (m : Mounted) (setup : Setup) (start : Start) (Asked : List Round → Type 0) (script : List ScriptLine) (s : Session) (given : List ℕ) (h k : List Entry) : Type 0 where
@@ -35,6 +35,7 @@ pub record UpTo (m : Mounted) (setup : Setup) (start : Start) (Asked : List Roun
   pub clocked : clocks k ≡ clocks h ++ given
   pub bonded : Bonded m setup start k s
   pub may : All IsAskedLine (lines_in parts)
+  pub kept : AreKept parts
   pub asked : Asked (rounds_to [] 0 parts (Some script))
   pub goes : Goes (lines_in parts) (length k) script k s
 
@@ -51,6 +52,7 @@ up-none m setup start Asked script s h asked goes bonded = record {
   clocked = sym (append-nil (clocks h));
   bonded = bonded;
   may = none-may;
+  kept = tt;
   asked = asked;
   goes = goes;
 }
@@ -117,23 +119,24 @@ module _ (m : Mounted) (setup : Setup) (start : Start) (Asked After : List Round
       (rounds_to [] 0 u.parts (Some script)) u.asked)
 
   -- the next script
-  pub up-next : (next : List ScriptLine) (later : Session) → Asks (record { answers = answers; status = new.status; script = Some next }) → StandsBefore script next new later
-      → UpTo m setup start After next later (given ++ given_now) h l
-  up-next next later asks stands = record {
+  pub up-next : (next : List ScriptLine) (later : Session) → Asks (record { answers = answers; status = new.status; script = Some next }) → new.status ≢ 6
+      → StandsBefore script next new later → UpTo m setup start After next later (given ++ given_now) h l
+  up-next next later asks other stands = record {
     parts = parts-now;
     are = are-now;
     history = history-now;
     clocked = clocked-now;
     bonded = stands.core l m setup start bonded-now;
     may = subst (All IsAskedLine) (sym lines-now) may-now;
+    kept = kept-more u.parts part u.kept other;
     asked = asked-now (Some next) asks;
     goes = subst (λ (t : List ScriptLine). Goes t (length l) next l later) (sym lines-now) (stands.goes (lines_in u.parts) (length k) l goes-now);
   }
 
   -- there is none, or the run ends so for another cause
-  pub up-over : (result : Result ℕ Stop) → (ended_with result ≡ 6 → new.status ≡ 6) → (ended_with result ≤ 1 → new.status ≢ 6)
+  pub up-over : (result : Result ℕ Stop) → IsEnding (ended_with result) → (ended_with result ≡ 6 → new.status ≡ 6) → (ended_with result ≤ 1 → new.status ≢ 6)
       → (ended_with result ≤ 1 → Asks (record { answers = answers; status = new.status; script = None })) → RunsTo After m setup start.from result (given ++ given_now) h l
-  up-over result lost kept asks =
+  up-over result ending lost kept asks =
       let none : lines_in parts-now ++ [] ≡ lines_in u.parts ++ script = append-nil (lines_in parts-now) ∙ lines-now in
       let last : last_status 0 parts-now ≡ new.status = status-more 0 u.parts part in
       record {
@@ -145,7 +148,8 @@ module _ (m : Mounted) (setup : Setup) (start : Start) (Asked After : List Round
           history = history-now ∙ ap (λ (t : List Entry). h ++ t) (sym (append-nil (entries_in parts-now)));
           whole = λ uncut. (refl, refl);
           lost = λ six. last ∙ lost six;
-          kept = λ few six. kept few (sym last ∙ six);
+          kept = λ few. kept-more u.parts part u.kept (kept few);
+          ending = ending;
           follows = subst (λ (t : List ScriptLine). Follows (entries_of t) l) (sym none) (script-follows (lines_in u.parts) script (length k) l new ran.over may-now goes-now);
           clock = record { last = []; is = sym clocked-now ∙ sym (append-nil (clocks l)); few = omega arith; whole = λ other. refl };
           timed = goes-now.timed;

@@ -12,7 +12,7 @@ use Rattle.session_setup.specs.declared.opening.SetUpFault.TheVariants.{Refused,
 use Rattle.session_setup.specs.Outcomes.{SetsUp}
 use Rattle.lane_session.specs.Endings.{NotesAll, entries_of}
 use Rattle.lane_session.specs.Going.{AllTimed}
-use Rattle.lane_session.specs.Statuses.{HasStatus}
+use Rattle.lane_session.specs.Statuses.{HasStatus, IsEnding}
 use Rattle.lane_session.specs.TogetherFrom.{TogetherFrom}
 use Rattle.script_runs.specs.Run.{IsCutOff, IsFirst}
 use Rattle.asked_runs.specs.Asking.{Round}
@@ -30,6 +30,11 @@ lines_in (p ∷ ps) = p.lines ++ lines_in ps
 abbrev pub entries_in : List Part → List Entry
 entries_in [] = []
 entries_in (p ∷ ps) = p.entries ++ entries_in ps
+
+-- at none of them the session was lost
+abbrev pub AreKept : List Part → Type 0
+AreKept [] = Unit {0}
+AreKept (p ∷ ps) = (p.status ≢ 6) × AreKept ps
 
 -- the status of the last one; without any it is this one
 abbrev pub last_status : ℕ → List Part → ℕ
@@ -55,7 +60,7 @@ ArePartsFrom h done [] = Unit {0}
 ArePartsFrom h done (p ∷ ps) = PartIs h done p × ArePartsFrom (h ++ p.entries) (done ++ p.lines) ps
 
 -- Scripts were run one after another, before which the set-up left the history; and perhaps one more was begun, in which the session was cut off. At 6 an
--- answer to the last of them was that the session is lost, and at 0 and 1 none was.
+-- answer to the last of them was that the session is lost, and at 0 and 1 none of any was.
 pub record SessionOf (given : List ℕ) (before h : List Entry) (status : ℕ) : Type 0 where
   pub parts : List Part
   pub rest : List ScriptLine
@@ -64,7 +69,8 @@ pub record SessionOf (given : List ℕ) (before h : List Entry) (status : ℕ) :
   pub history : h ≡ before ++ (entries_in parts ++ last)
   pub whole : (IsCutOff status → ⊥) → (rest ≡ []) × (last ≡ [])
   pub lost : status ≡ 6 → last_status 0 parts ≡ 6
-  pub kept : status ≤ 1 → last_status 0 parts ≢ 6
+  pub kept : status ≤ 1 → AreKept parts
+  pub ending : IsEnding status
   pub follows : Follows (entries_of (lines_in parts ++ rest)) h
   pub clock : NotesAll status given before h
   pub timed : AllTimed h

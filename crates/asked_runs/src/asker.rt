@@ -1,6 +1,6 @@
 //! What asks for scripts.
 
-ghost use Rattle.std.specs.Prelude.{◌≡◌, ◌≤◌, ◌++◌, [], ◌∷◌, List, IfOk, IfSome};
+ghost use Rattle.std.specs.Prelude.{◌≡◌, ◌≤◌, ◌++◌, [], ◌∷◌, ℕ, List, IfOk, IfSome};
 ghost use Rattle.asked_runs.specs.Asking.{MayRun, Round};
 
 use crate::stop::Stop;
@@ -16,8 +16,8 @@ pub trait Asker {
     /// What each of its calls keeps.
     ghost stays: { Self → Self → Type 0 };
 
-    /// What it knows where its status is 0.
-    ghost well: { Self → Type 0 };
+    /// What it tells by its status.
+    ghost tells: { Self → ℕ → Type 0 };
 
     /// The next script; none at the end. The answers are the lines that were written of the one before, and its status is 0, 1 or 6; before the first they are
     /// empty and 0. Once a session is lost it is called so for the last time, and a script that it gives then isn't run.
@@ -35,7 +35,7 @@ pub trait Asker {
     /// The status by all that was asked for, 0 or 1.
     fn status(&self) -> u8
         ensures few { result ≤ 1 }
-        ensures well { result ≡ 0 → well self.now };
+        ensures tells { tells self.now result };
 
     /// At each state nothing was asked for since.
     ghost none: { (x : Self) → asks x [] x };

@@ -38,7 +38,7 @@ pub(crate) fn run_scripts<A: Asker, L: Link, C: Clock>(
     ensures runs { Shows (C.readings clock.old) (C.readings clock.new) (L.told link.old) (L.told link.new) (λ given h k. IsOpened (Some setup) h
         → RunsOver (λ rounds. (x : A) → A.asks x (first_round first) asker.old → A.asks x rounds asker.new) settings.now setup result given h k) }
     ensures statuses { IfOk result (λ status. status ≤ 6) }
-    ensures well { IfOk result (λ status. status ≡ 0 → A.well asker.new) }
+    ensures tells { IfOk result (λ status. status ≤ 1 → A.tells asker.new status) }
     ensures asker { (first : A) → A.stays first asker.old → A.stays first asker.new }
     ensures dials { DialsOnly settings.now.nfs_port (L.told link.old) (L.told link.new) }
     ensures stays { (first : L) → L.stays first link.old → L.stays first link.new }
@@ -65,7 +65,7 @@ fn run_in<A: Asker, L: Link, C: Clock>(
     ensures runs { Shows (C.readings clock.old) (C.readings clock.new) (L.told link.old) (L.told link.new)
         (RunsIn (λ rounds. (x : A) → A.asks x (first_round first) asker.old → A.asks x rounds asker.new) first session.old result) }
     ensures statuses { IfOk result (λ status. status ≤ 6) }
-    ensures well { IfOk result (λ status. status ≡ 0 → A.well asker.new) }
+    ensures tells { IfOk result (λ status. status ≤ 1 → A.tells asker.new status) }
     ensures asker { (first : A) → A.stays first asker.old → A.stays first asker.new }
     ensures dials { KeepsPort session.old.port session.new.port (L.told link.old) (L.told link.new) }
     ensures stays { (first : L) → L.stays first link.old → L.stays first link.new }
@@ -186,7 +186,7 @@ fn go_over(session: &mut Session, script: &Script, next: Script) -> Result<Optio
 /// The status at the end: that of a lost session, or the asker's.
 fn ending<A: Asker>(session: &Session, asker: &A) -> u8
     ensures is { EndsBy session.now.status result }
-    ensures well { result ≡ 0 → A.well asker.now }
+    ensures tells { result ≤ 1 → A.tells asker.now result }
 {
     if session.status() == status::LINK_LOST {
         return status::LINK_LOST;

@@ -44,7 +44,7 @@ pub fn run_with<A: Asker, L: Link, C: Clock>(
     ensures stays { (first : L) → L.stays first link.old → L.stays first link.new }
     ensures honest { L.honest link.old → L.honest link.new }
     ensures asker { (first : A) → A.stays first asker.old → A.stays first asker.new }
-    ensures well { result ≡ 0 → A.well asker.new }
+    ensures tells { result ≤ 1 → A.tells asker.new result }
 
     // What the session comes to, and that the asker was asked for its scripts.
     ensures runs { Reads (C.readings clock.old) (C.readings clock.new) (λ given.
@@ -72,7 +72,7 @@ fn run_all<A: Asker, L: Link, C: Clock>(
     ensures stays { (first : L) → L.stays first link.old → L.stays first link.new }
     ensures honest { L.honest link.old → L.honest link.new }
     ensures asker { (first : A) → A.stays first asker.old → A.stays first asker.new }
-    ensures well { IfOk result (λ status. status ≡ 0 → A.well asker.new) }
+    ensures tells { IfOk result (λ status. status ≤ 1 → A.tells asker.new status) }
     ensures runs { Reads (C.readings clock.old) (C.readings clock.new) (λ given.
         Relates (L.told link.old) (L.told link.new) (λ before h. before ≡ [] →
         RunsAsked Leaves (λ rounds. A.asks asker.old rounds asker.new) settings.now given h (ended_with result))) }
@@ -101,7 +101,7 @@ fn open<A: Asker, L: Link, C: Clock>(
     ensures stays { (first : L) → L.stays first link.old → L.stays first link.new }
     ensures honest { L.honest link.old → L.honest link.new }
     ensures asker { (first : A) → A.stays first asker.old → A.stays first asker.new }
-    ensures well { IfOk result (λ status. status ≡ 0 → A.well asker.new) }
+    ensures tells { IfOk result (λ status. status ≤ 1 → A.tells asker.new status) }
     ensures runs { Reads (C.readings clock.old) (C.readings clock.new) (λ given.
         Relates (L.told link.old) (L.told link.new) (λ before h. before ≡ [] →
         RunsAsked Leaves (λ rounds. (x : A) → A.asks x (first_round script) asker.old → A.asks x rounds asker.new) settings.now given h (ended_with result))) }
@@ -143,7 +143,7 @@ fn open_ready<A: Asker, L: Link, C: Clock>(
         → RunsOver (λ rounds. (x : A) → A.asks x (first_round script) asker.old → A.asks x rounds asker.new) settings.now
         (setup_of settings.now ready) result given h k) }
     ensures statuses { IfOk result (λ status. status ≤ 6) }
-    ensures well { IfOk result (λ status. status ≡ 0 → A.well asker.new) }
+    ensures tells { IfOk result (λ status. status ≤ 1 → A.tells asker.new status) }
     ensures asker { (first : A) → A.stays first asker.old → A.stays first asker.new }
     ensures dials { DialsOnly settings.now.nfs_port (L.told link.old) (L.told link.new) }
     ensures stays { (first : L) → L.stays first link.old → L.stays first link.new }

@@ -6,6 +6,7 @@ ghost use Rattle.session_setup.specs.Outcomes.{IsOptions};
 ghost use Rattle.script_runs.specs.Readings.{Reads};
 ghost use Rattle.script_runs.specs.Run.{IsXidOption};
 ghost use Rattle.asked_runs.specs.Runs.{RunsAsked};
+ghost use Rattle.run_asked.specs.Ends.{Ends};
 ghost use Rattle.run_asked.specs.Promised.{Promised};
 
 use asked_runs::Asker;
@@ -29,7 +30,10 @@ pub fn run_with<A: Asker, L: Link, C: Clock>(
     ensures stays { (first : L) → L.stays first link.old → L.stays first link.new }
     ensures honest { L.honest link.old → L.honest link.new }
     ensures asker { (first : A) → A.stays first asker.old → A.stays first asker.new }
-    ensures well { result ≡ 0 → A.well asker.new }
+    ensures tells { result ≤ 1 → A.tells asker.new result }
+
+    // Why it ends with its status: `Ends` of specs/Ends.
+    ensures ends { Relates (L.told link.old) (L.told link.new) (λ before h. before ≡ [] → Ends settings.now h result) }
 
     // What the session comes to, that the asker was asked for its scripts, and what it promises: `Promised` of specs/Promised.
     ensures headline { Reads (C.readings clock.old) (C.readings clock.new) (λ given.
