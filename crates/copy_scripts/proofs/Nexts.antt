@@ -1,5 +1,5 @@
 -- The next script of a copy.
-use Rattle.std.proofs.Common.{◌≡◌, ℕ, false, List, [], ◌∷◌, length, Option, Some, None, refl, sym, ap, ◌∙◌, arith}
+use Rattle.std.proofs.Common.{◌≡◌, ◌≢◌, inl, inr, ℕ, true, false, List, [], ◌∷◌, length, Option, Some, None, refl, sym, ap, subst, ◌∙◌, arith}
 use Rattle.std.specs.List.{All}
 use Rattle.nfs_script.specs.declared.script.ScriptLine.{ScriptLine}
 use Rattle.file_trees.specs.declared.tree.Given.{Given}
@@ -7,7 +7,7 @@ use Rattle.copy_plan.specs.Files.{FilesView}
 use Rattle.copy_plan.specs.Lines.{IsNameLine, LinesView}
 use Rattle.copy_plan.specs.Trees.{plan_of}
 use Rattle.copy_scripts.specs.declared.upload.Sent.TheVariants as sents
-use Rattle.copy_scripts.specs.Uploads.{AreWhole, Judges, JudgesFiles, NextIs, OnlyWrong, Planned, Takes, UploadView, files, names, none, taken}
+use Rattle.copy_scripts.specs.Uploads.{Amiss, AnyCant, AreWhole, Judges, NextIs, OnlyWrong, Planned, Takes, UploadView, earlier, files, names, none, refused, taken, unfit}
 
 -- once the answers were judged, and this was given since
 record Ready (status : ℕ) (more : List Given) (u w : UploadView) : Type 0 where
@@ -20,6 +20,7 @@ record Judged (status : ℕ) (more : List Given) (u w : UploadView) : Type 0 whe
   pub to : w.to ≡ u.to
   pub sent : w.sent ≡ u.sent
   pub right : w.wrong ≡ false → Ready status more u w
+  pub amiss : w.wrong ≡ true → Amiss status more u
 
 judged : (status : ℕ) (more : List Given) (u v x w : UploadView) → Judges status u v → x ≡ v → Takes more x w → Judged status more u w
 judged status more u v x w j same t = by (same ∙ j.same)
@@ -37,6 +38,14 @@ judged status more u v x w j same t = by (same ∙ j.same)
             whole = p.whole;
             files_are = p.files ∙ ap (λ (y : UploadView). plan_of y.to more y.files) is;
           };
+      amiss = λ e.
+          elim (t.amiss e) [
+            | inl was ↦ elim (j.amiss (ap (λ (y : UploadView). y.wrong) (sym same) ∙ was)) [
+              | inl first ↦ earlier first
+              | inr other ↦ refused other
+            ]
+            | inr cant ↦ unfit (subst (λ (y : List (List ℕ)). AnyCant y more) (ap (λ (y : UploadView). y.to) is) cant)
+          ];
     }
 
 -- the script of files
@@ -56,6 +65,7 @@ module _ (status : ℕ) (more : List Given) (u v x w : UploadView) (j : Judges s
               sends = files (ap (λ (l : List ScriptLine). Some l) (lines ∙ ap (λ (f : FilesView). f.all.lines) r.files_are))
                   (ap (λ (y : UploadView). y.files) is ∙ ap taken r.files_are) (ap (λ (y : UploadView). y.sent) is);
             };
+        amiss = λ e. d.amiss (ap (λ (y : UploadView). y.wrong) (sym is) ∙ e);
       }
 
   -- the script of folders and links
@@ -73,6 +83,7 @@ module _ (status : ℕ) (more : List Given) (u v x w : UploadView) (j : Judges s
               whole = r.whole;
               sends = names script refl all (ap (λ (y : UploadView). y.files) is ∙ r.files_are) (ap (λ (y : UploadView). y.sent) is);
             };
+        amiss = λ e. d.amiss (ap (λ (y : UploadView). y.wrong) (sym is) ∙ e);
       }
 
   -- there is none
@@ -89,6 +100,7 @@ module _ (status : ℕ) (more : List Given) (u v x w : UploadView) (j : Judges s
               whole = r.whole;
               sends = none is_none (ap (λ (f : FilesView). f.all.lines) (sym r.files_are) ∙ empty w.files.all.lines few) r.files_are d.sent;
             };
+        amiss = d.amiss;
       }
     where
       empty : (l : List ScriptLine) → length l ≡ 0 → l ≡ []
@@ -97,8 +109,15 @@ module _ (status : ℕ) (more : List Given) (u v x w : UploadView) (j : Judges s
 
 -- ---- what was answered
 
-pub judges-names : (status : ℕ) (u v : UploadView) → u.sent ≡ sents.Names → OnlyWrong u v → Judges status u v
-judges-names status u v sent o = record { same = o.same; right = λ e. (o.right e, λ f. absurd (let no_way : sents.Names ≡ sents.Files = sym sent ∙ f in cc)) }
+pub judges-well : (status : ℕ) (u : UploadView) → status ≡ 0 → Judges status u u
+judges-well status u zero_is = record { same = refl; right = λ e. (e, λ s. zero_is); amiss = λ e. inl e }
 
-pub judges-files : (status : ℕ) (u v : UploadView) → JudgesFiles status u v → Judges status u v
-judges-files status u v f = record { same = f.same; right = λ e. ((f.right e).0, λ s. (f.right e).1) }
+pub judges-names : (status : ℕ) (u v : UploadView) → status ≢ 0 → u.sent ≡ sents.Names → OnlyWrong u v → Judges status u v
+judges-names status u v other sent o = record {
+  same = o.same;
+  right = λ e. (o.right e, λ f. absurd (let no_way : sents.Names ≡ sents.Files = sym sent ∙ f in cc));
+  amiss = λ e. inr other;
+}
+
+pub judges-files : (status : ℕ) (u v : UploadView) → status ≢ 0 → v ≡ record u { wrong = true } → Judges status u v
+judges-files status u v other is = subst (Judges status u) (sym is) (record { same = refl; right = λ e. absurd cc; amiss = λ e. inr other })

@@ -1,6 +1,5 @@
 -- A copy goes on by what a tree gives.
-use Rattle.std.proofs.Common.{◌≡◌, ℕ, Bool, true, false, List, [], ◌∷◌, ◌++◌, Option, Some, None, Result, Ok, Err, refl, sym, ap, subst, ◌∙◌, append_assoc, append-nil}
-use Rattle.std.specs.Prelude.{OnOk}
+use Rattle.std.proofs.Common.{◌≡◌, inl, inr, ℕ, true, List, [], ◌∷◌, ◌++◌, Option, Some, None, refl, sym, ap, subst, ◌∙◌, append_assoc, append-nil}
 use Rattle.file_trees.specs.declared.item.Node.{Node}
 use Rattle.file_trees.specs.declared.item.Node.TheVariants as nodes
 use Rattle.file_trees.specs.declared.tree.Given.{Given}
@@ -9,7 +8,7 @@ use Rattle.file_trees.specs.Giving.{Gives}
 use Rattle.copy_plan.specs.Files.{FilesView}
 use Rattle.copy_plan.specs.Lines.{LinesView}
 use Rattle.copy_plan.specs.Trees.{plan_node, plan_one, plan_of}
-use Rattle.copy_scripts.specs.Uploads.{AreWhole, Gave, IsWholeNode, JudgesFiles, Judges, OnlyWrong, Planned, PlannedNode, Takes, TakesNode, UploadView}
+use Rattle.copy_scripts.specs.Uploads.{AnyCant, AreWhole, CantStand, Gave, IsWholeNode, OnlyWrong, Planned, PlannedNode, Takes, TakesNode, UploadView}
 
 -- ---- what a tree gave
 
@@ -31,10 +30,21 @@ pub whole-then : (m n : List Given) → AreWhole m → AreWhole n → AreWhole (
 whole-then [] n p q = q
 whole-then (g ∷ m) n p q = (p.0, whole-then m n p.1 q)
 
+-- ---- what of it can't be copied
+
+pub cant-front : (to : List (List ℕ)) (m n : List Given) → AnyCant to m → AnyCant to (m ++ n)
+cant-front to [] n a = absurd a
+cant-front to (g ∷ m) n (inl now) = inl now
+cant-front to (g ∷ m) n (inr later) = inr (cant-front to m n later)
+
+pub cant-behind : (to : List (List ℕ)) (m n : List Given) → AnyCant to n → AnyCant to (m ++ n)
+cant-behind to [] n a = a
+cant-behind to (g ∷ m) n a = inr (cant-behind to m n a)
+
 -- ---- what is made of it
 
 pub takes-none : (u : UploadView) → Takes [] u u
-takes-none u = record { to = refl; sent = refl; right = λ e. record { before = e; whole = tt; files = refl } }
+takes-none u = record { to = refl; sent = refl; right = λ e. record { before = e; whole = tt; files = refl }; amiss = λ e. inl e }
 
 pub takes-then : (m n : List Given) (a b c : UploadView) → Takes m a b → Takes n b c → Takes (m ++ n) a c
 takes-then m n a b c p q = record {
@@ -51,6 +61,14 @@ takes-then m n a b c p q = record {
             ∙ ap (plan_of a.to n) first.files
             ∙ sym (plan-then a.to m n a.files);
       };
+  amiss = λ e.
+      elim (q.amiss e) [
+        | inl was ↦ elim (p.amiss was) [
+          | inl first ↦ inl first
+          | inr cant ↦ inr (cant-front a.to m n cant)
+        ]
+        | inr cant ↦ inr (cant-behind a.to m n (subst (λ (t : List (List ℕ)). AnyCant t n) p.to cant))
+      ];
 }
 
 pub gave-none : (a : Option (List Given)) (u : UploadView) → Gave a a (λ given. Takes given u u)
@@ -66,21 +84,21 @@ gave-then a b c u v w p q = record {
 
 -- ---- what stands at a path
 
-pub node-wrong : (to : List (List ℕ)) (node : Node) (old new : UploadView) → new ≡ record old { wrong = true } → TakesNode to node old new
-node-wrong to node old new e = subst (TakesNode to node old) (sym e) (record { to = refl; sent = refl; right = λ w. absurd cc })
+pub node-wrong : (to : List (List ℕ)) (node : Node) (old new : UploadView) → CantStand to node → new ≡ record old { wrong = true } → TakesNode to node old new
+node-wrong to node old new cant e = subst (TakesNode to node old) (sym e) (record { to = refl; sent = refl; right = λ w. absurd cc; amiss = λ w. inr cant })
 
 -- one for which names are asked
 pub node-named : (to : List (List ℕ)) (node : Node) (names : LinesView) (old new : UploadView) → IsWholeNode node → plan_node node to old.files ≡ old.files
     → new ≡ record old { names = names } → TakesNode to node old new
 node-named to node names old new whole same e =
-    subst (TakesNode to node old) (sym e) (record { to = refl; sent = refl; right = λ w. record { before = w; whole = whole; files = sym same } })
+    subst (TakesNode to node old) (sym e) (record { to = refl; sent = refl; right = λ w. record { before = w; whole = whole; files = sym same }; amiss = λ w. inl w })
 
 pub node-file : (to : List (List ℕ)) (old new : UploadView) → new ≡ record old { files = plan_node nodes.File to old.files } → TakesNode to nodes.File old new
-node-file to old new e = subst (TakesNode to nodes.File old) (sym e) (record { to = refl; sent = refl; right = λ w. record { before = w; whole = tt; files = refl } })
+node-file to old new e = subst (TakesNode to nodes.File old) (sym e) (record { to = refl; sent = refl; right = λ w. record { before = w; whole = tt; files = refl }; amiss = λ w. inl w })
 
 -- nothing is asked for a folder that is there
 pub node-there : (to : List (List ℕ)) (node : Node) (u : UploadView) → node ≡ nodes.Folder → TakesNode to node u u
-node-there to node u e = subst (λ (n : Node). TakesNode to n u u) (sym e) (record { to = refl; sent = refl; right = λ w. record { before = w; whole = tt; files = refl } })
+node-there to node u e = subst (λ (n : Node). TakesNode to n u u) (sym e) (record { to = refl; sent = refl; right = λ w. record { before = w; whole = tt; files = refl }; amiss = λ w. inl w })
 
 pub item-takes : (path to : List (List ℕ)) (node : Node) (old new : UploadView) → to ≡ old.to ++ path → TakesNode to node old new
     → Takes (gives.Item (record { path = path; node = node }) ∷ []) old new
@@ -94,6 +112,11 @@ item-takes path to node old new is p = record {
         whole = (planned.whole, tt);
         files = planned.files ∙ ap (λ (t : List (List ℕ)). plan_node node t old.files) is;
       };
+  amiss = λ e.
+      elim (p.amiss e) [
+        | inl was ↦ inl was
+        | inr cant ↦ inr (inl (subst (λ (t : List (List ℕ)). CantStand t node) is cant))
+      ];
 }
 
 -- ---- what was answered

@@ -1,6 +1,8 @@
 -- A copy to the server that is under way.
-use Rattle.std.specs.Prelude.{◌≡◌, ℕ, Bool, true, false, List, [], ◌∷◌, All, Option, Some, None}
+use Rattle.std.specs.Prelude.{◌≡◌, ◌≢◌, ◌⊎◌, ◌==◌, ◌++◌, ℕ, Bool, true, false, List, [], ◌∷◌, All, Option, Some, None}
+use Rattle.std.specs.List.{list_any}
 use Rattle.nfs_script.specs.declared.script.ScriptLine.{ScriptLine}
+use Rattle.nfs_script.specs.Asked.{IsNamed, IsTarget}
 use Rattle.file_trees.specs.declared.item.Node.{Node}
 use Rattle.file_trees.specs.declared.item.Node.TheVariants as nodes
 use Rattle.file_trees.specs.declared.item.Piece.{Piece}
@@ -60,6 +62,30 @@ abbrev pub AreWhole : List Given → Type 0
 AreWhole [] = Unit {0}
 AreWhole (g ∷ given) = IsWhole g × AreWhole given
 
+-- a link can lead to 1 to 1,024 bytes, none of which is zero
+abbrev pub MayLink : List ℕ → Type 0
+MayLink target = IsTarget target × (list_any (λ b. b == 0) target ≡ false)
+
+-- What stands in a tree can't be copied to this path: it can't be read, or it is neither file, folder nor link; or the path has no name, or more than 1,024
+-- bytes; or a link leads where none can.
+pub data CantStand (path : List (List ℕ)) (node : Node) : Type 0 where
+  unread : (error : ℕ) → node ≡ nodes.Unread error → CantStand path node
+  kind : node ≡ nodes.Other → CantStand path node
+  place : (IsNamed path → ⊥) → CantStand path node
+  link : (target : List ℕ) → node ≡ nodes.Link target → (MayLink target → ⊥) → CantStand path node
+
+-- What a tree gave can't be copied below this path. A file isn't copied if it can't be read to its end, or changed while it was read.
+abbrev pub CantCopy : List (List ℕ) → Given → Type 0
+CantCopy to (gives.Item item) = CantStand (to ++ item.path) item.node
+CantCopy to (gives.Piece (pieces.Bytes bytes)) = ⊥
+CantCopy to (gives.Piece pieces.End) = ⊥
+CantCopy to (gives.Piece (pieces.Cut cut)) = Unit {0}
+
+-- something of what a tree gave can't
+abbrev pub AnyCant : List (List ℕ) → List Given → Type 0
+AnyCant to [] = ⊥
+AnyCant to (g ∷ given) = CantCopy to g ⊎ AnyCant to given
+
 -- ---- what is made of it
 
 -- It was planned, and nothing went wrong before.
@@ -68,11 +94,12 @@ pub record Planned (given : List Given) (old new : UploadView) : Type 0 where
   pub whole : AreWhole given
   pub files : new.files ≡ plan_of old.to given old.files
 
--- What was given was planned, or something went wrong.
+-- What was given was planned, or something went wrong: before, or as something of it can't be copied.
 pub record Takes (given : List Given) (old new : UploadView) : Type 0 where
   pub to : new.to ≡ old.to
   pub sent : new.sent ≡ old.sent
   pub right : new.wrong ≡ false → Planned given old new
+  pub amiss : new.wrong ≡ true → (old.wrong ≡ true) ⊎ AnyCant old.to given
 
 pub record PlannedNode (path : List (List ℕ)) (node : Node) (old new : UploadView) : Type 0 where
   pub before : old.wrong ≡ false
@@ -84,6 +111,7 @@ pub record TakesNode (path : List (List ℕ)) (node : Node) (old new : UploadVie
   pub to : new.to ≡ old.to
   pub sent : new.sent ≡ old.sent
   pub right : new.wrong ≡ false → PlannedNode path node old new
+  pub amiss : new.wrong ≡ true → (old.wrong ≡ true) ⊎ CantStand path node
 
 -- ---- what is made of the answers
 
@@ -92,15 +120,11 @@ pub record OnlyWrong (old new : UploadView) : Type 0 where
   pub same : new ≡ record old { wrong = new.wrong }
   pub right : new.wrong ≡ false → old.wrong ≡ false
 
--- the script of files had the status 0, or something went wrong
-pub record JudgesFiles (status : ℕ) (old new : UploadView) : Type 0 where
-  pub same : new ≡ record old { wrong = new.wrong }
-  pub right : new.wrong ≡ false → (old.wrong ≡ false) × (status ≡ 0)
-
--- a script of files had the status 0, or something went wrong
+-- A script of files had the status 0, or something went wrong. Nothing does at the status 0.
 pub record Judges (status : ℕ) (old new : UploadView) : Type 0 where
   pub same : new ≡ record old { wrong = new.wrong }
   pub right : new.wrong ≡ false → (old.wrong ≡ false) × (old.sent ≡ sents.Files → status ≡ 0)
+  pub amiss : new.wrong ≡ true → (old.wrong ≡ true) ⊎ (status ≢ 0)
 
 -- ---- the next script
 
@@ -117,7 +141,14 @@ pub record Right (status : ℕ) (script : Option (List ScriptLine)) (given : Lis
   pub whole : AreWhole given
   pub sends : Sends (plan_of old.to given old.files) old new script
 
+-- Something went wrong: before, or in the script before, or as something that was given can't be copied.
+pub data Amiss (status : ℕ) (given : List Given) (old : UploadView) : Type 0 where
+  earlier : old.wrong ≡ true → Amiss status given old
+  refused : status ≢ 0 → Amiss status given old
+  unfit : AnyCant old.to given → Amiss status given old
+
 -- After a script with that status, and with what was given since, this is the next script; or something went wrong.
 pub record NextIs (status : ℕ) (script : Option (List ScriptLine)) (given : List Given) (old new : UploadView) : Type 0 where
   pub to : new.to ≡ old.to
   pub right : new.wrong ≡ false → Right status script given old new
+  pub amiss : new.wrong ≡ true → Amiss status given old

@@ -1,7 +1,7 @@
 //! Paths of the server.
 
-ghost use Rattle.std.specs.Bool.{OnTrue};
-ghost use Rattle.std.specs.Prelude.{◌≡◌, ◌≤◌, ◌++◌, IfOk, IfSome};
+ghost use Rattle.std.specs.Bool.{OnFalse, OnTrue};
+ghost use Rattle.std.specs.Prelude.{◌≡◌, ◌≤◌, ◌++◌, IfOk, IfSome, None, Ok};
 ghost use Rattle.script_text.specs.Paths.{path_bytes};
 ghost use Rattle.nfs_script.specs.Asked.{IsNamed};
 
@@ -63,7 +63,8 @@ fn name_of(bytes: &[u8]) -> Option<Name> {
 
 /// The path along these names, if it has 1,024 bytes at most.
 fn short_path(names: Vec<Name>) -> Option<Path>
-    ensures { IfSome result (λ p. (p ≡ names.items) × (path_bytes p ≤ 1024)) }
+    ensures some { IfSome result (λ p. (p ≡ names.items) × (path_bytes p ≤ 1024)) }
+    ensures none { result ≡ None → path_bytes names.items ≤ 1024 → ⊥ }
 {
     if is_short(names.as_slice()) {
         Some(Path::of(names))
@@ -74,7 +75,8 @@ fn short_path(names: Vec<Name>) -> Option<Path>
 
 /// The path below another one; none if it has no name, or more than 1,024 bytes.
 pub fn below(alloc: Global, to: &Path, path: &Path) -> Result<Option<Path>, Memory>
-    ensures { IfOk result (λ found. IfSome found (λ p. (p ≡ to.now ++ path.now) × IsNamed p)) }
+    ensures some { IfOk result (λ found. IfSome found (λ p. (p ≡ to.now ++ path.now) × IsNamed p)) }
+    ensures none { result ≡ Ok None → IsNamed (to.now ++ path.now) → ⊥ }
 {
     let mut names = Vec::new(alloc);
     names.extend_from_slice(to.names())?;
@@ -87,7 +89,8 @@ pub fn below(alloc: Global, to: &Path, path: &Path) -> Result<Option<Path>, Memo
 
 /// Whether these names have 1,024 bytes at most, each with its slash.
 fn is_short(names: &[Name]) -> bool
-    ensures { OnTrue result (path_bytes names.now ≤ 1024) }
+    ensures short { OnTrue result (path_bytes names.now ≤ 1024) }
+    ensures long { OnFalse result (path_bytes names.now ≤ 1024 → ⊥) }
 {
     let mut count: usize = 0;
     for name in names {

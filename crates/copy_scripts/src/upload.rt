@@ -1,7 +1,7 @@
 //! A copy from a tree to a server.
 
-ghost use Rattle.std.specs.Bool.{OnTrue};
-ghost use Rattle.std.specs.Prelude.{◌≡◌, ◌≤◌, ◌∷◌, [], ℕ, true, List, All, IfOk, IfSome, OnOk, Ok, None, length};
+ghost use Rattle.std.specs.Bool.{OnFalse, OnTrue};
+ghost use Rattle.std.specs.Prelude.{◌≡◌, ◌≤◌, ◌∷◌, ◌++◌, [], true, All, IfOk, IfSome, OnOk, Ok, None, length};
 ghost use Rattle.file_trees.specs.declared.item.Node.TheVariants as nodes;
 ghost use Rattle.file_trees.specs.declared.tree.Given.TheVariants as gives;
 ghost use Rattle.file_trees.specs.Giving.{IsFew, IsPiece};
@@ -9,7 +9,7 @@ ghost use Rattle.nfs_script.specs.Asked.{IsAskedLine, IsNamed, IsTarget};
 ghost use Rattle.copy_plan.specs.Files.{begins, ends, writes};
 ghost use Rattle.copy_plan.specs.Lines.{IsNameLine};
 ghost use Rattle.copy_scripts.specs.declared.upload.Sent.TheVariants as sents;
-ghost use Rattle.copy_scripts.specs.Uploads.{Gave, Judges, JudgesFiles, NextIs, OnlyWrong, Takes, TakesNode, at_start, taken};
+ghost use Rattle.copy_scripts.specs.Uploads.{Gave, Judges, MayLink, NextIs, OnlyWrong, Takes, TakesNode, at_start, taken};
 
 use crate::answers::{Answer, next_answer};
 use crate::owners::{Kind, Owners};
@@ -252,7 +252,8 @@ impl Upload {
         path: &Path,
         node: &Node,
     ) -> Result<(), Memory>
-        ensures { OnOk result ((to : List (List ℕ)) → TakesNode to node.now self.old self.new) }
+        requires { IsNamed (self.old.to ++ path.now) → ⊥ }
+        ensures { OnOk result (TakesNode (self.old.to ++ path.now) node.now self.old self.new) }
     {
         if is_root(path, node) {
             return Ok(());
@@ -376,7 +377,7 @@ impl Upload {
         teller.complain(path, why)
     }
 
-    /// Tells which objects of a script weren't copied.
+    /// Tells which objects of a script weren't copied. At the status 0 each answer is `ok`.
     fn judge<K: Sink, C: Clock>(
         &mut self,
         alloc: Global,
@@ -386,13 +387,16 @@ impl Upload {
     ) -> Result<(), Memory>
         ensures { OnOk result (Judges status self.old self.new) }
     {
+        if status == 0 {
+            return Ok(());
+        }
         match self.sent {
             Sent::Names => self.judge_names(alloc, teller, answers),
-            Sent::Files => self.judge_files(alloc, teller, answers, status),
+            Sent::Files => self.judge_files(alloc, teller, answers),
         }
     }
 
-    /// A folder is there if its `stat` shows one, and a link if it leads where it is to. Else the answers to its two lines say why.
+    /// A folder is there if it was made, or if its `stat` shows one; and a link if it was made, or if it leads where it is to.
     fn judge_names<K: Sink, C: Clock>(
         &mut self,
         alloc: Global,
@@ -425,30 +429,24 @@ impl Upload {
     ) -> Result<(), Memory>
         ensures { OnOk result (OnlyWrong self.old self.new) }
     {
-        let Some(path) = self.named.missing(alloc, at, found)? else {
+        if made.is_ok() {
             return Ok(());
-        };
-        let why = if made.is_ok() {
-            found.words
-        } else {
-            made.words
-        };
-        self.complain(teller, &path, why)
+        }
+        match self.named.missing(alloc, at, found)? {
+            Some(path) => self.complain(teller, &path, made.words),
+            None => Ok(()),
+        }
     }
 
-    /// If a script of files has another status than 0, something wasn't copied.
+    /// Something of a script of files wasn't copied.
     fn judge_files<K: Sink, C: Clock>(
         &mut self,
         alloc: Global,
         teller: &mut Teller<'_, K, C>,
         answers: &[u8],
-        status: u8,
     ) -> Result<(), Memory>
-        ensures { OnOk result (JudgesFiles status self.old self.new) }
+        ensures { OnOk result (self.new ≡ record self.old { wrong = true }) }
     {
-        if status == 0 {
-            return Ok(());
-        }
         self.is_wrong = true;
         self.tell_refusals(alloc, teller, answers)
     }
@@ -564,7 +562,8 @@ fn why_cut(cut: Cut) -> &'static [u8] {
 
 /// Whether a link can lead there: 1 to 1,024 bytes without a zero byte.
 fn is_target(bytes: &[u8]) -> bool
-    ensures { OnTrue result (IsTarget bytes.now) }
+    ensures may { OnTrue result (IsTarget bytes.now) }
+    ensures not { OnFalse result (MayLink bytes.now → ⊥) }
 {
     !bytes.is_empty() && bytes.len() <= MOST_TARGET && !bytes.contains(&0)
 }

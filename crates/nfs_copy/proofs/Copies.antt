@@ -1,5 +1,5 @@
 -- Each file that came whole was copied.
-use Rattle.std.proofs.Common.{◌≡◌, ◌≢◌, ◌⊎◌, inl, inr, ℕ, zero, suc, List, [], ◌∷◌, ◌++◌, sym, ap, subst, ◌∙◌, append_assoc, append-nil, arith}
+use Rattle.std.proofs.Common.{◌≡◌, ◌≢◌, ◌⊎◌, inl, inr, ℕ, zero, suc, List, [], ◌∷◌, ◌++◌, sym, ap, subst, ◌∙◌, append_assoc, arith}
 use Rattle.std.proofs.lemmas.List.Elements.{All-contains}
 use Rattle.world_model.specs.declared.answer.Answer.{Answer}
 use Rattle.world_model.specs.declared.answer.Answer.TheVariants as answers
@@ -18,6 +18,7 @@ use Rattle.law_copies.proofs.Doing.{asked-are-copied}
 use Rattle.lane_session.specs.Endings.{entries_of}
 use Rattle.lane_session.specs.Statuses.{HasStatus, lost, refused, well}
 use Rattle.asked_runs.specs.Runs.{ArePartsFrom, Part, entries_in, lines_in}
+use Rattle.run_asked.proofs.Ending.{finishes-all}
 use Rattle.nfs_copy.specs.Promises.{AllCopied}
 use Rattle.nfs_copy.proofs.Marks.{AllAnswered, begun-append, none-answered, same-rest}
 use Rattle.nfs_copy.proofs.Parts.{AreGood, IsGood, lines-begun, names-begun}
@@ -58,17 +59,6 @@ module _ (lane : ℕ) (other : lane ≢ 16) (all : List Entry) (a : Alternates (
         | inr later ↦ parts-none (h ++ p.entries) (done ++ p.lines) parts (is ∙ sym (append_assoc h p.entries (entries_in parts))) are.0.finishes.answered
             (are.0.finishes.all lane) are.1 good.1 later.0 line fault later.1
       ]
-
--- ---- each line has its answer
-
-finishes-all : (h : List Entry) (done : List ScriptLine) (parts : List Part) → Finishes (entries_of done) h → ArePartsFrom h done parts
-    → Finishes (entries_of (done ++ lines_in parts)) (h ++ entries_in parts)
-finishes-all h done [] f are =
-    subst (λ (l : List ScriptLine). Finishes (entries_of l) (h ++ [])) (sym (append-nil done)) (subst (λ (k : List Entry). Finishes (entries_of done) k) (sym (append-nil h)) f)
-finishes-all h done (p ∷ parts) f are =
-    subst (λ (l : List ScriptLine). Finishes (entries_of l) (h ++ entries_in (p ∷ parts))) (append_assoc done p.lines (lines_in parts))
-    (subst (λ (k : List Entry). Finishes (entries_of ((done ++ p.lines) ++ lines_in parts)) k) (append_assoc h p.entries (entries_in parts))
-    (finishes-all (h ++ p.entries) (done ++ p.lines) parts are.0.finishes are.1))
 
 -- ---- all files
 

@@ -32,6 +32,15 @@ asked-then {T} given over [] round u t v s w r so once =
 asked-then given over (first ∷ rounds) round u t v s w r so once =
     (so.0, so.1, so.2, asked-then given over rounds round so.0 so.1 v s w r so.3 once)
 
+-- all that a tree gave, if it had given nothing before
+pub all-given : (a b : Option (List Given)) (more g : List Given) → a ≡ Some [] → b ≡ Some g → Gives a b more → more ≡ g
+all-given (Some x) (Some y) more g a b told =
+    let one : x ≡ [] = cc in
+    let two : y ≡ g = cc in
+    sym (ap (λ (l : List Given). l ++ more) one) ∙ sym told ∙ two
+all-given None b more g a e told = absurd cc
+all-given (Some x) None more g a b told = absurd cc
+
 -- ---- lines in lanes
 
 pub entries-append : (xs ys : List ScriptLine) → entries_of (xs ++ ys) ≡ entries_of xs ++ entries_of ys

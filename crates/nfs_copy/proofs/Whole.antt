@@ -12,7 +12,6 @@ use Rattle.world_model.specs.Operations.{Ended}
 use Rattle.world_model.specs.Told.{Relates}
 use Rattle.claims.specs.OkRows.{OkRow}
 use Rattle.file_trees.specs.declared.tree.Given.{Given}
-use Rattle.file_trees.specs.Giving.{Gives}
 use Rattle.copy_plan.specs.Trees.{no_files, plan_of}
 use Rattle.copy_scripts.specs.Uploads.{AreWhole, IsWhole, UploadView, at_start}
 use Rattle.law_copies.specs.Copied.{Copied, Done, copy_ops, done_marks, laid}
@@ -35,7 +34,7 @@ use Rattle.run_asked.specs.Promised.{Promised}
 use Rattle.nfs_copy.specs.Calls.{AskedSo}
 use Rattle.nfs_copy.specs.Promises.{AllCopied, AllStay, CameWhole, Copies, CopiesBy, IfTold}
 use Rattle.nfs_copy.proofs.Copies.{IsBefore, all-copied}
-use Rattle.nfs_copy.proofs.Parts.{Came, came}
+use Rattle.nfs_copy.proofs.Parts.{Came, all-given, came}
 
 -- ---- what came
 
@@ -104,23 +103,12 @@ module _ {T : Type 0} (given : T → Option (List Given)) (over : T → Type 0) 
   abbrev pub AskedFor : List Round → Type 0
   AskedFor rounds = AskedSo given over rounds (at_start to) t v r
 
-  same-given : (parts : List Part) (c : Came given over 0 parts (at_start to) t r) → c.more ≡ g
-  same-given parts c = by (given t) (given r) start end c.told
-    where
-      by : (a b : Option (List Given)) → a ≡ Some [] → b ≡ Some g → Gives a b c.more → c.more ≡ g
-      by (Some x) (Some y) a b told =
-          let one : x ≡ [] = cc in
-          let two : y ≡ g = cc in
-          sym (ap (λ (l : List Given). l ++ c.more) one) ∙ sym told ∙ two
-      by None b a e told = absurd cc
-      by (Some x) None a b told = absurd cc
-
   -- from the parts on
   by-parts : (parts : List Part) (before h : List Entry) → AskedFor (rounds_of [] 0 parts) → h ≡ before ++ entries_in parts → IsBefore before → ArePartsFrom before [] parts
       → Follows (entries_of (lines_in parts)) h → (AllCopied to g h → AllStay s to g h) → over r × Copies s to g h
   by-parts parts before h asked is b are follows stay =
       let c : Came given over 0 parts (at_start to) t r = came given over [] 0 parts (at_start to) t v r asked right in
-      let same : c.more ≡ g = same-given parts c in
+      let same : c.more ≡ g = all-given (given t) (given r) c.more g start end c.told in
       let copied : AllCopied to g h =
       all-copied to g parts before h is b are follows c.good
       (λ lane other. c.same lane other ∙ ap (λ (x : List Given). begun lane (entries_of (plan_of to x no_files).all.lines)) same) in

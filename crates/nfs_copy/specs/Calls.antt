@@ -1,8 +1,13 @@
 -- The calls for the scripts of a copy.
-use Rattle.std.specs.Prelude.{◌≡◌, List, [], ◌∷◌, Option, None}
+use Rattle.std.specs.Prelude.{◌≡◌, ℕ, Bool, true, false, List, [], ◌∷◌, Option, None}
 use Rattle.asked_runs.specs.Asking.{Round}
 use Rattle.copy_scripts.specs.Uploads.{Gave, NextIs, UploadView}
 use Rattle.file_trees.specs.declared.tree.Given.{Given}
+
+-- the status of a copy: 1 if something wasn't copied, else 0
+abbrev pub TellsWrong : Bool → ℕ → Type 0
+TellsWrong false status = status ≡ 0
+TellsWrong true status = status ≡ 1
 
 -- One call: the tree gave something, the next script was made of what waited and of that, and if there was none the tree is at its end.
 pub record AskedOnce {T : Type 0} (given : T → Option (List Given)) (over : T → Type 0) (round : Round) (u : UploadView) (t : T)

@@ -1,5 +1,7 @@
 -- What a copy to the server promises.
 use Rattle.std.specs.Prelude.{◌≡◌, ℕ, List, ◌++◌, Contains, Option, Some, None}
+use Rattle.world_model.specs.declared.answer.Answer.TheVariants.{Refused}
+use Rattle.world_model.specs.declared.answer.Fault.{Fault}
 use Rattle.world_model.specs.declared.entry.Entry.{Entry}
 use Rattle.world_model.specs.History.{History}
 use Rattle.world_model.specs.Lawful.{Lawful}
@@ -13,6 +15,8 @@ use Rattle.file_trees.specs.Files.{File, files_in}
 use Rattle.session_words.specs.declared.settings.Settings.{Settings}
 use Rattle.session_words.specs.Words.{IsCommand}
 use Rattle.session_setup.specs.Origins.{modes_of, origin_of}
+use Rattle.lane_session.specs.Statuses.{IsAnswered}
+use Rattle.copy_scripts.specs.Uploads.{AnyCant}
 use Rattle.law_copies.specs.Copied.{Copied, laid}
 use Rattle.law_copies.specs.Lasting.{CopyStays}
 
@@ -44,7 +48,12 @@ pub record Copies (s : Settings) (to : List (List ℕ)) (given : List Given) (h 
   pub copied : AllCopied to given h
   pub stay : AllStay s to given h
 
--- the same by the settings that words give
+-- Why not all was copied: something that the tree gave can't be copied below this path, or an operation was refused.
+pub data Missed (to : List (List ℕ)) (given : List Given) (h : List Entry) : Type 0 where
+  unfit : AnyCant to given → Missed to given h
+  refused : (fault : Fault) → IsAnswered h (Refused fault) → Missed to given h
+
+-- what a copy promises, by the settings that words give
 pub record CopiesBy (words : List (List ℕ)) (to : List (List ℕ)) (given : List Given) (h : List Entry) : Type 0 where
   pub settings : Settings
   pub found : IsCommand words settings

@@ -29,15 +29,15 @@ impl<T: Tree + Drop, K: Sink, C: Clock> Copying<'_, T, K, C> {
 }
 
 impl<T: Tree + Drop, K: Sink, C: Clock> Asker for Copying<'_, T, K, C> {
-    ghost use Rattle.std.specs.Prelude.{◌≡◌, false};
+    ghost use Rattle.std.specs.Prelude.{◌≡◌};
     ghost use Rattle.std.proofs.Common.{refl};
-    ghost use Rattle.nfs_copy.specs.Calls.{AskedSo};
+    ghost use Rattle.nfs_copy.specs.Calls.{AskedSo, TellsWrong};
 
     ghost asks = { λ x rounds y. AskedSo T.given T.over rounds x.upload x.tree y.upload y.tree };
 
     ghost stays = { λ x y. Unit {0} };
 
-    ghost well = { λ x. x.upload.wrong ≡ false };
+    ghost tells = { λ x status. TellsWrong x.upload.wrong status };
 
     fn next(&mut self, alloc: Global, answers: &[u8], status: u8) -> Result<Option<Script>, Stop> {
         let next = self

@@ -7,7 +7,7 @@ use Rattle.world_model.specs.declared.answer.Fault.TheVariants as faults
 use Rattle.world_model.specs.declared.entry.Entry.{Entry}
 use Rattle.world_model.specs.declared.entry.Entry.TheVariants.{Answered}
 use Rattle.world_model.specs.Entries.{At}
-use Rattle.world_model.specs.Follows.{Finishes, Follows, begun}
+use Rattle.world_model.specs.Follows.{Finishes, begun}
 use Rattle.world_model.specs.History.{History}
 use Rattle.world_model.specs.Mounts.{Rooted}
 use Rattle.world_model.specs.Told.{Relates}

@@ -1,2 +1,3 @@
 pub mod Promising
 pub mod Ending
+pub mod Words

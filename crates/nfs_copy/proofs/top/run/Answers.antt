@@ -1,5 +1,16 @@
+use Rattle.std.proofs.Common.{inl, inr, refl}
+use Rattle.run_asked.proofs.Words.{unworded, words-end}
 use Rattle.nfs_copy.proofs.Whole.{words-copy}
 use Rattle.nfs_copy.proofs.top.run.Goals as goal
 
 pub returns-in-Ok-clause-copied : goal.returns-in-Ok-clause-copied
 returns-in-Ok-clause-copied g c = λ zero_is start. words-copy _ _ c.in-Ok.settings c.args.to c.in-Ok.ensures.found _ _ _ (c.copy.ensures.copied zero_is start)
+
+pub returns-in-Ok-clause-ends : goal.returns-in-Ok-clause-ends
+returns-in-Ok-clause-ends g c = words-end _ c.in-Ok.settings _ _ _ c.in-Ok.ensures.found c.copy.ensures.ends
+
+pub returns-in-Err-Refused-clause-ends : goal.returns-in-Err-Refused-clause-ends
+returns-in-Err-Refused-clause-ends g c = unworded _ _ 2 (inl refl)
+
+pub returns-in-Err-Memory-clause-ends : goal.returns-in-Err-Memory-clause-ends
+returns-in-Err-Memory-clause-ends g c = unworded _ _ 7 (inr refl)
