@@ -1,5 +1,5 @@
 -- Why a session doesn't go on.
-use Rattle.std.specs.Prelude.{◌≡◌, ◌≢◌, ◌≤◌, ℕ, Result, Ok, Err}
+use Rattle.std.specs.Prelude.{◌≡◌, ◌≢◌, ◌≤◌, ◌⊎◌, ℕ, Result, Ok, Err}
 use Rattle.lane_session.specs.declared.halt.Halt.{Halt}
 use Rattle.lane_session.specs.declared.halt.Halt.TheVariants as halts
 use Rattle.asked_runs.specs.declared.stop.Stop.{Stop}
@@ -17,6 +17,14 @@ of_halt halts.Memory = stops.Memory
 abbrev pub ended_with : Result ℕ Stop → ℕ
 ended_with (Ok status) = status
 ended_with (Err stop) = status_of stop
+
+-- a session whose scripts were run ends by itself with one of these
+abbrev pub IsOwn : ℕ → Type 0
+IsOwn status = (status ≤ 1) ⊎ (status ≡ 6)
+
+-- so does any, if it isn't cut off
+abbrev pub IsOutcome : ℕ → Type 0
+IsOutcome status = IsOwn status ⊎ (status ≡ 8)
 
 -- The last script was answered so that the session is lost, and the status is 6; or it wasn't, and the status is 0 or 1.
 pub data EndsBy (own status : ℕ) : Type 0 where

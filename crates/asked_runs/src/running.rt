@@ -9,7 +9,7 @@ ghost use Rattle.lane_session.specs.Places.{AreIdle};
 ghost use Rattle.lane_session.specs.Ports.{KeepsPort};
 ghost use Rattle.asked_runs.specs.Asking.{MayRun, Round};
 ghost use Rattle.asked_runs.specs.Running.{FindsNext, GoesOver, RunsIn, RunsNext, RunsOver, RunsScript, Shows, first_round};
-ghost use Rattle.asked_runs.specs.Stops.{EndsBy};
+ghost use Rattle.asked_runs.specs.Stops.{EndsBy, IsOwn};
 
 use crate::asker::Asker;
 use crate::status;
@@ -37,7 +37,7 @@ pub(crate) fn run_scripts<A: Asker, L: Link, C: Clock>(
     requires run { MayRun first }
     ensures runs { Shows (C.readings clock.old) (C.readings clock.new) (L.told link.old) (L.told link.new) (λ given h k. IsOpened (Some setup) h
         → RunsOver (λ rounds. (x : A) → A.asks x (first_round first) asker.old → A.asks x rounds asker.new) settings.now setup result given h k) }
-    ensures statuses { IfOk result (λ status. status ≤ 6) }
+    ensures statuses { IfOk result IsOwn }
     ensures tells { IfOk result (λ status. status ≤ 1 → A.tells asker.new status) }
     ensures asker { (first : A) → A.stays first asker.old → A.stays first asker.new }
     ensures dials { DialsOnly settings.now.nfs_port (L.told link.old) (L.told link.new) }
@@ -64,7 +64,7 @@ fn run_in<A: Asker, L: Link, C: Clock>(
     requires held { IsHeld first session.old }
     ensures runs { Shows (C.readings clock.old) (C.readings clock.new) (L.told link.old) (L.told link.new)
         (RunsIn (λ rounds. (x : A) → A.asks x (first_round first) asker.old → A.asks x rounds asker.new) first session.old result) }
-    ensures statuses { IfOk result (λ status. status ≤ 6) }
+    ensures statuses { IfOk result IsOwn }
     ensures tells { IfOk result (λ status. status ≤ 1 → A.tells asker.new status) }
     ensures asker { (first : A) → A.stays first asker.old → A.stays first asker.new }
     ensures dials { KeepsPort session.old.port session.new.port (L.told link.old) (L.told link.new) }

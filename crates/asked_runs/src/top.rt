@@ -12,7 +12,7 @@ ghost use Rattle.script_runs.specs.Run.{IsXidOption};
 ghost use Rattle.asked_runs.specs.Asking.{MayRun};
 ghost use Rattle.asked_runs.specs.Running.{RunsOver, Shows, first_round};
 ghost use Rattle.asked_runs.specs.Runs.{RunsAsked};
-ghost use Rattle.asked_runs.specs.Stops.{ended_with};
+ghost use Rattle.asked_runs.specs.Stops.{IsOutcome, IsOwn, ended_with};
 
 use crate::asker::Asker;
 use crate::running::run_scripts;
@@ -41,6 +41,9 @@ pub fn run_with<A: Asker, L: Link, C: Clock>(
     requires most { settings.now.calls < 2 ^ 31 }
     requires xid { IsXidOption settings.now.xid }
     ensures statuses { result ≤ 8 }
+
+    // Neither 2, 3 nor 4 comes.
+    ensures taken { 2 ≤ result → 5 ≤ result }
     ensures stays { (first : L) → L.stays first link.old → L.stays first link.new }
     ensures honest { L.honest link.old → L.honest link.new }
     ensures asker { (first : A) → A.stays first asker.old → A.stays first asker.new }
@@ -68,7 +71,7 @@ fn run_all<A: Asker, L: Link, C: Clock>(
     requires options { IsOptions settings.now }
     requires most { settings.now.calls < 2 ^ 31 }
     requires xid { IsXidOption settings.now.xid }
-    ensures statuses { IfOk result (λ status. status ≤ 8) }
+    ensures statuses { IfOk result IsOutcome }
     ensures stays { (first : L) → L.stays first link.old → L.stays first link.new }
     ensures honest { L.honest link.old → L.honest link.new }
     ensures asker { (first : A) → A.stays first asker.old → A.stays first asker.new }
@@ -97,7 +100,7 @@ fn open<A: Asker, L: Link, C: Clock>(
     requires most { settings.now.calls < 2 ^ 31 }
     requires xid { IsXidOption settings.now.xid }
     requires run { MayRun script }
-    ensures statuses { IfOk result (λ status. status ≤ 8) }
+    ensures statuses { IfOk result IsOutcome }
     ensures stays { (first : L) → L.stays first link.old → L.stays first link.new }
     ensures honest { L.honest link.old → L.honest link.new }
     ensures asker { (first : A) → A.stays first asker.old → A.stays first asker.new }
@@ -142,7 +145,7 @@ fn open_ready<A: Asker, L: Link, C: Clock>(
         (λ given h k. IsOpened (Some (setup_of settings.now ready)) h
         → RunsOver (λ rounds. (x : A) → A.asks x (first_round script) asker.old → A.asks x rounds asker.new) settings.now
         (setup_of settings.now ready) result given h k) }
-    ensures statuses { IfOk result (λ status. status ≤ 6) }
+    ensures statuses { IfOk result IsOwn }
     ensures tells { IfOk result (λ status. status ≤ 1 → A.tells asker.new status) }
     ensures asker { (first : A) → A.stays first asker.old → A.stays first asker.new }
     ensures dials { DialsOnly settings.now.nfs_port (L.told link.old) (L.told link.new) }

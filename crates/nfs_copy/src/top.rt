@@ -86,6 +86,9 @@ pub fn copy<T: Tree + Drop, L: Link, C: Clock, K: Sink, W: Clock>(
     requires most { settings.now.calls < 2 ^ 31 }
     requires xid { IsXidOption settings.now.xid }
     ensures statuses { result.0 ≤ 8 }
+
+    // Neither 2, 3 nor 4 comes.
+    ensures taken { 2 ≤ result.0 → 5 ≤ result.0 }
     ensures stays { (first : L) → L.stays first link.old → L.stays first link.new }
     ensures honest { L.honest link.old → L.honest link.new }
 

@@ -27,6 +27,9 @@ pub fn run_with<A: Asker, L: Link, C: Clock>(
     requires most { settings.now.calls < 2 ^ 31 }
     requires xid { IsXidOption settings.now.xid }
     ensures statuses { result ≤ 8 }
+
+    // Neither 2, 3 nor 4 comes.
+    ensures taken { 2 ≤ result → 5 ≤ result }
     ensures stays { (first : L) → L.stays first link.old → L.stays first link.new }
     ensures honest { L.honest link.old → L.honest link.new }
     ensures asker { (first : A) → A.stays first asker.old → A.stays first asker.new }

@@ -1,6 +1,6 @@
 use Rattle.lane_session.proofs.Ports.{keeps_none, keeps_then}
 use Rattle.asked_runs.proofs.InSteps.{in-ends, in-full, in-none, in-on, in-stops}
-use Rattle.asked_runs.proofs.Tops.{ends-few}
+use Rattle.asked_runs.proofs.Tops.{ends-own}
 use Rattle.asked_runs.proofs.running.run_in.Goals as goal
 
 pub loop-init : goal.loop-init
@@ -37,7 +37,7 @@ returns-in-Ok-None-clause-runs g c =
     c.loop.session c.run_next.new.session i.runs c.ending.result c.ending.ensures.is r.runs
 
 pub returns-in-Ok-None-clause-statuses : goal.returns-in-Ok-None-clause-statuses
-returns-in-Ok-None-clause-statuses g c = ends-few _ c.ending.result c.ending.ensures.is
+returns-in-Ok-None-clause-statuses g c = ends-own _ c.ending.result c.ending.ensures.is
 
 pub returns-in-Ok-None-clause-dials : goal.returns-in-Ok-None-clause-dials
 returns-in-Ok-None-clause-dials g c = keeps_then _ _ _ _ _ _ c.loop.invariant.dials c.in-Ok-None.ensures.dials

@@ -1,6 +1,6 @@
-use Rattle.std.proofs.Common.{refl}
+use Rattle.std.proofs.Common.{inl, inr, refl, arith}
 use Rattle.asked_runs.proofs.Opens.{lost-says, ready-says, refused-says, unready-says}
-use Rattle.asked_runs.proofs.Tops.{few-more, refuse-ends}
+use Rattle.asked_runs.proofs.Tops.{own-outcome, refuse-ends, refused-above, refused-outcome}
 use Rattle.asked_runs.proofs.top.open.Goals as goal
 
 pub returns-in-Ok-clause-runs : goal.returns-in-Ok-clause-runs
@@ -9,7 +9,19 @@ returns-in-Ok-clause-runs g c =
     c.in-Ok.ensures.goes c.open_ready.ensures.runs c.open_ready.ensures.dials
 
 pub returns-in-Ok-clause-statuses : goal.returns-in-Ok-clause-statuses
-returns-in-Ok-clause-statuses g c = few-more c.open_ready.result c.open_ready.ensures.statuses
+returns-in-Ok-clause-statuses g c = own-outcome c.open_ready.result c.open_ready.ensures.statuses
+
+pub returns-in-Err-Lost-clause-statuses : goal.returns-in-Err-Lost-clause-statuses
+returns-in-Err-Lost-clause-statuses g c = inl (inr refl)
+
+pub returns-in-Err-Lost-clause-tells : goal.returns-in-Err-Lost-clause-tells
+returns-in-Err-Lost-clause-tells g c = λ few. absurd (omega (arith, few))
+
+pub returns-in-Err-Refused-clause-statuses : goal.returns-in-Err-Refused-clause-statuses
+returns-in-Err-Refused-clause-statuses g c = refused-outcome c.refuse.result c.refuse.ensures.is
+
+pub returns-in-Err-Refused-clause-tells : goal.returns-in-Err-Refused-clause-tells
+returns-in-Err-Refused-clause-tells g c = refused-above _ c.refuse.result c.refuse.ensures.is
 
 pub returns-in-Err-Lost-clause-runs : goal.returns-in-Err-Lost-clause-runs
 returns-in-Err-Lost-clause-runs g c =
