@@ -1,5 +1,7 @@
 -- A copy goes on by what a tree gives.
-use Rattle.std.proofs.Common.{◌≡◌, inl, inr, ℕ, true, List, [], ◌∷◌, ◌++◌, Option, Some, None, refl, sym, ap, subst, ◌∙◌, append_assoc, append-nil}
+use Rattle.std.proofs.Common.{◌≡◌, inl, inr, ℕ, true, List, [], ◌∷◌, ◌++◌, Option, Some, None, Result, Ok, Err, refl, sym, ap, subst, ◌∙◌, append_assoc, append-nil}
+use Rattle.std.specs.Prelude.{OnOk}
+use Rattle.xdr_codec.specs.declared.blob.Memory.{Memory}
 use Rattle.file_trees.specs.declared.item.Node.{Node}
 use Rattle.file_trees.specs.declared.item.Node.TheVariants as nodes
 use Rattle.file_trees.specs.declared.tree.Given.{Given}
@@ -8,7 +10,7 @@ use Rattle.file_trees.specs.Giving.{Gives}
 use Rattle.copy_plan.specs.Files.{FilesView}
 use Rattle.copy_plan.specs.Lines.{LinesView}
 use Rattle.copy_plan.specs.Trees.{plan_node, plan_one, plan_of}
-use Rattle.copy_scripts.specs.Uploads.{AnyCant, AreWhole, CantStand, Gave, IsWholeNode, OnlyWrong, Planned, PlannedNode, Takes, TakesNode, UploadView}
+use Rattle.copy_scripts.specs.Uploads.{AnyCant, AreWhole, CantStand, Gave, IsWholeNode, MayLink, OnlyWrong, Planned, PlannedNode, Takes, TakesNode, UploadView, link}
 
 -- ---- what a tree gave
 
@@ -86,6 +88,13 @@ gave-then a b c u v w p q = record {
 
 pub node-wrong : (to : List (List ℕ)) (node : Node) (old new : UploadView) → CantStand to node → new ≡ record old { wrong = true } → TakesNode to node old new
 node-wrong to node old new cant e = subst (TakesNode to node old) (sym e) (record { to = refl; sent = refl; right = λ w. absurd cc; amiss = λ w. inr cant })
+
+-- a link that leads where none can
+pub link-wrong : (to : List (List ℕ)) (target bytes : List ℕ) (old new : UploadView) (result : Result (Unit {0}) Memory) → (MayLink bytes → ⊥) → bytes ≡ target
+    → new ≡ record old { wrong = true } → OnOk result (TakesNode to (nodes.Link target) old new)
+link-wrong to target bytes old new (Err e) never is wrong = tt
+link-wrong to target bytes old new (Ok u) never is wrong =
+    node-wrong to (nodes.Link target) old new (link target refl (subst (λ (t : List ℕ). MayLink t → ⊥) is never)) wrong
 
 -- one for which names are asked
 pub node-named : (to : List (List ℕ)) (node : Node) (names : LinesView) (old new : UploadView) → IsWholeNode node → plan_node node to old.files ≡ old.files
