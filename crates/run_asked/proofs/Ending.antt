@@ -119,58 +119,58 @@ not-cut n status five seven is (inl so) = five (sym is ∙ so)
 not-cut n status five seven is (inr so) = seven (sym is ∙ so)
 
 module _ (s : Settings) (first : ℕ) (later : List ℕ) (v : SetUp) (before h : List Entry) (status : ℕ) (so : SetsUp s first (Ok v) before) (session : SessionOf later before h status)
-    where
-  rooted : Rooted (origin_of s.export) h (length h) v.root
-  rooted =
-      let more : List Entry = entries_in session.parts ++ session.last in
-      let long : length h ≡ length before + length more = ap length session.history ∙ length-append before more in
-      Rooted-wide (origin_of s.export) h (length before) (length h) v.root (omega (arith, long))
-      (subst (λ (k : List Entry). Rooted (origin_of s.export) k (length before) v.root) (sym session.history) (Rooted-grow (origin_of s.export) before more (length before) v.root so.ends.rooted))
+  where
+    rooted : Rooted (origin_of s.export) h (length h) v.root
+    rooted =
+        let more : List Entry = entries_in session.parts ++ session.last in
+        let long : length h ≡ length before + length more = ap length session.history ∙ length-append before more in
+        Rooted-wide (origin_of s.export) h (length before) (length h) v.root (omega (arith, long))
+        (subst (λ (k : List Entry). Rooted (origin_of s.export) k (length before) v.root) (sym session.history) (Rooted-grow (origin_of s.export) before more (length before) v.root so.ends.rooted))
 
-  module _ (uncut : IsCutOff status → ⊥) where
-    all-parts : h ≡ before ++ entries_in session.parts
-    all-parts =
-        session.history
-        ∙ ap (λ (k : List Entry). before ++ (entries_in session.parts ++ k)) (session.whole uncut).1
-        ∙ ap (λ (k : List Entry). before ++ k) (append-nil (entries_in session.parts))
+    module _ (uncut : IsCutOff status → ⊥) where
+      all-parts : h ≡ before ++ entries_in session.parts
+      all-parts =
+          session.history
+          ∙ ap (λ (k : List Entry). before ++ (entries_in session.parts ++ k)) (session.whole uncut).1
+          ∙ ap (λ (k : List Entry). before ++ k) (append-nil (entries_in session.parts))
 
-    finishes : Finishes (entries_of (lines_of session)) h
-    finishes =
-        subst (λ (l : List ScriptLine). Finishes (entries_of l) h)
-        (sym (ap (λ (l : List ScriptLine). lines_in session.parts ++ l) (session.whole uncut).0 ∙ append-nil (lines_in session.parts)))
-        (subst (λ (k : List Entry). Finishes (entries_of (lines_in session.parts)) k) (sym all-parts) (finishes-all before [] session.parts (unmarked-finishes before so.unmarked) session.are))
+      finishes : Finishes (entries_of (lines_of session)) h
+      finishes =
+          subst (λ (l : List ScriptLine). Finishes (entries_of l) h)
+          (sym (ap (λ (l : List ScriptLine). lines_in session.parts ++ l) (session.whole uncut).0 ∙ append-nil (lines_in session.parts)))
+          (subst (λ (k : List Entry). Finishes (entries_of (lines_in session.parts)) k) (sym all-parts) (finishes-all before [] session.parts (unmarked-finishes before so.unmarked) session.are))
 
-    lost-here : status ≡ 6 → IsAnswered h (Refused faults.Lost)
-    lost-here six =
-        elim (lost-in 0 before [] session.parts session.are (session.lost six)) [
-          | inl zero_is ↦ absurd (omega (arith, zero_is))
-          | inr a ↦ subst (λ (k : List Entry). IsAnswered k (Refused faults.Lost)) (sym all-parts) (answered-behind before (entries_in session.parts) (Refused faults.Lost) a)
-        ]
+      lost-here : status ≡ 6 → IsAnswered h (Refused faults.Lost)
+      lost-here six =
+          elim (lost-in 0 before [] session.parts session.are (session.lost six)) [
+            | inl zero_is ↦ absurd (omega (arith, zero_is))
+            | inr a ↦ subst (λ (k : List Entry). IsAnswered k (Refused faults.Lost)) (sym all-parts) (answered-behind before (entries_in session.parts) (Refused faults.Lost) a)
+          ]
 
-    kept-here : status ≤ 1 → IsAnswered h (Refused faults.Lost) → ⊥
-    kept-here few a =
-        elim (answered-either before (entries_in session.parts) (Refused faults.Lost) (subst (λ (k : List Entry). IsAnswered k (Refused faults.Lost)) all-parts a)) [
-          | inl early ↦ so.unmarked.answered early.at early.lane early.line (Refused faults.Lost) early.is
-          | inr here ↦ kept-in before [] session.parts session.are (session.kept few) here
-        ]
+      kept-here : status ≤ 1 → IsAnswered h (Refused faults.Lost) → ⊥
+      kept-here few a =
+          elim (answered-either before (entries_in session.parts) (Refused faults.Lost) (subst (λ (k : List Entry). IsAnswered k (Refused faults.Lost)) all-parts a)) [
+            | inl early ↦ so.unmarked.answered early.at early.lane early.line (Refused faults.Lost) early.is
+            | inr here ↦ kept-in before [] session.parts session.are (session.kept few) here
+          ]
 
-  ran-to : RanTo (lines_of session) h status
-  ran-to = by session.ending
-    where
-      by : IsEnding status → RanTo (lines_of session) h status
-      by (inl zero_is) =
-          let uncut : IsCutOff status → ⊥ = not-cut 0 status (λ e. absurd (omega (arith, e))) (λ e. absurd (omega (arith, e))) zero_is in
-          kept (omega (arith, zero_is)) (finishes uncut) (kept-here uncut (omega (arith, zero_is)))
-      by (inr (inl one)) =
-          let uncut : IsCutOff status → ⊥ = not-cut 1 status (λ e. absurd (omega (arith, e))) (λ e. absurd (omega (arith, e))) one in
-          kept (omega (arith, one)) (finishes uncut) (kept-here uncut (omega (arith, one)))
-      by (inr (inr (inl six))) =
-          let uncut : IsCutOff status → ⊥ = not-cut 6 status (λ e. absurd (omega (arith, e))) (λ e. absurd (omega (arith, e))) six in
-          lost six (finishes uncut) (lost-here uncut six)
-      by (inr (inr (inr off))) = cut off
+    ran-to : RanTo (lines_of session) h status
+    ran-to = by session.ending
+      where
+        by : IsEnding status → RanTo (lines_of session) h status
+        by (inl zero_is) =
+            let uncut : IsCutOff status → ⊥ = not-cut 0 status (λ e. absurd (omega (arith, e))) (λ e. absurd (omega (arith, e))) zero_is in
+            kept (omega (arith, zero_is)) (finishes uncut) (kept-here uncut (omega (arith, zero_is)))
+        by (inr (inl one)) =
+            let uncut : IsCutOff status → ⊥ = not-cut 1 status (λ e. absurd (omega (arith, e))) (λ e. absurd (omega (arith, e))) one in
+            kept (omega (arith, one)) (finishes uncut) (kept-here uncut (omega (arith, one)))
+        by (inr (inr (inl six))) =
+            let uncut : IsCutOff status → ⊥ = not-cut 6 status (λ e. absurd (omega (arith, e))) (λ e. absurd (omega (arith, e))) six in
+            lost six (finishes uncut) (lost-here uncut six)
+        by (inr (inr (inr off))) = cut off
 
-  ready-ends : Promised s (lines_of session) first v before h → Ends s h status
-  ready-ends promised = ran (lines_of session) first v before rooted session.follows promised ran-to
+    ready-ends : Promised s (lines_of session) first v before h → Ends s h status
+    ready-ends promised = ran (lines_of session) first v before rooted session.follows promised ran-to
 
 -- ---- whatever it came to
 
