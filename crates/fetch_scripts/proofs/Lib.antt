@@ -1,0 +1,4 @@
+pub mod Askings
+pub mod Givings
+pub mod Nexts
+pub mod Texts

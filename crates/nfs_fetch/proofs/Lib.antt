@@ -1,0 +1,9 @@
+pub mod Answering
+pub mod Marks
+pub mod Parts
+pub mod Pieces
+pub mod Plans
+pub mod Spans
+pub mod Values
+pub mod Weave
+pub mod Whole
