@@ -87,23 +87,45 @@ copy_down() {
     copy ":$1" "$2"
 }
 
+# Copies a file of 2 GiB up and down so many times, by nfs3 copy and by nfs-cp.
 compare_large_files() {
     local run
     head -c 2147483648 /dev/urandom >"$work/large"
     rm -f -- "$work"/times_*
     for run in $(seq "$runs"); do
-        take_time copy copy "$work/large" :/large
-        cmp "$work/large" "$work/served/large" || stop 'a copy of a large file differs'
-        rm -f -- "$work/served/large"
-        take_time nfs_cp nfs-cp "$work/large" "$(server_url /other)"
-        rm -f -- "$work/served/other"
+        take_time copy_up copy "$work/large" :/large
+        same "$work/large" "$work/served/large"
+        take_time copy_down copy :/large "$work/back"
+        same "$work/large" "$work/back"
+        rm -f -- "$work/served/large" "$work/back"
+        take_time nfs_cp_up nfs-cp "$work/large" "$(server_url /large)"
+        take_time nfs_cp_down nfs-cp "$(server_url /large)" "$work/back"
+        rm -f -- "$work/served/large" "$work/back"
     done
     rm -f -- "$work/large"
-    tell '2 GiB to the server by nfs3 copy' copy nfs-cp nfs_cp
+    tell '2 GiB to the server by nfs3 copy' copy_up nfs-cp nfs_cp_up
+    tell '2 GiB from the server by nfs3 copy' copy_down nfs-cp nfs_cp_down
+}
+
+# The most KiB that a command held at a time.
+greatest() {
+    python3 -c 'import resource, subprocess, sys
+subprocess.run(sys.argv[1:], check=True, stdout=subprocess.DEVNULL)
+print(resource.getrusage(resource.RUSAGE_CHILDREN).ru_maxrss)' "$@"
+}
+
+# What the program holds at most while it copies the tree, either way.
+tell_memory_of_copies() {
+    local up down
+    up=$(greatest "$NFS3" copy 127.0.0.1 /srv "$work/tree" :/memory_tree "${at[@]:2}") || stop 'the tree is not copied'
+    down=$(greatest "$NFS3" copy 127.0.0.1 /srv :/memory_tree "$work/down" "${at[@]:2}") || stop 'the tree is not copied back'
+    rm -rf -- "$work/served/memory_tree" "$work/down"
+    echo "resident at most in a copy of the tree: $up KiB, back: $down KiB"
 }
 
 # What the program holds after one batch of some 900 KiB, and after a thousand.
 compare_memory() {
+    tell_memory_of_copies
     python3 - "$examples" "${at[@]}" <<'END'
 import sys
 

@@ -2,10 +2,10 @@
 # Tries nfs3 with programs of others, on this machine alone: it lets every command of a script work on the server nfs-ganesha
 # and compares the files with what lies in the server's folder and with what libnfs reads; it lets nfs-ls and nfs-cat read what
 # `nfs3 export` serves; it lets tshark read what went over the wire; it asks rpcbind for the server's ports, and works over UDP;
-# it keeps pages in a file from one session to the next; then the server crashes and connections are cut; and `nfs3 check` judges
-# what is captured of clients. Run it as root on Debian 12: it installs what is missing. The words are the parts that are tried, of
-# wire, names, sizes, ports, kept, failures and captures; without words all are. The last line is 'N passed, M failed', and the
-# status is 0 where nothing failed.
+# it keeps pages in a file from one session to the next; then the server crashes and connections are cut; `nfs3 check` judges
+# what is captured of clients; and `nfs3 copy` copies trees both ways. Run it as root on Debian 12: it installs what is missing. The
+# words are the parts that are tried, of wire, names, sizes, ports, kept, failures, captures and copies; without words all are. The
+# last line is 'N passed, M failed', and the status is 0 where nothing failed.
 set -u
 
 here=$(dirname -- "$(readlink -f -- "${BASH_SOURCE[0]}")")
@@ -30,6 +30,7 @@ mkdir "$work/served"
 . "$here/failures.sh"
 . "$here/kept.sh"
 . "$here/captures.sh"
+. "$here/copies.sh"
 
 # What the capture is to show: packets of the servers' ports on the loopback.
 start_capture() {
@@ -190,7 +191,7 @@ try_wire() {
 }
 
 main() {
-    local part parts=(wire names sizes ports kept failures captures)
+    local part parts=(wire names sizes ports kept failures captures copies)
     [ $# -gt 0 ] && parts=("$@")
     trap end_all EXIT
     prepare

@@ -456,7 +456,7 @@ try_made_scripts
 try_page_files
 try_kept_pages
 try_kept_pages_sized
-for part in launcher examples batches callers copy; do
+for part in launcher examples batches callers copy fetch; do
     "$here/$part.sh"
     count $? "$part.sh"
 done

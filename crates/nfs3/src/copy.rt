@@ -2,35 +2,99 @@
 
 use crate::ending::Ending;
 use copy_scripts::{Progress, server_path};
+use copy_targets::Target;
+use disk_target::{DiskCheck, DiskTarget};
 use disk_tree::DiskTree;
+use fetch_scripts::Skips;
 use net_edge::{StandardError, SystemClock, TcpWire};
-use nfs_copy::run;
 use port_words::batch_words;
 use rpc_record::StreamLink;
+use std::io::IsTerminal;
+
+/// How a copy is made.
+#[derive(Clone, Copy)]
+pub struct Copying {
+    /// Whether progress is told. On a terminal it is.
+    pub progress: Progress,
+    /// Nothing is written: the two sides are compared.
+    pub check: bool,
+    /// Which files are passed over.
+    pub skips: Skips,
+}
+
+impl Copying {
+    /// A copy of all files. Progress is told if standard error is a terminal.
+    pub fn new(rt: &HostRuntime) -> Copying {
+        let progress = if rt.stderr().is_terminal() {
+            Progress::Shown
+        } else {
+            Progress::Hidden
+        };
+        Copying {
+            progress,
+            check: false,
+            skips: Skips::Nothing,
+        }
+    }
+}
 
 /// Copies what the words say: an export, where from, where to, and the arguments of a session.
-pub fn copy_over_tcp(
-    rt: &HostRuntime,
-    host: &str,
-    progress: Progress,
-    mut words: Vec<String>,
-) -> Ending {
+pub fn copy_over_tcp(rt: &HostRuntime, host: &str, how: Copying, mut words: Vec<String>) -> Ending {
     if words.len() < 4 {
         return Ending::Usage;
     }
     let from = words.remove(2);
     let to = words.remove(2);
+    let Ok(words) = batch_words(rt.alloc(), words.as_slice()) else {
+        return Ending::Memory;
+    };
+    let words = words.as_slice();
     match (
         from.as_str().strip_prefix(':'),
         to.as_str().strip_prefix(':'),
     ) {
-        (None, Some(path)) => upload(rt, host, progress, words.as_slice(), from.as_str(), path),
+        (None, Some(path)) => up(rt, host, how, words, from.as_str(), path),
+        (Some(path), None) => down(rt, host, how, words, path, to.as_str()),
         _ => Ending::Usage,
     }
 }
 
+/// Copies to a path of the server, or compares.
+fn up(
+    rt: &HostRuntime,
+    host: &str,
+    how: Copying,
+    words: &[String],
+    from: &str,
+    path: &str,
+) -> Ending {
+    if how.check {
+        return compare(rt, host, how, words, path, from);
+    }
+    match how.skips {
+        Skips::Nothing => to_server(rt, host, how.progress, words, from, path),
+        Skips::Sizes => Ending::Usage,
+    }
+}
+
+/// Copies from a path of the server, or compares.
+fn down(
+    rt: &HostRuntime,
+    host: &str,
+    how: Copying,
+    words: &[String],
+    path: &str,
+    to: &str,
+) -> Ending {
+    if how.check {
+        return compare(rt, host, how, words, path, to);
+    }
+    let target = DiskTarget::new(rt, to);
+    from_server(rt, host, how, words, path, target)
+}
+
 /// Copies a file or a folder to a path of the server.
-fn upload(
+fn to_server(
     rt: &HostRuntime,
     host: &str,
     progress: Progress,
@@ -44,17 +108,62 @@ fn upload(
         Ok(None) => return Ending::Usage,
         Err(_) => return Ending::Memory,
     };
-    let Ok(words) = batch_words(alloc, words) else {
-        return Ending::Memory;
-    };
-    let words = words.as_slice();
-    let mut tree = DiskTree::new(rt, alloc, from);
+    let tree = DiskTree::new(rt, alloc, from);
     let mut link = StreamLink::new(alloc, TcpWire::new(rt, host));
     let mut clock = SystemClock::new(rt);
     let mut watch = SystemClock::new(rt);
     let mut out = StandardError::new(rt.stderr());
-    let (status, _) = run(
+    let (status, _) = nfs_copy::run(
         alloc, words, tree, to, progress, &mut link, &mut clock, &mut out, &mut watch,
+    );
+    Ending::Ran(status)
+}
+
+/// Compares what stands at a path of the server with what stands at one of this machine.
+fn compare(
+    rt: &HostRuntime,
+    host: &str,
+    how: Copying,
+    words: &[String],
+    path: &str,
+    own: &str,
+) -> Ending {
+    match DiskCheck::new(rt, rt.alloc(), own) {
+        Ok(target) => from_server(rt, host, how, words, path, target),
+        Err(_) => Ending::Memory,
+    }
+}
+
+/// Gives what stands at a path of the server to a target.
+fn from_server<T: Target + Drop>(
+    rt: &HostRuntime,
+    host: &str,
+    how: Copying,
+    words: &[String],
+    from: &str,
+    target: T,
+) -> Ending {
+    let alloc = rt.alloc();
+    let from = match server_path(alloc, from) {
+        Ok(Some(from)) => from,
+        Ok(None) => return Ending::Usage,
+        Err(_) => return Ending::Memory,
+    };
+    let mut link = StreamLink::new(alloc, TcpWire::new(rt, host));
+    let mut clock = SystemClock::new(rt);
+    let mut watch = SystemClock::new(rt);
+    let mut out = StandardError::new(rt.stderr());
+    let (status, _) = nfs_fetch::run(
+        alloc,
+        words,
+        from,
+        how.skips,
+        target,
+        how.progress,
+        &mut link,
+        &mut clock,
+        &mut out,
+        &mut watch,
     );
     Ending::Ran(status)
 }

@@ -4,9 +4,9 @@
 //! the file SCHEDULE describes, with `--batches` before it batch after batch, and `nfs3 trace SCHEDULE WORDS` prints the
 //! history of such a run. `nfs3 check TRACE` judges a history that is given. `nfs3 make N WORDS` runs a script that is made
 //! over such a server without a file. `nfs3 pair SCHEDULE SCRIPT` runs two scripts as two clients of a simulated server. `nfs3
-//! copy HOST EXPORT FROM :TO` copies a file or a folder to a server. `nfs3 export PORT CALLS`, with or without a SCHEDULE,
-//! serves a test export, over UDP with `--udp` before the port. `nfs3 fsc-make FILE` makes a file of kept pages.
-//! `--pages N` behind a FILE of pages says for how many it is.
+//! copy HOST EXPORT FROM TO`, one of which begins with `:`, copies a file or a folder to a server or from one. `nfs3 export
+//! PORT CALLS`, with or without a SCHEDULE, serves a test export, over UDP with `--udp` before the port. `nfs3 fsc-make FILE`
+//! makes a file of kept pages. `--pages N` behind a FILE of pages says for how many it is.
 #![tactic(auto)]
 
 mod check;
@@ -24,8 +24,10 @@ mod run;
 mod schedule_file;
 mod trace;
 
+use crate::copy::Copying;
 use crate::ending::{Ending, closed, message};
 use copy_scripts::Progress;
+use fetch_scripts::Skips;
 use net_edge::StandIns;
 use std::alloc::AllocError;
 use std::env;
@@ -135,18 +137,36 @@ fn run_kept(rt: &HostRuntime, mut words: Vec<String>) -> Ending {
     }
 }
 
-/// Copies between this machine and a server. `--progress` may stand behind the first word.
+/// Copies between this machine and a server. `--progress`, `--check` and `--size-only` may stand behind the first word, in any order.
 fn copy_command(rt: &HostRuntime, mut words: Vec<String>) -> Ending {
-    let progress = if take_word(&mut words, "--progress") {
-        Progress::Shown
-    } else {
-        Progress::Hidden
-    };
+    let mut how = Copying::new(rt);
+    for _ in 0..words.len() {
+        if !take_option(&mut how, &mut words) {
+            break;
+        }
+    }
     if words.len() < 2 {
         return Ending::Usage;
     }
     let host = words.remove(1);
-    copy::copy_over_tcp(rt, host.as_str(), progress, words)
+    copy::copy_over_tcp(rt, host.as_str(), how, words)
+}
+
+/// Takes the second word away if it is an option of a copy: whether it was.
+fn take_option(how: &mut Copying, words: &mut Vec<String>) -> bool {
+    if take_word(words, "--progress") {
+        how.progress = Progress::Shown;
+        return true;
+    }
+    if take_word(words, "--check") {
+        how.check = true;
+        return true;
+    }
+    if take_word(words, "--size-only") {
+        how.skips = Skips::Sizes;
+        return true;
+    }
+    false
 }
 
 /// Takes the second word away where it is this one and another one follows: whether it was.
