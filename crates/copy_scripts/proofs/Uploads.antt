@@ -2,6 +2,7 @@
 use Rattle.std.proofs.Common.{◌≡◌, inl, inr, ℕ, true, List, [], ◌∷◌, ◌++◌, Option, Some, None, Result, Ok, Err, refl, sym, ap, subst, ◌∙◌, append_assoc, append-nil}
 use Rattle.std.specs.Prelude.{OnOk}
 use Rattle.xdr_codec.specs.declared.blob.Memory.{Memory}
+use Rattle.file_trees.specs.declared.item.Item.{Item}
 use Rattle.file_trees.specs.declared.item.Node.{Node}
 use Rattle.file_trees.specs.declared.item.Node.TheVariants as nodes
 use Rattle.file_trees.specs.declared.tree.Given.{Given}
@@ -89,12 +90,16 @@ gave-then a b c u v w p q = record {
 pub node-wrong : (to : List (List ℕ)) (node : Node) (old new : UploadView) → CantStand to node → new ≡ record old { wrong = true } → TakesNode to node old new
 node-wrong to node old new cant e = subst (TakesNode to node old) (sym e) (record { to = refl; sent = refl; right = λ w. absurd cc; amiss = λ w. inr cant })
 
+pub told-wrong : (to : List (List ℕ)) (node : Node) (old new : UploadView) (result : Result (Unit {0}) Memory) → CantStand to node → new ≡ record old { wrong = true }
+    → OnOk result (TakesNode to node old new)
+told-wrong to node old new (Err e) cant wrong = tt
+told-wrong to node old new (Ok u) cant wrong = node-wrong to node old new cant wrong
+
 -- a link that leads where none can
 pub link-wrong : (to : List (List ℕ)) (target bytes : List ℕ) (old new : UploadView) (result : Result (Unit {0}) Memory) → (MayLink bytes → ⊥) → bytes ≡ target
     → new ≡ record old { wrong = true } → OnOk result (TakesNode to (nodes.Link target) old new)
-link-wrong to target bytes old new (Err e) never is wrong = tt
-link-wrong to target bytes old new (Ok u) never is wrong =
-    node-wrong to (nodes.Link target) old new (link target refl (subst (λ (t : List ℕ). MayLink t → ⊥) is never)) wrong
+link-wrong to target bytes old new result never is wrong =
+    told-wrong to (nodes.Link target) old new result (link target refl (subst (λ (t : List ℕ). MayLink t → ⊥) is never)) wrong
 
 -- one for which names are asked
 pub node-named : (to : List (List ℕ)) (node : Node) (names : LinesView) (old new : UploadView) → IsWholeNode node → plan_node node to old.files ≡ old.files
@@ -127,6 +132,11 @@ item-takes path to node old new is p = record {
         | inr cant ↦ inr (inl (subst (λ (t : List (List ℕ)). CantStand t node) is cant))
       ];
 }
+
+pub item-ok : (item : Item) (to : List (List ℕ)) (old new : UploadView) (result : Result (Unit {0}) Memory) → to ≡ old.to ++ item.path
+    → OnOk result (TakesNode to item.node old new) → OnOk result (Takes (gives.Item item ∷ []) old new)
+item-ok item to old new (Err e) is p = tt
+item-ok item to old new (Ok u) is p = item-takes item.path to item.node old new is p
 
 -- ---- what was answered
 
