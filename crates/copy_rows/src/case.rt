@@ -1,5 +1,7 @@
-//! What lines describe: a tree, where it goes, and the server.
+//! What lines describe: a tree or a target, the path on the server, and the server.
 
+use copy_targets::{FileSize, Refusal, Why};
+use fetch_scripts::Skips;
 use file_trees::{Cut, Given, Item, Node, Piece};
 use script_text::{contents, path, target};
 use std::alloc::Global;
@@ -13,10 +15,18 @@ pub struct Case {
     pub words: Vec<String>,
     /// The text of the schedule.
     pub schedule: Vec<u8>,
+    /// The script that is run before.
+    pub before: Vec<u8>,
     /// What the tree gives.
     pub tree: Vec<Given>,
-    /// Where it goes.
-    pub to: Path,
+    /// The path on the server.
+    pub place: Path,
+    /// What the target refuses.
+    pub refusals: Vec<Refusal>,
+    /// Which files stand at the target.
+    pub sizes: Vec<FileSize>,
+    /// Which files are passed over.
+    pub skips: Skips,
     /// The script that looks at the server afterwards.
     pub script: Vec<u8>,
 }
@@ -26,8 +36,12 @@ pub fn empty(alloc: Global) -> Case {
     Case {
         words: Vec::new(alloc),
         schedule: Vec::new(alloc),
+        before: Vec::new(alloc),
         tree: Vec::new(alloc),
-        to: Path::of(Vec::new(alloc)),
+        place: Path::of(Vec::new(alloc)),
+        refusals: Vec::new(alloc),
+        sizes: Vec::new(alloc),
+        skips: Skips::Nothing,
         script: Vec::new(alloc),
     }
 }
@@ -38,7 +52,11 @@ pub fn takes(alloc: Global, case: &mut Case, word: &str, rest: &str) -> Result<b
         "words" => case.words = words_of(alloc, rest)?,
         "schedule" => add_line(&mut case.schedule, rest)?,
         ">" => add_line(&mut case.script, rest)?,
-        "to" => return goes_to(alloc, case, rest),
+        "<" => add_line(&mut case.before, rest)?,
+        "to" | "from" => return stands_at(alloc, case, rest),
+        "refuse" => return refuses(case, rest),
+        "has" => return has_file(alloc, case, rest),
+        "sizes" => case.skips = Skips::Sizes,
         "bytes" => return gives_bytes(alloc, case, rest),
         "end" => case.tree.push(Given::Piece(Piece::End))?,
         "changed" => case.tree.push(Given::Piece(Piece::Cut(Cut::Changed)))?,
@@ -71,11 +89,44 @@ fn number_of(text: &str) -> u32 {
     text.parse::<u32>().unwrap_or(0)
 }
 
-fn goes_to(alloc: Global, case: &mut Case, text: &str) -> Result<bool, Memory> {
-    let Some(to) = path(alloc, text.as_bytes())? else {
+fn stands_at(alloc: Global, case: &mut Case, text: &str) -> Result<bool, Memory> {
+    let Some(place) = path(alloc, text.as_bytes())? else {
         return Ok(false);
     };
-    case.to = to;
+    case.place = place;
+    Ok(true)
+}
+
+/// The target refuses a call: `refuse N WHY`.
+fn refuses(case: &mut Case, text: &str) -> Result<bool, Memory> {
+    let (call, why) = text.split_once(' ').unwrap_or((text, ""));
+    let Some(why) = why_of(why) else {
+        return Ok(false);
+    };
+    let call = u64::from(number_of(call));
+    case.refusals.push(Refusal { call, why })?;
+    Ok(true)
+}
+
+fn why_of(word: &str) -> Option<Why> {
+    match word {
+        "refused" => Some(Why::Refused(0)),
+        "unnamed" => Some(Why::Unnamed),
+        "missing" => Some(Why::Missing),
+        "kind" => Some(Why::Kind),
+        "other" => Some(Why::Other),
+        _ => None,
+    }
+}
+
+/// A file stands at the target: `has PATH SIZE`.
+fn has_file(alloc: Global, case: &mut Case, text: &str) -> Result<bool, Memory> {
+    let (shown, size) = text.split_once(' ').unwrap_or((text, ""));
+    let Some(path) = path(alloc, shown.as_bytes())? else {
+        return Ok(false);
+    };
+    let size = u64::from(number_of(size));
+    case.sizes.push(FileSize { path, size })?;
     Ok(true)
 }
 

@@ -1,29 +1,66 @@
-//! Copies trees in memory to a simulated server, both of which the lines of standard input describe, and prints each line and what comes of it:
+//! Copies trees in memory to a simulated server, and from one to a target in memory. The lines of standard input describe both sides. Each line is printed, and
+//! what comes of it:
 //!
 //! - `words WORDS` are the words of the command line, and `schedule LINE` is a line of the schedule
 //! - `folder PATH`, `file PATH`, `link PATH TARGET`, `other PATH` and `unread PATH N` are what the tree gives, one after another, each path from its root on
 //! - behind a file `bytes HEX` are its next bytes, `end` is its end, and `cut N` and `changed` are that not all of it comes
-//! - `to PATH` is where it goes, and `> LINE` a line of the script that looks at the server afterwards, in a session of its own
-//! - `copy` copies, and prints the status, what was told, and the answers to that script, or the line of the schedule that is at fault
+//! - `to PATH` and `from PATH` are the path on the server
+//! - `refuse N WHY`: the target refuses the N-th call that gives it something, as `refused`, `unnamed`, `missing`, `kind` or `other`
+//! - `has PATH SIZE`: a file of that size stands at the target, and `sizes`: files of the same size are passed over
+//! - `< LINE` is a line of the script that is run before, and `> LINE` one of that which looks at the server afterwards, each in a session of its own
+//! - `copy` copies to the server, and prints the status, what was told, and the answers to the script afterwards
+//! - `fetch` copies from it, and prints the status, what was told, and what the target took
 //!
-//! What comes after `copy` begins anew. A line that is empty or begins with `#` is only printed, and any other one is at fault.
+//! What comes after `copy` or `fetch` begins anew. A line that is empty or begins with `#` is only printed, and any other one is at fault.
 #![tactic(auto)]
 
 mod case;
+mod taken;
 
 use crate::case::{Case, empty, takes};
+use crate::taken::show_taken;
 use copy_scripts::Progress;
+use copy_targets::MemTarget;
 use file_trees::MemTree;
 use outside::{MemSink, MemSource, TickClock};
 use std::alloc::Global;
 use std::io;
 use world_link::{World, parse_schedule};
 
+/// Which way a case goes.
+#[derive(Clone, Copy)]
+enum Way {
+    /// To the server.
+    Up,
+    /// From it.
+    Down,
+}
+
 /// Copies, and prints what comes of it.
-fn run(rt: &impl Print, alloc: Global, case: Case) -> io::Result<()> {
+fn run(rt: &impl Print, alloc: Global, case: Case, way: Way) -> io::Result<()> {
     match parse_schedule(alloc, case.schedule.as_slice()) {
-        Ok((mut world, tick)) => copy_to(rt, alloc, case, &mut world, tick),
+        Ok((mut world, tick)) => run_over(rt, alloc, case, way, &mut world, tick),
         Err(fault) => println!(rt; "  {fault}"),
+    }
+}
+
+/// Runs the script before, if there is one, and copies.
+fn run_over(
+    rt: &impl Print,
+    alloc: Global,
+    case: Case,
+    way: Way,
+    world: &mut World,
+    tick: u64,
+) -> io::Result<()> {
+    let mut clock = TickClock::new(tick);
+    if !case.before.is_empty() {
+        let words = case.words.as_slice();
+        look(rt, alloc, words, case.before.as_slice(), world, &mut clock)?;
+    }
+    match way {
+        Way::Up => copy_to(rt, alloc, case, world, &mut clock, tick),
+        Way::Down => copy_from(rt, alloc, case, world, &mut clock, tick),
     }
 }
 
@@ -33,42 +70,74 @@ fn copy_to(
     alloc: Global,
     case: Case,
     world: &mut World,
+    clock: &mut TickClock,
     tick: u64,
 ) -> io::Result<()> {
     let Case {
         words,
-        schedule: _,
         tree,
-        to,
+        place,
         script,
+        ..
     } = case;
     let Ok(mut told) = MemSink::new(alloc, &[]) else {
         return println!(rt; "  out of memory");
     };
     let tree = MemTree::new(alloc, tree);
-    let mut clock = TickClock::new(tick);
     let mut watch = TickClock::new(tick);
     let (status, _) = nfs_copy::run(
         alloc,
         words.as_slice(),
         tree,
-        to,
+        place,
         Progress::Hidden,
         world,
-        &mut clock,
+        clock,
         &mut told,
         &mut watch,
     );
     println!(rt; "  status {status}")?;
     show(rt, told.bytes())?;
-    look(
-        rt,
+    look(rt, alloc, words.as_slice(), script.as_slice(), world, clock)
+}
+
+/// Copies from that server, and prints what the target took.
+fn copy_from(
+    rt: &impl Print,
+    alloc: Global,
+    case: Case,
+    world: &mut World,
+    clock: &mut TickClock,
+    tick: u64,
+) -> io::Result<()> {
+    let Case {
+        words,
+        place,
+        refusals,
+        sizes,
+        skips,
+        ..
+    } = case;
+    let Ok(mut told) = MemSink::new(alloc, &[]) else {
+        return println!(rt; "  out of memory");
+    };
+    let target = MemTarget::new(alloc, refusals, sizes);
+    let mut watch = TickClock::new(tick);
+    let (status, target) = nfs_fetch::run(
         alloc,
         words.as_slice(),
-        script.as_slice(),
+        place,
+        skips,
+        target,
+        Progress::Hidden,
         world,
-        &mut clock,
-    )
+        clock,
+        &mut told,
+        &mut watch,
+    );
+    println!(rt; "  status {status}")?;
+    show(rt, told.bytes())?;
+    show_taken(rt, target.took())
 }
 
 /// Runs a script in a session of its own, and prints its answers.
@@ -104,6 +173,15 @@ fn show_lines(rt: &impl Print, text: &str) -> io::Result<()> {
     Ok(())
 }
 
+/// Which way a copy goes, if the word asks for one.
+fn way_of(word: &str) -> Option<Way> {
+    match word {
+        "copy" => Some(Way::Up),
+        "fetch" => Some(Way::Down),
+        _ => None,
+    }
+}
+
 /// Whether a line is only printed.
 fn is_silent(line: &str) -> bool {
     line.is_empty() || line.starts_with('#')
@@ -119,8 +197,8 @@ fn main(rt: HostRuntime) -> io::Result<()> {
         if is_silent(line.as_str()) {
             continue;
         }
-        if word == "copy" {
-            run(&rt, alloc, case)?;
+        if let Some(way) = way_of(word) {
+            run(&rt, alloc, case, way)?;
             case = empty(alloc);
             continue;
         }
