@@ -63,7 +63,16 @@ fn take_seen<T: Target, K: Sink, C: Clock>(
     ensures from { blame.new.from ≡ blame.old.from }
 {
     match after_ok(words) {
-        Some(rest) => take_shown(alloc, target, teller, blame, walk, skips, path, object_shown(rest)),
+        Some(rest) => take_shown(
+            alloc,
+            target,
+            teller,
+            blame,
+            walk,
+            skips,
+            path,
+            object_shown(rest),
+        ),
         None => blame.complain(alloc, teller, &path, words),
     }
 }
