@@ -1,5 +1,6 @@
 -- Why not all was copied.
 use Rattle.std.proofs.Common.{◌≡◌, ◌≢◌, ◌⊎◌, inl, inr, ℕ, true, List, [], ◌∷◌, ◌++◌, Option, Some, None, refl, sym, ap, subst, ◌∙◌, arith}
+use Rattle.world_model.specs.declared.answer.Answer.{Answer}
 use Rattle.world_model.specs.declared.answer.Answer.TheVariants.{Refused}
 use Rattle.world_model.specs.declared.answer.Fault.{Fault}
 use Rattle.world_model.specs.declared.answer.Fault.TheVariants as faults
@@ -9,6 +10,7 @@ use Rattle.world_model.specs.Entries.{At}
 use Rattle.world_model.specs.History.{History}
 use Rattle.world_model.specs.Told.{Relates}
 use Rattle.world_model.specs.Transcript.{transcript}
+use Rattle.world_model.proofs.Places.{At-grow}
 use Rattle.nfs_script.specs.declared.script.ScriptLine.{ScriptLine}
 use Rattle.file_trees.specs.declared.tree.Given.{Given}
 use Rattle.file_trees.specs.Giving.{Gives}
@@ -23,7 +25,7 @@ use Rattle.asked_runs.specs.Asking.{Round}
 use Rattle.asked_runs.specs.Runs as runs
 use Rattle.asked_runs.specs.Runs.{ArePartsFrom, Part, RunsAsked, SessionOf, entries_in, rounds_of}
 use Rattle.run_asked.specs.Promised.{Promised}
-use Rattle.run_asked.proofs.Ending.{answered-behind, answered-front}
+use Rattle.run_asked.proofs.Ending.{answered-behind}
 use Rattle.nfs_copy.specs.Calls.{AskedSo}
 use Rattle.nfs_copy.specs.Promises.{IfTold, Missed, refused, unfit}
 use Rattle.nfs_copy.proofs.Parts.{all-given}
@@ -76,6 +78,9 @@ gave-all given over (round ∷ rounds) u t v s so =
         first (uploads.unfit cant) = in_tree (cant-front u.to now more cant)
 
 -- ---- the scripts that were run
+
+answered-front : (xs ys : List Entry) (answer : Answer) → IsAnswered xs answer → IsAnswered (xs ++ ys) answer
+answered-front xs ys answer a = record { at = a.at; lane = a.lane; line = a.line; is = At-grow xs ys a.at (Answered a.lane a.line answer) a.is }
 
 -- an operation of them was refused
 record AnyFault (entries : List Entry) : Type 0 where

@@ -18,5 +18,5 @@ returns-in-Ok-clause-ends g c = words-end _ c.in-Ok.settings _ _ _ c.in-Ok.ensur
 pub returns-in-Err-Refused-clause-ends : goal.returns-in-Err-Refused-clause-ends
 returns-in-Err-Refused-clause-ends g c = unworded _ _ 2 (inl refl)
 
-pub returns-in-Err-Memory-clause-ends : goal.returns-in-Err-Memory-clause-ends
-returns-in-Err-Memory-clause-ends g c = unworded _ _ 7 (inr refl)
+pub returns-clause-ends : goal.returns-clause-ends
+returns-clause-ends g c = unworded _ _ 7 (inr refl)
