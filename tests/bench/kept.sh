@@ -3,8 +3,8 @@
 # pages; and with the file of pages that the session before left. Each run has one of each. A line for each row has the medians of seven runs, or of
 # as many as RUNS says, their ratio to the session without, and what they took of the processor, which tells more where other programs run beside.
 # Run it as root on Debian 12: it installs what is missing. The program is the one that bin/nfs3 --prove built, or the one that NFS3 names. The file of
-# pages lies in memory, or in the folder that FOLDER names, so that its syncs are measured too. The words are the rows that are wanted, of small, large
-# and driven; without words all are. The status is 0 where all work was done, and a session with the pages of the one before made no READ.
+# pages lies in memory, or in the folder that FOLDER names, so that its syncs are measured too. The words are the rows that are wanted, of small, large,
+# driven and far; without words all are. The status is 0 where all work was done, with the answers and the READs that belong to it.
 set -u
 
 here=$(dirname -- "$(readlink -f -- "${BASH_SOURCE[0]}")")
@@ -18,9 +18,13 @@ mkdir "$work/served"
 . "$here/../ganesha.sh"
 store=${FOLDER:-$work}/nfs3_pages.$$
 
+# The port of NFS that the sessions are told, and that of a proxy which holds back what comes for 1 ms in either direction.
+session_port=$nfs_port
+far_port=22051
+
 prepare() {
     [ -x "$nfs3" ] || stop "$nfs3 isn't built: bin/nfs3 --prove builds it"
-    have ganesha.nfsd rpcbind rpcinfo nfs-ls || install nfs-ganesha nfs-ganesha-vfs rpcbind libnfs-utils
+    have ganesha.nfsd rpcbind rpcinfo nfs-ls python3 || install nfs-ganesha nfs-ganesha-vfs rpcbind libnfs-utils python3
     start_all
 }
 
@@ -37,7 +41,7 @@ write_script() {
 # A session with these words before the host, with memory kept as bin/nfs3 keeps it.
 session() (
     . "$here/../../bin/heap.sh"
-    exec "$nfs3" run "$@" 127.0.0.1 /srv --uid 0 --gid 0 --mount-port "$mount_port" --nfs-port "$nfs_port" --count <"$work/script"
+    exec "$nfs3" run "$@" 127.0.0.1 /srv --uid 0 --gid 0 --mount-port "$mount_port" --nfs-port "$session_port" --count <"$work/script"
 )
 
 # Takes the seconds of a command, and those of the processor: whose they are, and the command. Its answers go to the file of that name.
@@ -88,12 +92,23 @@ tell() {
     echo "$line"
 }
 
+# The same work with a server that is far away.
+compare_far() {
+    "$here/delay.py" "$far_port" "$nfs_port" 0.001 >"$work/far" 2>"$work/far.log" &
+    started+=($!)
+    await grep -q listening "$work/far" || stop "the proxy doesn't start: $(tail -1 "$work/far.log")"
+    session_port=$far_port
+    compare "$@"
+    session_port=$nfs_port
+}
+
 # The row of a name.
 row() {
     case $1 in
         small) compare '4 MiB, 1,024 pages' small 4194304 1024 0 ;;
         large) compare '64 MiB, 16,384 pages' large 67108864 16384 0 ;;
         driven) compare '64 MiB, 1,024 pages' large 67108864 1024 1024 ;;
+        far) compare_far '64 MiB, 16,384 pages, a server 2 ms away' far 67108864 16384 0 ;;
         *) stop "there is no row $1" ;;
     esac
 }
@@ -104,7 +119,7 @@ end_kept() {
 }
 
 main() {
-    local it rows=(small large driven)
+    local it rows=(small large driven far)
     [ $# -gt 0 ] && rows=("$@")
     trap end_kept EXIT
     prepare
