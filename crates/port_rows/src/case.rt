@@ -27,7 +27,7 @@ pub struct Case {
     pub writes: Vec<u32>,
     /// What is to come from the port mapper, in order.
     pub told: Vec<Coming>,
-    /// The calls of the link to the port mapper that fail, counted from 1.
+    /// The calls of a link that fail, counted from 1: that to the port mapper, or that to the server if none is asked.
     pub fails: Vec<u32>,
     /// What is to come from the server, in order.
     pub arrivals: Vec<Coming>,

@@ -5,8 +5,8 @@
 //!   ports, `udp WORDS` those of a session over UDP, and `batches WORDS` those of a session of batches
 //! - `words WORDS`, `script LINE` and `schedule LINE` describe a session: its words, lines of its script, and lines of the schedule
 //!   of a simulated server; `write N` makes that call of the sink fail
-//! - `told PORT HEX` is a datagram that comes from the port mapper, and `fail N` a call of the link to it that fails, counted from 1;
-//!   `arrival PORT HEX` is one that comes from the server
+//! - `told PORT HEX` is a datagram that comes from the port mapper, `arrival PORT HEX` one that comes from the server, and `fail N` a
+//!   call of the link that fails, counted from 1: to the port mapper, or with `datagrams` to the server
 //! - `found` runs the session by a port mapper over the simulated server, and prints its status, what it wrote and what was
 //!   asked of the port mapper; `dialed` runs it over datagrams, and prints what was asked of the server
 //! - `datagrams` runs a session over datagrams, and prints its status, what it wrote and what was asked of the server

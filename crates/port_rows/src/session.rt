@@ -84,7 +84,7 @@ fn run_found_over<L: Link>(
 /// Runs a session over datagrams, and prints its status, what it wrote and what was asked of the server.
 pub fn run_over_datagrams(rt: &impl Print, alloc: Global, case: &Case) -> io::Result<()> {
     let (Ok(over), Ok(mut streams), Ok(words)) = (
-        datagrams(alloc, case.arrivals.as_slice(), &[]),
+        datagrams(alloc, case.arrivals.as_slice(), case.fails.as_slice()),
         streams_of(alloc, case),
         udp_words(alloc, case.words.as_slice()),
     ) else {
