@@ -84,7 +84,7 @@ restart_at() {
 }
 
 # The server is ended by force in the midst of a copy, either way.
-try_restarts() {
+try_copies_over_restarts() {
     local size=64
     head -c $((size * 1048576)) /dev/urandom >"$work/tree/large"
     rm -f -- "$work/late"
@@ -235,7 +235,7 @@ try_a_link_that_leads_out() {
 try_copies() {
     client_port=$nfs_port
     try_trees
-    try_restarts
+    try_copies_over_restarts
     try_full_server
     try_full_target
     try_a_file_that_vanishes

@@ -120,11 +120,11 @@ try_streams() {
 start_export() {
     printf 'file /a 6869\n' >"$work/schedule"
     "$nfs3" export "$export_port" 1000 "$work/schedule" >"$work/listening" 2>"$work/export.log" &
-    local process=$!
-    started+=("$process")
+    served_export=$!
+    started+=("$served_export")
     for _ in $(seq 300); do
         grep -qx "listening $export_port" "$work/listening" 2>/dev/null && return 0
-        kill -0 "$process" 2>/dev/null || return 1
+        kill -0 "$served_export" 2>/dev/null || return 1
         sleep 0.1
     done
     return 1
@@ -137,6 +137,8 @@ try_export() {
     count $? "nfs-ls lists what nfs3 export serves"
     [ "$(nfs-cat "$(export_url /a)" 2>/dev/null)" = hi ]
     count $? "nfs-cat reads what nfs3 export serves"
+    # Another part serves on the same port.
+    end "$served_export"
 }
 
 # A field of the packets of the capture that a filter lets through. The servers' ports are named, since the clients' are
