@@ -7,3 +7,4 @@ pub mod ReadOn
 pub mod Making
 pub mod Leaving
 pub mod Shaping
+pub mod Paging

@@ -8,3 +8,7 @@ pub mod HeadLines
 pub mod ObjectLines
 pub mod EntryLines
 pub mod Reading
+pub mod Pages
+pub mod Texts
+pub mod Shapes
+pub mod Parts

@@ -1,208 +1,122 @@
 //! Writes entries.
 
+ghost use Rattle.std.specs.Prelude.{◌≡◌, ◌++◌, ◌∷◌, [], codes, decimal, OnOk};
+ghost use Rattle.export_fs.specs.Spelling.{HasSpellingCall, HasSpellingReply};
+ghost use Rattle.export_serve.specs.Spelling.{reply_bytes};
+ghost use Rattle.trace_calls.specs.Sending.{call_bytes};
+ghost use Rattle.trace_text.specs.Pages.{put};
+ghost use Rattle.trace_text.specs.Texts.{IsSpelled, call_words, entry_text, hex_word, line_of};
+ghost use Rattle.world_model.specs.declared.entry.Entry.TheVariants as entries;
+
+use crate::op_texts::write_op;
 use crate::page::Page;
 use export_serve::spelled;
 use nfs_script::whole_line;
-use nfs_types::Mode;
+use nfs_types::Handle;
 use std::alloc::Global;
 use trace_calls::{call_record, is_spellable, is_spellable_reply};
-use world_model::{Call, Entry, Op, Path, Reply};
+use world_model::{Answer, Call, Entry, Op, Reply};
 use xdr_codec::Memory;
 
 /// Writes the line of an entry.
-pub(crate) fn write_entry(page: &mut Page, alloc: Global, entry: &Entry) -> Result<(), Memory> {
+pub(crate) fn write_entry(page: &mut Page, alloc: Global, entry: &Entry) -> Result<(), Memory>
+    ensures { IsSpelled entry.now → OnOk result (page.new ≡ put page.old (entry_text entry.now)) }
+{
     match entry {
-        Entry::Began { lane, line, op } => {
-            page.text(b"began")?;
-            page.next_number(u64::from(*lane))?;
-            page.next_number(u64::from(*line))?;
-            write_op(page, op)?;
-        }
+        Entry::Began { lane, line, op } => write_began(page, alloc, *lane, *line, op),
         Entry::Answered { lane, line, answer } => {
-            page.text(b"answered ")?;
-            let text = whole_line(alloc, *lane, *line, answer)?;
-            return page.text(text.bytes());
+            write_answered(page, alloc, *lane, *line, answer)
         }
-        Entry::Dialed { port } => {
-            page.text(b"dialed")?;
-            page.next_number(u64::from(*port))?;
-        }
-        Entry::Sent { bytes } => {
-            page.text(b"sent")?;
-            page.next_bytes(bytes.bytes())?;
-        }
+        Entry::Dialed { port } => page.number_line(b"dialed", u64::from(*port)),
+        Entry::Sent { bytes } => page.bytes_line(alloc, b"sent", bytes.bytes()),
         Entry::Executed { xid, call, reply } => {
-            page.text(b"executed")?;
-            write_call(page, alloc, *xid, call, reply)?;
+            write_calls(page, alloc, b"executed", *xid, call, reply)
         }
-        Entry::Foreign { call, reply } => {
-            page.text(b"foreign")?;
-            write_call(page, alloc, 0, call, reply)?;
-        }
-        Entry::Flushed { file, from, len } => {
-            page.text(b"flushed")?;
-            page.next_bytes(file.bytes())?;
-            page.next_number(*from)?;
-            page.next_number(*len)?;
-        }
-        Entry::Reboot { verf } => {
-            page.text(b"reboot")?;
-            page.next_bytes(&verf.0)?;
-        }
-        Entry::Delivered { bytes } => {
-            page.text(b"delivered")?;
-            page.next_bytes(bytes.bytes())?;
-        }
-        Entry::Failed => page.text(b"failed")?,
-        Entry::Clock { ms } => {
-            page.text(b"clock")?;
-            page.next_number(*ms)?;
-        }
+        Entry::Foreign { call, reply } => write_calls(page, alloc, b"foreign", 0, call, reply),
+        Entry::Flushed { file, from, len } => write_flushed(page, alloc, file, *from, *len),
+        Entry::Reboot { verf } => page.bytes_line(alloc, b"reboot", &verf.0),
+        Entry::Delivered { bytes } => page.bytes_line(alloc, b"delivered", bytes.bytes()),
+        Entry::Failed => page.text(b"failed\n"),
+        Entry::Clock { ms } => page.number_line(b"clock", *ms),
     }
+}
+
+fn write_began(page: &mut Page, alloc: Global, lane: u8, line: u32, op: &Op) -> Result<(), Memory>
+    ensures { OnOk result (page.new ≡ put page.old (entry_text (entries.Began lane line op.now))) }
+{
+    page.text(b"began")?;
+    page.next_number(u64::from(lane))?;
+    page.next_number(u64::from(line))?;
+    write_op(page, alloc, op)?;
     page.text(b"\n")
 }
 
-/// Writes a call and its reply as records under the xid. What bytes can't spell has no text.
-fn write_call(
+fn write_answered(
     page: &mut Page,
     alloc: Global,
+    lane: u8,
+    line: u32,
+    answer: &Answer,
+) -> Result<(), Memory>
+    ensures { OnOk result (page.new ≡ put page.old (entry_text (entries.Answered lane line answer.now))) }
+{
+    let text = whole_line(alloc, lane, line, answer)?;
+    page.text(b"answered ")?;
+    page.text(text.bytes())
+}
+
+fn write_flushed(
+    page: &mut Page,
+    alloc: Global,
+    file: &Handle,
+    from: u64,
+    len: u64,
+) -> Result<(), Memory>
+    ensures { OnOk result (page.new ≡ put page.old (entry_text (entries.Flushed file.now from len))) }
+{
+    page.text(b"flushed")?;
+    page.next_bytes(alloc, file.bytes())?;
+    page.next_number(from)?;
+    page.next_number(len)?;
+    page.text(b"\n")
+}
+
+/// Writes a line of a word, a call and its reply as records under the xid.
+fn write_calls(
+    page: &mut Page,
+    alloc: Global,
+    word: &[u8],
     xid: u32,
     call: &Call,
     reply: &Reply,
-) -> Result<(), Memory> {
+) -> Result<(), Memory>
+    ensures { HasSpellingCall call.now × HasSpellingReply reply.now
+        → OnOk result (page.new ≡ put page.old (line_of word.now (call_words xid call.now reply.now))) }
+{
+    page.text(word)?;
+    write_call(page, alloc, xid, call)?;
+    write_reply(page, alloc, xid, reply)?;
+    page.text(b"\n")
+}
+
+/// Writes a call after a space. One that bytes can't spell has no text.
+fn write_call(page: &mut Page, alloc: Global, xid: u32, call: &Call) -> Result<(), Memory>
+    ensures { HasSpellingCall call.now → OnOk result (page.new ≡ put page.old (codes " " ++ hex_word (call_bytes xid call.now))) }
+{
     if is_spellable(call) {
-        page.next_bytes(call_record(alloc, xid, call)?.bytes())?;
+        let record = call_record(alloc, xid, call)?;
+        return page.next_bytes(alloc, record.bytes());
     }
+    Ok(())
+}
+
+/// Writes a reply after a space. One that bytes can't spell has no text.
+fn write_reply(page: &mut Page, alloc: Global, xid: u32, reply: &Reply) -> Result<(), Memory>
+    ensures { HasSpellingReply reply.now → OnOk result (page.new ≡ put page.old (codes " " ++ hex_word (reply_bytes xid reply.now))) }
+{
     if is_spellable_reply(reply) {
-        page.next_bytes(spelled(alloc, xid, reply)?.bytes())?;
+        let record = spelled(alloc, xid, reply)?;
+        return page.next_bytes(alloc, record.bytes());
     }
     Ok(())
-}
-
-/// Writes the command of an operation.
-fn write_op(page: &mut Page, op: &Op) -> Result<(), Memory> {
-    match op {
-        Op::OpenFile { slot, mode, path } => {
-            page.text(b" open")?;
-            page.next_number(u64::from(*slot))?;
-            page.text(mode_word(*mode))?;
-            write_path(page, path)
-        }
-        Op::Read {
-            slot,
-            offset,
-            count,
-        } => {
-            page.text(b" read")?;
-            page.next_number(u64::from(*slot))?;
-            page.next_number(*offset)?;
-            page.next_number(u64::from(*count))
-        }
-        Op::Write {
-            slot,
-            offset,
-            bytes,
-        } => {
-            page.text(b" write")?;
-            page.next_number(u64::from(*slot))?;
-            page.next_number(*offset)?;
-            page.next_bytes(bytes.bytes())
-        }
-        Op::Fill {
-            slot,
-            offset,
-            count,
-            byte,
-        } => {
-            page.text(b" fill")?;
-            page.next_number(u64::from(*slot))?;
-            page.next_number(*offset)?;
-            page.next_number(u64::from(*count))?;
-            page.next_bytes(&[*byte])
-        }
-        Op::Sync { slot } => {
-            page.text(b" sync")?;
-            page.next_number(u64::from(*slot))
-        }
-        Op::Close { slot } => {
-            page.text(b" close")?;
-            page.next_number(u64::from(*slot))
-        }
-        Op::Truncate { slot, size } => {
-            page.text(b" truncate")?;
-            page.next_number(u64::from(*slot))?;
-            page.next_number(*size)
-        }
-        _ => write_path_op(page, op),
-    }
-}
-
-/// Writes the command of an operation on a path.
-fn write_path_op(page: &mut Page, op: &Op) -> Result<(), Memory> {
-    match op {
-        Op::Put {
-            path,
-            offset,
-            bytes,
-        } => {
-            page.text(b" put")?;
-            write_path(page, path)?;
-            page.next_number(*offset)?;
-            page.next_bytes(bytes.bytes())
-        }
-        Op::Stat { path } => named(page, b" stat", path),
-        Op::Access { path, bits } => {
-            named(page, b" access", path)?;
-            page.next_number(u64::from(*bits))
-        }
-        Op::MakeDir { path } => named(page, b" mkdir", path),
-        Op::RemoveDir { path } => named(page, b" rmdir", path),
-        Op::Remove { path } => named(page, b" remove", path),
-        Op::Rename { from, to } => {
-            named(page, b" rename", from)?;
-            write_path(page, to)
-        }
-        Op::Link { from, to } => {
-            named(page, b" link", from)?;
-            write_path(page, to)
-        }
-        Op::SymLink { path, target } => {
-            named(page, b" symlink", path)?;
-            page.text(b" ")?;
-            page.shown(target.bytes())
-        }
-        Op::ReadLink { path } => named(page, b" readlink", path),
-        Op::List { path } => named(page, b" list", path),
-        _ => Ok(()),
-    }
-}
-
-/// Writes a command and its path.
-fn named(page: &mut Page, command: &[u8], path: &Path) -> Result<(), Memory> {
-    page.text(command)?;
-    write_path(page, path)
-}
-
-/// Writes a path after a space.
-fn write_path(page: &mut Page, path: &Path) -> Result<(), Memory> {
-    page.text(b" ")?;
-    if path.names().is_empty() {
-        return page.text(b"/");
-    }
-    for name in path.names() {
-        page.text(b"/")?;
-        page.shown(name.bytes())?;
-    }
-    Ok(())
-}
-
-/// The word of a mode after a space.
-fn mode_word(mode: Mode) -> &'static [u8] {
-    match mode {
-        Mode::R => b" r",
-        Mode::W => b" w",
-        Mode::RW => b" rw",
-        Mode::C => b" c",
-        Mode::X => b" x",
-    }
 }

@@ -12,6 +12,7 @@ mod holding;
 mod listing;
 mod object_lines;
 mod object_texts;
+mod op_texts;
 mod page;
 mod printing;
 mod reading;

@@ -1,0 +1,3 @@
+pub mod HasText
+pub mod Shown
+pub mod Rounds
