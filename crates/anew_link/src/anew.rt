@@ -11,8 +11,8 @@ use xdr_codec::{Memory, Record};
 /// The most entries that it counts, less those that one call adds.
 const MOST: u64 = u64::MAX - 2;
 
-/// A link, lent for a while. Of the history that it told before nothing is told that the client did, and what the server executed is told as calls of
-/// another client.
+/// A link, lent for a while. Of the history that it told before, nothing is told that the client did. What the server executed in it is told as calls
+/// of another client.
 #[derive(Drop)]
 pub struct Anew<'a, L: Link> {
     /// The link.

@@ -65,7 +65,7 @@ impl AttrCache {
         }
     }
 
-    /// The attributes of a file; None exactly where none are kept, or `now` is at or past the end of their lifetime.
+    /// The attributes of a file; None exactly if none are kept, or `now` is at or past the end of their lifetime.
     pub fn look(&self, file: &Handle, now: u64) -> Option<Attr>
         ensures { result ≡ looked file.now now self.now }
     {
@@ -79,8 +79,8 @@ impl AttrCache {
 
     /// Learns attributes that a call told which was sent at `sent_at`. Those of an earlier call than the last one
     /// that counted change nothing. The file goes to the front; if there were 1,024 others, the last one is dropped. The
-    /// lifetime is the shortest for a file that wasn't known or has changed; else it stays where it
-    /// hadn't ended at `sent_at`, and doubles up to the longest where it had. When out of memory, which comes at a
+    /// lifetime is the shortest for a file that wasn't known or has changed; else it stays if it
+    /// hadn't ended at `sent_at`, and doubles up to the longest if it had. When out of memory, which comes at a
     /// file that wasn't known alone, nothing is changed.
     pub fn learn(&mut self, file: &Handle, attr: &Attr, sent_at: u64) -> Result<(), Memory>
         ensures ok { OnOk result (self.new ≡ learnt file.now attr.now sent_at self.old) }

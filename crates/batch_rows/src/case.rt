@@ -46,7 +46,7 @@ fn add_lines(text: &mut Vec<u8>, count: u32, line: &str) -> Result<(), AllocErro
     Ok(())
 }
 
-/// The number that digits spell; 0 where it is none.
+/// The number that digits spell; 0 if it is none.
 fn number_of(text: &str) -> u32 {
     text.parse::<u32>().unwrap_or(0)
 }

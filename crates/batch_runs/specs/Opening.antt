@@ -17,7 +17,7 @@ use Rattle.batch_runs.specs.declared.stop.Stop.{Stop}
 use Rattle.batch_runs.specs.Parts.{lines_in}
 use Rattle.batch_runs.specs.Running.{LosesScripts, RunsAll, ended_with}
 
--- a run whose batches could all be read ends with one of these, and where the mount is refused with 8, 5 or 7
+-- a run whose batches could all be read ends with one of these, and if the mount is refused with 8, 5 or 7
 abbrev pub IsEnding : ℕ → Type 0
 IsEnding status = (status ≡ 0) ⊎ (status ≡ 1) ⊎ (status ≡ 3) ⊎ (status ≡ 6) ⊎ (status ≡ 8) ⊎ (status ≡ 5) ⊎ (status ≡ 7)
 

@@ -47,7 +47,7 @@ abbrev pub worst_in : List Part → ℕ
 worst_in [] = 0
 worst_in (p ∷ ps) = max p.status (worst_in ps)
 
--- What is written of a batch whose lines were run: the answers in their order, the counts of the history so far where they are wanted, and that it is done.
+-- What is written of a batch whose lines were run: the answers in their order, the counts of the history so far if they are wanted, and that it is done.
 abbrev pub ran_text : Bool → ℕ → List Entry → List Entry → ℕ → List ℕ
 ran_text count number h entries status = transcript entries ++ (counts_text count (tally_of (h ++ entries)) ++ done_text number status)
 
@@ -80,7 +80,7 @@ abbrev pub ArePartsFrom : Bool → ℕ → List Entry → List ScriptLine → Li
 ArePartsFrom count before h done [] = Unit {0}
 ArePartsFrom count before h done (p ∷ ps) = PartIs count (suc before) h done p × ArePartsFrom count (suc before) (h ++ p.entries) (done ++ p.lines) ps
 
--- These batches were read, and these are left, of those that the input has, where the source tells it.
+-- These batches were read, and these are left, of those that the input has, if the source tells it.
 abbrev pub AreRead : Option (List ℕ) → List Part → List Read → Type 0
 AreRead None parts more = Unit {0}
 AreRead (Some left) parts more = map (λ (p : Part). p.read) parts ++ more ≡ batches_of 0 left

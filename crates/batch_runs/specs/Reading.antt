@@ -17,7 +17,7 @@ use Rattle.batch_runs.specs.Parts.{IsRefusalOf, Part, RefusedFrom, asked_in, ref
 
 -- ---- batches that are read
 
--- the batches that are left of an input, where the source tells it
+-- the batches that are left of an input, if the source tells it
 abbrev pub left_in : Option (List ℕ) → InputView → Option (List Read)
 left_in None view = None
 left_in (Some left) view = Some (batches_of view.lines (view.held.bytes ++ left))

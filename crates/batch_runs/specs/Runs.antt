@@ -23,8 +23,8 @@ use Rattle.script_runs.specs.Ends.{TellsMount}
 use Rattle.script_runs.specs.Run.{IsCutOff, IsFirst, KeepsForOpens}
 use Rattle.batch_runs.specs.Parts.{ArePartsFrom, AreRead, IsRefusalOf, Part, asked_in, entries_in, lines_in, ran_text, refused_text, text_in, worst_in}
 
--- What isn't answered at the end of a run: the batches that are left, the lines of the first of them if they were begun, what the history got by it, and what
--- was written of it.
+-- What isn't answered at the end of a run: the batches that are left; the lines of the first of them if they were begun; and what the history got by it, and
+-- what was written of it.
 pub record Rest : Type 0 where
   pub more : List Read
   pub lines : List ScriptLine

@@ -39,9 +39,12 @@ use session_words::{Settings, WordsFault, read_words};
 use std::alloc::Global;
 
 /// Runs the batches that the source gives, and writes an answer line for each operation and a line `done` for each batch. The words
-/// say where the files are and how they are asked for. It answers the worst status of the batches, in the order 6, 3, 1, 0; or 2 where
-/// the words are refused, 4 where the source failed, 5 where the sink failed, 7 for lack of memory outside an operation, and 8 where
-/// the mount is refused.
+/// say where the files are and how they are asked for. It answers the worst status of the batches, in the order 6, 3, 1, 0; or else
+/// - 2: the words are refused;
+/// - 4: the source failed;
+/// - 5: the sink failed;
+/// - 7: there was no memory outside an operation;
+/// - 8: the mount is refused.
 pub fn run<S: Source, L: Link, C: Clock, K: Sink>(
     alloc: Global,
     words: &[String],
@@ -52,11 +55,11 @@ pub fn run<S: Source, L: Link, C: Clock, K: Sink>(
 ) -> u8
     ensures statuses { result ≤ 8 }
 
-    // 2 comes only where the words aren't of their form, and where they aren't only out of memory comes in its place.
+    // 2 comes only if the words aren't of their form, and if they aren't, only out of memory comes in its place.
     ensures words { result ≡ 2 → (s : SettingsOf) → IsCommand (map string_bytes words.now) s → ⊥ }
     ensures no_words { ((s : SettingsOf) → IsCommand (map string_bytes words.now) s → ⊥) → (result ≡ 2) ⊎ (result ≡ 7) }
 
-    // 4 and 5 come only where the outside failed.
+    // 4 and 5 come only if the outside failed.
     ensures source { result ≡ 4 → Rose (S.faults source.old) (S.faults source.new) }
     ensures sink { result ≡ 5 → Rose (K.faults out.old) (K.faults out.new) }
 

@@ -38,7 +38,7 @@ pub fn handle(number: u64) -> Handle {
     Handle::make(&number.to_be_bytes()).unwrap_or(Handle::make(&[]).unwrap())
 }
 
-/// A name; `?` where the text is none.
+/// A name; `?` if the text is none.
 pub fn name(text: &str) -> Name {
     Name::make(text.as_bytes()).unwrap_or(Name::make(b"?").unwrap())
 }

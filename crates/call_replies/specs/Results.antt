@@ -49,7 +49,7 @@ pub record SpellNoFile (proc : ℕ) (results : List ℕ) (n : ℕ) : Type 0 wher
   pub rule : n ≡ 2
   pub none : (reply : FileKept) → SpellsFileReply proc reply results → ⊥
 
--- what they say where the procedure is one on directories, and where it is one on files
+-- what they say if the procedure is one on directories, and if it is one on files
 abbrev pub DirSays : ℕ → List ℕ → Result Reply Fault → Type 0
 DirSays proc results (Ok (replies.Dir reply)) = SpellOneDir proc results reply
 DirSays proc results (Ok reply) = ⊥

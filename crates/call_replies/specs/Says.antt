@@ -9,7 +9,7 @@ use Rattle.world_model.specs.Heard.{Refuses}
 use Rattle.call_replies.specs.Records.{results_in}
 use Rattle.call_replies.specs.Results.{said_in}
 
--- what is read from the results, where there are any
+-- what is read from the results, if there are any
 abbrev pub said_by : ℕ → Result (List ℕ) Fault → Result Reply Fault
 said_by proc (Ok results) = said_in proc results
 said_by proc (Err fault) = Err fault

@@ -51,7 +51,7 @@ look_up d name = calls.Dir (dirs.Lookup d name)
 abbrev pub looked_up : List ℕ → Option Attr → Option Attr → Reply
 looked_up object attr dir = replies.Dir (found.Lookup object attr dir)
 
--- CREATE of a file, of mode 0644: UNCHECKED where an open may find the file, GUARDED where it has to make it
+-- CREATE of a file, of mode 0644: UNCHECKED if an open may find the file, GUARDED if it has to make it
 abbrev pub create_unchecked : List ℕ → List ℕ → Call
 create_unchecked d name = calls.Dir (dirs.Create d name (makings.Unchecked (only_mode 420)))
 
@@ -112,7 +112,7 @@ AreDifferent some = AllPairs (λ (a b : Placed). a.0 ≢ b.0) some
 abbrev pub HasBegan : List Entry → Placed → Type 0
 HasBegan h o = (lane : ℕ) × (line : ℕ) × At h o.0 (Began lane line o.1)
 
--- the most bytes that a session holds back
+-- the most bytes that may be dirty at once
 abbrev pub most_pending : ℕ
 most_pending = 4194304
 
@@ -124,7 +124,7 @@ pub record TakesRoom (h : List Entry) (x n : ℕ) (o : Placed) : Type 0 where
   pub counts : (o.0 ≡ x) ⊎ (RefusedWrite h o.0 → ⊥)
 
 -- The write, fill or put at the place x may want room: together those that began before the place n, but for refused ones,
--- have more bytes than a session holds back.
+-- have more bytes than may be dirty at once.
 pub record NeedsRoom (h : List Entry) (x n : ℕ) : Type 0 where
   pub writers : List Placed
   pub different : AreDifferent writers
@@ -156,7 +156,7 @@ pub record HeldAlone (terms : Terms) (h : List Entry) (from to lane slot : ℕ) 
   pub moment : Within from to n
   pub alone : (other its_slot open_at : ℕ) → InSlot terms.modes h n other its_slot open_at f → (other ≡ lane) × (its_slot ≡ slot)
 
--- A LOOKUP of the last name gave a file that a slot held while the remove at the place x was under way, and a LOOKUP of the
+-- A LOOKUP of the last name gave a file, which a slot held while the remove at the place x was under way. A LOOKUP of the
 -- hidden name found nothing: NFS3ERR_NOENT, 2.
 pub record MayHide (terms : Terms) (h : List Entry) (x n : ℕ) (d last name : List ℕ) : Type 0 where
   pub f : List ℕ
@@ -213,13 +213,13 @@ pub data Asks (terms : Terms) (h : List Entry) (x n : ℕ) (op : Op) (call : Cal
   -- LOOKUP of a name of a path that isn't the last, in the directory to which the names before it lead
   walks : (path earlier later : List (List ℕ)) (name next d : List ℕ) → Contains (paths_of op) path → path ≡ earlier ++ name ∷ next ∷ later
       → Leads terms.origin h n earlier d → call ≡ look_up d name → Asks terms h x n op call
-  -- LOOKUP of the last name, where the operation finds its object
+  -- LOOKUP of the last name, if the operation finds its object
   finds : (path : List (List ℕ)) (d name : List ℕ) → Contains (found_by op) path → PlaceOf terms.origin h n path d name → call ≡ look_up d name
       → Asks terms h x n op call
   -- of a remove, LOOKUP of hidden names in the directory of its path
   looks_for_hidden : (path : List (List ℕ)) (d last name : List ℕ) → op ≡ ops.Remove path → PlaceOf terms.origin h n path d last → IsHidden name
       → call ≡ look_up d name → Asks terms h x n op call
-  -- CREATE of the last name: at once where the open has to make the file, else after a LOOKUP of it found nothing
+  -- CREATE of the last name: at once if the open has to make the file, else after a LOOKUP of it found nothing
   creates : (slot : ℕ) (path : List (List ℕ)) (d name : List ℕ) → op ≡ ops.OpenFile slot modes.X path → PlaceOf terms.origin h n path d name
       → call ≡ create_guarded d name → Asks terms h x n op call
   creates_after : (slot : ℕ) (path : List (List ℕ)) (d name : List ℕ) (reply : Reply) → op ≡ ops.OpenFile slot modes.C path

@@ -178,11 +178,11 @@ pub record WriterAt (h : List Entry) (o : Placed) : Type 0 where
   pub began : HasBegan h o
   pub writes : IsWriter o.1
 
--- no operations; or writes, fills and puts that together have more bytes than a session holds back
+-- no operations; or writes, fills and puts that together have more bytes than may be dirty at once
 abbrev pub NoneOrFull : List Placed → Type 0
 NoneOrFull full = (full ≡ []) ⊎ (most_pending < sum_by (λ (o : Placed). count_of o.1) full)
 
--- COMMITs of a file: 2 for each sync, close and put of it; and where writes may have waited for room, 32 for each write,
+-- COMMITs of a file: 2 for each sync, close and put of it; and if writes may have waited for room, 32 for each write,
 -- fill and put.
 pub record FewCommits (terms : Terms) (h : List Entry) (f : List ℕ) : Type 0 where
   pub stable : List Placed

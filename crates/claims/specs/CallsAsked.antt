@@ -36,8 +36,8 @@ pub record IsWrite (terms : Terms) (h : List Entry) (i size : ℕ) : Type 0 wher
   pub sized : Sized h i root terms.wsize wsize
   pub fits : size ≤ wsize
 
--- READs and WRITEs keep to the session's sizes; and each byte of a WRITE may have been pending at a moment since the operation began, at
--- the place x, for which it is sent.
+-- READs and WRITEs keep to the session's sizes. Each byte of a WRITE may have been pending at a moment since the operation began for
+-- which it is sent: the one at the place x.
 pub record KeepsTo (terms : Terms) (h : List Entry) (x i : ℕ) (call : Call) : Type 0 where
   pub read : (f : List ℕ) (offset count : ℕ) → call ≡ calls.File (files.Read f offset count) → IsRead terms h i count
   pub write : (f bytes : List ℕ) (offset how : ℕ) → call ≡ calls.File (files.Write f offset how bytes) → IsWrite terms h i (length bytes)

@@ -38,9 +38,13 @@ pub record IsTried (answer : Answer) : Type 0 where
   pub lost : answer ≢ Refused faults.Lost
   pub memory : answer ≢ Refused faults.Memory
 
--- Calls are asked for, and not too many; each answer has its row; an operation that finds no place in its slots, or no
--- right, is answered so; a session that is lost stays lost; and where an operation was refused for want of calls, a
--- session that ends by itself, at status 0 or 1, has made all that it may make.
+-- Each call and each answer of a session has its cause:
+-- - calls are asked for, and not too many;
+-- - each answer has its row;
+-- - an operation that finds no place in its slots, or no right, is answered so;
+-- - a session that is lost stays lost;
+-- - if an operation was refused for want of calls, a session that ends by itself has made all that it may make. It
+--   ends so at status 0 or 1.
 pub record Caused (terms : Terms) (script : List Entry) (status : ℕ) (h : List Entry) : Type 0 where
   pub calls : CallsAsked terms h
   pub counts : CallCounts terms script h

@@ -1,4 +1,4 @@
--- Where nothing goes wrong, an operation goes well, or has a reason of its own why not.
+-- If nothing goes wrong, an operation succeeds, or has a reason of its own why not.
 use Rattle.std.specs.Prelude.{◌≡◌, ◌⊎◌, ℕ, List}
 use Rattle.rpc_message.specs.Reply.{SpellsRefusal}
 use Rattle.world_model.specs.declared.answer.Answer.{Answer}
@@ -22,13 +22,13 @@ use Rattle.claims.specs.Terms.{Terms}
 use Rattle.world_model.specs.Operations.{UnderWay}
 use Rattle.world_model.specs.Waiting.{FirstSent, Answers}
 
--- Each operation that was under way when the call under this xid was first sent, and asks for it, goes on from this status
--- of any reply to it.
+-- Each operation that asks for the call goes on from this status of any reply to it. It was under way when the call under
+-- this xid was first sent.
 abbrev pub AllGoOn : Terms → List Entry → ℕ → Call → ℕ → Type 0
 AllGoOn terms h xid call status = (at got lane x : ℕ) (sent bytes : List ℕ) (op : Op) → FirstSent h at xid sent → UnderWay h lane x at op
     → Asks terms h x at op call → Answers h got xid bytes → GoesOn terms h x got op call status
 
--- The server is honest, the session isn't lost, each call is executed with status 0, or operations go on from its status, and
+-- The server is honest, and the session isn't lost. Each call is executed with status 0, or operations go on from its status.
 -- RPC refuses none.
 pub record Undisturbed (terms : Terms) (t : History) : Type 0 where
   pub lawful : Lawful t
@@ -47,7 +47,7 @@ pub data IsOwn (answer : Answer) : Type 0 where
   spent : answer ≡ Refused faults.Spent → IsOwn answer
   memory : answer ≡ Refused faults.Memory → IsOwn answer
 
--- In a session that nothing disturbs each operation goes well, or finds its slot taken or free, no right, no file, too many
--- names, no calls left, or no memory.
+-- In a session that nothing disturbs each operation succeeds, or has one of these reasons why not: its slot is taken or free;
+-- it has no right; it finds no file, or too many names; no calls are left, or no memory.
 abbrev pub Completes : Terms → History → Type 0
 Completes terms t = Undisturbed terms t → (lane x y : ℕ) (op : Op) (answer : Answer) → Ended t.entries lane x op y answer → IsOwn answer

@@ -6,7 +6,7 @@ use Rattle.world_model.specs.Server.{HasBytes}
 use Rattle.claims.specs.Modes.{Modes}
 use Rattle.claims.specs.Touched.{Truncated, Touched}
 
--- After a truncate that went well the file has no byte but a zero at a place past its size, unless that was touched.
+-- After a truncate that succeeded the file has no byte but a zero at a place past its size, unless that was touched.
 abbrev pub CutsStay : Modes → Origin → History → Type 0
 CutsStay m origin t = (x e : ℕ) (f : List ℕ) (size i : ℕ) → Truncated m t.entries x e f size → size ≤ i → (p : ℕ) → e < p → p ≤ length t.entries
     → (Touched m origin t x p f i → ⊥) → (now stable : List ℕ) → HasBytes (t.at p) f now stable → (v : ℕ) → slice_get now i ≡ Some v → v ≡ 0

@@ -47,9 +47,9 @@ NoneRefused h x n f = (call : Call) (fault : Fault) → NamesFile f call → (re
 abbrev pub IsNotOnTheWay : Origin → List Entry → ℕ → List (List ℕ) → List ℕ → List ℕ → Type 0
 IsNotOnTheWay origin h n path d name = (front rest : List (List ℕ)) → path ≡ front ++ rest → rest ≢ [] → PlaceOf origin h n front d name → ⊥
 
--- The operation at the place x goes on where the call is answered at the place n with this status.
+-- The operation at the place x goes on if the call is answered at the place n with this status.
 pub data GoesOn (terms : Terms) (h : List Entry) (x n : ℕ) (op : Op) (call : Call) (status : ℕ) : Type 0 where
-  -- NFS3ERR_NOENT, 2: an open that may make its file does so, where it hasn't yet
+  -- NFS3ERR_NOENT, 2: an open that may make its file does so, if it hasn't yet
   makes : (slot : ℕ) (path : List (List ℕ)) (d name : List ℕ) → op ≡ ops.OpenFile slot modes.C path → PlaceOf terms.origin h n path d name
       → IsNotOnTheWay terms.origin h n path d name → call ≡ look_up d name → status ≡ 2 → (MadeWithin h x n (create_unchecked d name) → ⊥)
       → GoesOn terms h x n op call status

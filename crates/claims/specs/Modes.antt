@@ -3,7 +3,7 @@ use Rattle.std.specs.Prelude.{◌≡◌, ◌&&◌, ℕ, Bool, true, false, not}
 use Rattle.std.proofs.Common.{refl}
 
 -- The longest that a name or an attribute is kept, in milliseconds; whether each read asks for its file's attributes again;
--- and whether an open may go by attributes that are kept. Never both: where each read asks again nothing is kept for an open.
+-- and whether an open may go by attributes that are kept. Never both: if each read asks again nothing is kept for an open.
 pub record Modes : Type 0 where
   pub longest : ℕ
   pub noac : Bool

@@ -1,4 +1,4 @@
--- What an answer that an operation went well shows of the history: a row for each operation.
+-- What an answer that an operation succeeded shows of the history: a row for each operation.
 use Rattle.std.specs.Prelude.{◌≡◌, ◌≤◌, ◌↔◌, ◌++◌, ℕ, true, List, length, Contains, Option, Some}
 use Rattle.std.specs.Cmp.Lexicographic.{slice_cmp}
 use Rattle.std.specs.List.Sorted.{IsStrictlySortedBy}
@@ -36,8 +36,8 @@ pub data FindsFile (terms : Terms) (h : List Entry) (y : ℕ) (mode : Mode) (pat
   looked_up : (d name : List ℕ) → PlaceOf terms.origin h y path d name → call ≡ look_up d name → FindsFile terms h y mode path call
   made : (d name : List ℕ) → PlaceOf terms.origin h y path d name → MakesFile mode d name call → FindsFile terms h y mode path call
 
--- An open went well: it ends with the reply to GETATTR of its file, of kind 1. Where the session may go by attributes that it
--- keeps, it may end with the LOOKUP or CREATE that gave the file, of which a reply has shown kind 1.
+-- An open succeeded: it ends with the reply to GETATTR of its file, of kind 1. If the session may go by attributes that it
+-- keeps, it may end with the LOOKUP or CREATE that gave the file. Then a reply has shown kind 1 of the file.
 pub data OpenOk (terms : Terms) (h : List Entry) (x y : ℕ) (op : Op) (mode : Mode) (path : List (List ℕ)) : Type 0 where
   asked : (f : List ℕ) (attr : Attr) → Asks terms h x y op (calls.File (files.GetAttr f))
       → EndsWith h x y (calls.File (files.GetAttr f)) (replies.File (kept.GetAttr attr)) → attr.kind ≡ 1 → OpenOk terms h x y op mode path
@@ -45,20 +45,20 @@ pub data OpenOk (terms : Terms) (h : List Entry) (x y : ℕ) (op : Op) (mode : M
       → EndsWith h x y call reply → status_of reply ≡ 0 → given_object reply ≡ Some f
       → ShownWithin h 0 y f attr → attr.kind ≡ 1 → OpenOk terms h x y op mode path
 
--- A sync went well: COMMIT of the whole file was answered 0.
+-- A sync succeeded: COMMIT of the whole file was answered 0.
 pub record SyncOk (terms : Terms) (h : List Entry) (x y : ℕ) (op : Op) : Type 0 where
   pub f : List ℕ
   pub of : IsOf terms.modes h x op f
   pub committed : Committed h x y f
 
--- A put went well: its last reply names a file to which its path leads, and COMMIT of the whole file was answered 0.
+-- A put succeeded: its last reply names a file to which its path leads, and COMMIT of the whole file was answered 0.
 pub record PutOk (terms : Terms) (h : List Entry) (x y : ℕ) (path : List (List ℕ)) (offset : ℕ) (bytes : List ℕ) : Type 0 where
   pub f : List ℕ
   pub puts : PutsTo h x y f offset bytes
   pub leads : Leads terms.origin h y path f
   pub committed : Committed h x y f
 
--- A close went well: the slot held an open.
+-- A close succeeded: the slot held an open.
 pub record CloseOk (terms : Terms) (h : List Entry) (lane x slot : ℕ) : Type 0 where
   pub f : List ℕ
   pub open_at : ℕ
@@ -79,7 +79,7 @@ pub record ActOk (terms : Terms) (h : List Entry) (x y : ℕ) (op : Op) (value :
   pub went : status_of reply ≡ 0
   pub gives : value ≡ value_of reply
 
--- A stat went well: a reply showed these attributes of an object to which the path leads.
+-- A stat succeeded: a reply showed these attributes of an object to which the path leads.
 pub record StatOk (terms : Terms) (h : List Entry) (y : ℕ) (path : List (List ℕ)) (value : Value) : Type 0 where
   pub f : List ℕ
   pub attr : Attr
@@ -91,7 +91,7 @@ pub record StatOk (terms : Terms) (h : List Entry) (y : ℕ) (path : List (List 
 abbrev pub most_names : ℕ
 most_names = 65536
 
--- A list went well: it ends with the last page of its directory, and its names are those of all pages, in byte order.
+-- A list succeeded: it ends with the last page of its directory, and its names are those of all pages, in byte order.
 pub record ListOk (terms : Terms) (h : List Entry) (x y : ℕ) (path : List (List ℕ)) (value : Value) : Type 0 where
   pub d : List ℕ
   pub before : List PlusRow
@@ -109,7 +109,7 @@ pub record ListOk (terms : Terms) (h : List Entry) (x y : ℕ) (path : List (Lis
   pub same : (name : List ℕ) → Contains names name ↔ Contains (names_of (before ++ page)) name
   pub gives : value ≡ values.Names names
 
--- A read went well: its slot holds an open for reading, and its bytes are no more than were asked for.
+-- A read succeeded: its slot holds an open for reading, and its bytes are no more than were asked for.
 pub record ReadOk (terms : Terms) (h : List Entry) (lane x slot count : ℕ) (value : Value) : Type 0 where
   pub bytes : List ℕ
   pub holds : HoldsToRead terms h lane x slot

@@ -15,7 +15,8 @@ use Rattle.world_model.specs.declared.message.Reply.TheVariants as replies
 use Rattle.world_model.specs.Heard.{Heard, Refuses}
 use Rattle.world_model.specs.Messages.{SpellsReply}
 
--- The bytes of a READ are more than were asked for, or not as many as their count says, or none where the file goes on.
+-- The bytes of a READ are wrong: more than were asked for, or not as many as their count says, or none if the file
+-- goes on.
 pub data WrongData (asked counted : ℕ) (data_ : List ℕ) (eof : Bool) : Type 0 where
   longer : asked < length data_ → WrongData asked counted data_ eof
   unlike : counted ≢ length data_ → WrongData asked counted data_ eof

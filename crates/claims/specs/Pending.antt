@@ -1,4 +1,4 @@
--- Which bytes the client may still hold back: a wide set, in which what it really holds back lies.
+-- Which bytes of the client may still be dirty: a wide set, in which those lie that really are.
 use Rattle.std.specs.Prelude.{◌<◌, ◌≤◌, ℕ, List}
 use Rattle.world_model.specs.declared.answer.Answer.TheVariants.{Done, Refused}
 use Rattle.world_model.specs.declared.answer.Fault.{Fault}
@@ -39,7 +39,7 @@ pub record PutRefused (h : List Entry) (w : ℕ) : Type 0 where
   pub fault : Fault
   pub ended : Ended h lane w (ops.Put path offset bytes) y (Refused fault)
 
--- After the place k no open of the file goes well before the next record comes.
+-- After the place k no open of the file succeeds before the next record comes.
 abbrev pub NoneOpens : Modes → List Entry → ℕ → List ℕ → Type 0
 NoneOpens m h k f = (lane slot x y : ℕ) → Opens m h lane slot x y f → k < y → NoneCame h k y → ⊥
 

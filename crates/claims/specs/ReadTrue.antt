@@ -15,7 +15,7 @@ use Rattle.claims.specs.Slots.{InSlot}
 use Rattle.claims.specs.Pending.{Pending}
 use Rattle.claims.specs.Touched.{Wrote, Truncated, Touched}
 
--- The read at the place r of the file went well at the place y, with these bytes; its open began at the place o.
+-- The read at the place r of the file succeeded at the place y, with these bytes; its open began at the place o.
 pub record ReadsBytes (m : Modes) (h : List Entry) (r y o : ℕ) (f : List ℕ) (offset count : ℕ) (bytes : List ℕ) : Type 0 where
   pub lane : ℕ
   pub slot : ℕ
@@ -31,9 +31,11 @@ pub record IsYoung (m : Modes) (h : List Entry) (x n : ℕ) : Type 0 where
   pub before : at < n
   pub young : (j later : ℕ) → At h j (Clock later) → j < x → later < ms + m.longest
 
--- The moment n isn't before those of which the read at the place r may show bytes, in an open that began at the place o:
--- the read's beginning, where each read asks again; else the open's, and where an open may go by what is kept, the time
--- for which that is kept.
+-- The moment n isn't before those of which the read at the place r may show bytes; its open began at the place o. These
+-- begin
+-- - with the read, if each read asks again;
+-- - else with the open;
+-- - or, if an open may go by what is kept, with the time for which that is kept.
 pub data Since (m : Modes) (h : List Entry) (r o n : ℕ) : Type 0 where
   each_read : m.noac ≡ true → r ≤ n → Since m h r o n
   opened : m.noac ≡ false → o ≤ n → Since m h r o n
@@ -82,12 +84,12 @@ abbrev pub ReadCurrent : Modes → Origin → History → Type 0
 ReadCurrent m origin t = (r y o : ℕ) (f : List ℕ) (offset count : ℕ) (bytes : List ℕ) → ReadsBytes m t.entries r y o f offset count bytes
     → (k v : ℕ) → slice_get bytes k ≡ Some v → IsCurrent m origin t r y o f (offset + k) v
 
--- A write, fill or put that went well before the read began is seen in the range that was asked for, unless it was touched.
+-- A write, fill or put that succeeded before the read began is seen in the range that was asked for, unless it was touched.
 abbrev pub ReadOwn : Modes → Origin → History → Type 0
 ReadOwn m origin t = (r y o : ℕ) (f : List ℕ) (offset count : ℕ) (bytes : List ℕ) → ReadsBytes m t.entries r y o f offset count bytes
     → (w e k v : ℕ) → Wrote m t.entries w e f (offset + k) v → e < r → k < count → (Touched m origin t w y f (offset + k) → ⊥) → slice_get bytes k ≡ Some v
 
--- After a truncate that went well before the read began, a byte past its size is 0, unless it was touched.
+-- After a truncate that succeeded before the read began, a byte past its size is 0, unless it was touched.
 abbrev pub ReadCut : Modes → Origin → History → Type 0
 ReadCut m origin t = (r y o : ℕ) (f : List ℕ) (offset count : ℕ) (bytes : List ℕ) → ReadsBytes m t.entries r y o f offset count bytes
     → (x e size k v : ℕ) → Truncated m t.entries x e f size → e < r → size ≤ offset + k → slice_get bytes k ≡ Some v
@@ -98,8 +100,8 @@ pub record ReadTrue (m : Modes) (origin : Origin) (t : History) : Type 0 where
   pub own : ReadOwn m origin t
   pub cut : ReadCut m origin t
 
--- A read of fewer bytes than were asked for ends where the file ended at a moment that the read may show, and this client
--- wrote nothing past it before the read that wasn't touched.
+-- A read of fewer bytes than were asked for ends where the file ended at a moment that the read may show. Before the read
+-- this client wrote nothing past that end that wasn't touched.
 pub record EndsRightly (m : Modes) (origin : Origin) (t : History) (r y o : ℕ) (f : List ℕ) (end : ℕ) : Type 0 where
   pub short : HeldSize t (Since m t.entries r o) y f end
   pub own : (w e i v : ℕ) → Wrote m t.entries w e f i v → e < r → end ≤ i → (Touched m origin t w y f i → ⊥) → ⊥

@@ -20,7 +20,7 @@ use Rattle.world_model.specs.Operations.{Ended, EndsAt, LastReply}
 use Rattle.claims.specs.Slots.{Opens, PutsTo}
 use Rattle.claims.specs.ReadTrue.{Within, IsYoung}
 
--- A moment is recent for the operation at the place x: one of the operation's own, where nothing is kept; else one that isn't
+-- A moment is recent for the operation at the place x: one of the operation's own, if nothing is kept; else one that isn't
 -- after the operation's end, and that the clock's readings show to be young.
 pub data Recent (m : Modes) (h : List Entry) (x n : ℕ) : Type 0 where
   during : (end : ℕ) → m.longest ≡ 0 → EndsAt h x end → Within x end n → Recent m h x n
@@ -44,7 +44,7 @@ pub record FoundByName (m : Modes) (origin : Origin) (t : History) (x y : ℕ) (
   pub moment : Within x y n
   pub named : Names (t.at n) d name object
 
--- The file of each open and put that went well had its name then.
+-- The file of each open and put that succeeded had its name then.
 pub record NamesTrue (m : Modes) (origin : Origin) (t : History) : Type 0 where
   pub opened : (lane slot x y : ℕ) (f : List ℕ) (o : Opens m t.entries lane slot x y f) → FoundByName m origin t x y o.path f
   pub put : (x y offset : ℕ) (f bytes : List ℕ) (p : PutsTo t.entries x y f offset bytes) → FoundByName m origin t x y p.path f

@@ -33,7 +33,7 @@ pub record IsLastRemove (op : Op) (call : Call) : Type 0 where
   pub close : op ≡ ops.Close slot
   pub remove : call ≡ calls.Dir (dirs.Remove d name)
 
--- The row of `nfs n`, `rpc n` and `bad n`: a record refused so a call that the operation asks for, other than the
+-- The row of `nfs n`, `rpc n` and `bad n`: a record refused so a call that the operation asks for. The call isn't the
 -- REMOVE of a last close, and the operation doesn't go on from that.
 pub record RefusedBy (terms : Terms) (h : List Entry) (x y : ℕ) (op : Op) (fault : Fault) : Type 0 where
   pub call : Call

@@ -44,7 +44,8 @@ pub record HoldsToWrite (terms : Terms) (h : List Entry) (lane x slot : ℕ) : T
   pub holds : InSlot terms.modes h x lane slot open_at f
   pub right : can_write holds.opens.mode ≡ true
 
--- As the operation at the place x begins, the slot that it is to open holds an open, or the slot that it works on holds none.
+-- As the operation at the place x begins, the slot that it is to open holds an open; or the slot that it works on holds
+-- none.
 pub data NoPlace (terms : Terms) (h : List Entry) (lane x : ℕ) (op : Op) : Type 0 where
   taken : (slot open_at : ℕ) (mode : Mode) (path : List (List ℕ)) (f : List ℕ) → op ≡ ops.OpenFile slot mode path → InSlot terms.modes h x lane slot open_at f
       → NoPlace terms h lane x op

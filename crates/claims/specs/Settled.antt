@@ -18,15 +18,15 @@ use Rattle.claims.specs.Slots.{PutsTo}
 use Rattle.claims.specs.Touched.{Covers, WritesByte, Cuts, RefusedWrite, Wrote, MadeStable, Left, GivesUp, Touched}
 
 -- At the place j the write at the place w, answered at y, is known to be stable: the answer of a later sync, close or put
--- of the file, or its own where it is a put.
+-- of the file, or its own if it is a put.
 pub data SettledBy (m : Modes) (h : List Entry) (w y : ℕ) (f : List ℕ) (j : ℕ) : Type 0 where
   later : (x : ℕ) → AnsweredBefore h w x → MadeStable m h x j f → SettledBy m h w y f j
   itself : (offset : ℕ) (bytes : List ℕ) → PutsTo h w y f offset bytes → j ≡ y → SettledBy m h w y f j
 
 -- ---- by the messages alone
 
--- Between two places a WRITE of the file, which has the byte at the place i, was first sent and answered 0 with a count
--- that reaches the place (RFC 1813, section 3.3.7).
+-- Between two places a WRITE of the file was first sent and answered 0 (RFC 1813, section 3.3.7). It has the byte at the place
+-- i, and the count of its reply reaches this place.
 pub record WroteAt (h : List Entry) (from to : ℕ) (f : List ℕ) (i v firm : ℕ) (verf : Verf) : Type 0 where
   pub offset : ℕ
   pub how : ℕ
@@ -63,8 +63,8 @@ pub data Overtaken (m : Modes) (origin : Origin) (h : List Entry) (w j : ℕ) (f
   cut : (x : ℕ) → x ≢ w → x < j → (AnsweredBefore h x w → ⊥) → Cuts m h x f i → Overtaken m origin h w j f i
   given_up : (k : ℕ) → w < k → k < j → Left m h k f → GivesUp m h k f → Overtaken m origin h w j f i
 
--- Of each byte of a write, fill or put that went well and was then made stable there is evidence by the answer that settled
--- it, whatever the server is: its calls were first sent since the write began. Unless it was overtaken before.
+-- Of each byte of a write, fill or put that succeeded and was then made stable there is evidence by the answer that settled
+-- it. That is so whatever the server is: its calls were first sent since the write began. Unless it was overtaken before.
 abbrev pub Evident : Modes → Origin → List Entry → Type 0
 Evident m origin h = (w y : ℕ) (f : List ℕ) (i v j : ℕ) → Wrote m h w y f i v → SettledBy m h w y f j
     → (Overtaken m origin h w j f i → ⊥) → Evidence h w j f i v
@@ -79,8 +79,8 @@ pub record HoldsStable (s : Server) (f : List ℕ) (i v : ℕ) : Type 0 where
   pub holds : slice_get now i ≡ Some v
   pub steady : slice_get stable i ≡ Some v
 
--- Each byte of a write, fill or put that went well and that was then made stable is there at every later moment, and
--- stable, unless it was touched.
+-- Each byte of a write, fill or put that succeeded and was then made stable is there at every later moment, and stable. That
+-- is so unless it was touched.
 abbrev pub Settled : Modes → Origin → History → Type 0
 Settled m origin t = (w y : ℕ) (f : List ℕ) (i v j : ℕ) → Wrote m t.entries w y f i v → SettledBy m t.entries w y f j
     → (p : ℕ) → j < p → p ≤ length t.entries → (Touched m origin t w p f i → ⊥) → HoldsStable (t.at p) f i v

@@ -116,8 +116,11 @@ given_attr (replies.Dir (found.SymLink object attr wcc)) = attr
 given_attr (replies.Dir (found.MkNod object attr wcc)) = attr
 given_attr reply = None
 
--- The reply to the call shows these attributes of the object: of the one that the call is made on, of the directory of its
--- second place, of the one that it gives, or of one that a page of READDIRPLUS lists.
+-- The reply to the call shows these attributes of the object. That is one of these:
+-- - the object that the call is made on;
+-- - the directory of its second place;
+-- - the object that it gives;
+-- - one that a page of READDIRPLUS lists.
 pub data ShowsAttr (call : Call) (reply : Reply) (f : List ℕ) (attr : Attr) : Type 0 where
   of_object : object_of call ≡ Some f → object_attr reply ≡ Some attr → ShowsAttr call reply f attr
   of_target : target_of call ≡ Some f → target_attr reply ≡ Some attr → ShowsAttr call reply f attr

@@ -22,7 +22,7 @@ use Rattle.world_model.specs.Messages.{SpellsReply}
 use Rattle.claims.specs.Modes.{Modes}
 use Rattle.world_model.specs.Operations.{Ended, LastReply}
 
--- Which file an open has that is answered at the place y: the one whose attributes were asked for last; or, where an open
+-- Which file an open has that is answered at the place y: the one whose attributes were asked for last; or, if an open
 -- may go by attributes that are kept, the one that the last LOOKUP or CREATE gave.
 pub data Finds (m : Modes) (h : List Entry) (y : ℕ) (f : List ℕ) : Type 0 where
   asked : LastReply h y (calls.File (files.GetAttr f)) → Finds m h y f
@@ -31,7 +31,7 @@ pub data Finds (m : Modes) (h : List Entry) (y : ℕ) (f : List ℕ) : Type 0 wh
   made : m.nocto ≡ true → (d name : List ℕ) (making : Making) (attr : Option Attr) (wcc : Wcc) (last : LastReply h y (calls.Dir (dirs.Create d name making)))
       → SpellsReply last.xid (calls.Dir (dirs.Create d name making)) (replies.Dir (found.Create (Some f) attr wcc)) last.bytes → Finds m h y f
 
--- The open at the place x went well at the place y, of this file.
+-- The open at the place x succeeded at the place y, of this file.
 pub record Opens (m : Modes) (h : List Entry) (lane slot x y : ℕ) (f : List ℕ) : Type 0 where
   pub mode : Mode
   pub path : List (List ℕ)
@@ -71,7 +71,7 @@ pub data NamesFile (f : List ℕ) (call : Call) : Type 0 where
   writes : (offset how : ℕ) (bytes : List ℕ) → call ≡ calls.File (files.Write f offset how bytes) → NamesFile f call
   commits : (offset count : ℕ) → call ≡ calls.File (files.Commit f offset count) → NamesFile f call
 
--- The put at the place x went well at the place y: of the file that its last WRITE or COMMIT names.
+-- The put at the place x succeeded at the place y: of the file that its last WRITE or COMMIT names.
 pub record PutsTo (h : List Entry) (x y : ℕ) (f : List ℕ) (offset : ℕ) (bytes : List ℕ) : Type 0 where
   pub lane : ℕ
   pub path : List (List ℕ)

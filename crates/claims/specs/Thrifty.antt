@@ -79,7 +79,7 @@ pub record MetEarlier (h : List Entry) (i : ℕ) (f : List ℕ) (end : ℕ) : Ty
   pub earlier : at < i
   pub met : MeetsPage offset count page
 
--- A READ asks for as many bytes as it may, or up to the end of the last page of a read under way, or up to a page that was
+-- A READ asks for as many bytes as it may; or up to the end of the last page of a read under way; or up to a page that was
 -- asked for before.
 pub data IsLong (terms : Terms) (h : List Entry) (i : ℕ) (f : List ℕ) (offset count : ℕ) : Type 0 where
   whole : (root : List ℕ) (rsize : ℕ) → Rooted terms.origin h i root → ReadSized h i root terms.rsize rsize → count ≡ rsize → IsLong terms h i f offset count
@@ -123,8 +123,8 @@ pub record IsMet (terms : Terms) (h : List Entry) (n : ℕ) (page : FilePage) : 
 abbrev pub most_pages : ℕ
 most_pages = 1024
 
--- From the place o to n each reply that shows attributes of the file shows this stamp, no reply answers a WRITE or SETATTR of
--- it, and the reads that began by then meet no more pages than are kept.
+-- From the place o to n each reply that shows attributes of the file shows this stamp. No reply answers a WRITE or SETATTR of
+-- it. The reads that began by then meet no more pages than are kept.
 pub record Unchanged (terms : Terms) (h : List Entry) (o n : ℕ) (f : List ℕ) (stamp : Stamp) : Type 0 where
   pub shown : (call : Call) (reply : Reply) (attr : Attr) → CameWithin h o n call reply → ShowsAttr call reply f attr → stamp_of attr ≡ stamp
   pub unwritten : (call : Call) (xid : ℕ) (bytes : List ℕ) → ChangesFile f call → (heard : Heard h 0 n call xid bytes) → o < heard.got_at → ⊥
@@ -136,8 +136,8 @@ pub data GivesPage (size offset : ℕ) (bytes : List ℕ) (eof : Bool) (page : �
   last : eof ≡ true → offset ≤ page * page_bytes → page * page_bytes < size → size ≤ page * page_bytes + page_bytes → offset + length bytes ≡ size
       → GivesPage size offset bytes eof page
 
--- A reply that came at the place `at`, to a READ that was made for a read of the open at the place o, gave the page, under the
--- stamp that the open was told.
+-- A reply that came at the place `at` gave the page, under the stamp that the open was told. It answers a READ that was made
+-- for a read of the open at the place o.
 pub record TookPage (terms : Terms) (h : List Entry) (o : ℕ) (f : List ℕ) (stamp : Stamp) (at page : ℕ) : Type 0 where
   pub lane : ℕ
   pub slot : ℕ
@@ -177,7 +177,7 @@ KeptPages terms h = (o at page n xid offset count : ℕ) (f bytes : List ℕ) (s
 
 -- ---- 3: WRITEs are long
 
--- all writes, fills and puts together have no more bytes than a session holds back
+-- all writes, fills and puts together have no more bytes than may be dirty at once
 abbrev pub NeverFull : List Entry → Type 0
 NeverFull h = (writers : List Placed) → AreDifferent writers → All (WriterAt h) writers → sum_by (λ (o : Placed). count_of o.1) writers ≤ most_pending
 
@@ -197,7 +197,7 @@ pub record Uncut (terms : Terms) (h : List Entry) (i : ℕ) (f : List ℕ) : Typ
   pub put : (lane x offset y : ℕ) (path : List (List ℕ)) (bytes : List ℕ) (fault : Fault) → Ended h lane x (ops.Put path offset bytes) y (Refused fault)
       → Leads terms.origin h y path f → y < i → ⊥
 
--- The operation at the place w, which went well before the place x, wrote the place of the file; or the put at x itself does.
+-- The operation at the place w, which succeeded before the place x, wrote the place of the file; or the put at x itself does.
 pub data WritesAt (terms : Terms) (h : List Entry) (x : ℕ) (op : Op) (f : List ℕ) (place w : ℕ) : Type 0 where
   earlier : (y v : ℕ) → Wrote terms.modes h w y f place v → y < x → WritesAt terms h x op f place w
   itself : (path : List (List ℕ)) (offset v : ℕ) (bytes : List ℕ) → op ≡ ops.Put path offset bytes → w ≡ x → Covers offset bytes place v
@@ -219,8 +219,8 @@ pub record CoveredEarlier (h : List Entry) (i : ℕ) (f : List ℕ) (place : ℕ
   pub covers : CoversPlace f place call
   pub earlier : at < i
 
--- A WRITE with fewer bytes than it may have, first sent within a sync, close or put, ends where the next byte was written by
--- another operation, or was covered by an earlier WRITE.
+-- A WRITE with fewer bytes than it may have is first sent within a sync, close or put. Here `end` is the place of its last
+-- byte.
 pub record ShortWrite (terms : Terms) (h : List Entry) (i x : ℕ) (op : Op) (f : List ℕ) (end : ℕ) : Type 0 where
   pub lane : ℕ
   pub xid : ℕ
@@ -240,7 +240,8 @@ pub record ShortWrite (terms : Terms) (h : List Entry) (i x : ℕ) (op : Op) (f 
   pub under_way : UnderWay h lane x i op
   pub sync : IsSync op ⊎ IsPut op
 
--- here `end` is the place of the WRITE's last byte
+-- If one operation was the last to write both the WRITE's last place and the next one, an earlier WRITE covers the next one.
+-- Here `end` is the WRITE's last place. Writers never fill the session, and nothing cut the file or gave it up.
 abbrev pub LongWrites : Terms → List Entry → Type 0
 LongWrites terms h = NeverFull h → (i x end w : ℕ) (op : Op) (f : List ℕ) → ShortWrite terms h i x op f end → Uncut terms h i f
     → IsLatest terms h x op f (end + 1) w → IsLatest terms h x op f end w → CoveredEarlier h i f (end + 1)

@@ -58,7 +58,7 @@ pub data RefusedWrite (h : List Entry) (x : ℕ) : Type 0 where
   write : (lane slot offset y : ℕ) (bytes : List ℕ) (fault : Fault) → Ended h lane x (ops.Write slot offset bytes) y (Refused fault) → RefusedWrite h x
   fill : (lane slot offset count byte y : ℕ) (fault : Fault) → Ended h lane x (ops.Fill slot offset count byte) y (Refused fault) → RefusedWrite h x
 
--- The write, fill or put at the place x went well at the place y: it put this byte at the place i of the file.
+-- The write, fill or put at the place x succeeded at the place y: it put this byte at the place i of the file.
 pub data Wrote (m : Modes) (h : List Entry) (x y : ℕ) (f : List ℕ) (i v : ℕ) : Type 0 where
   write : (lane slot offset : ℕ) (bytes : List ℕ) (value : Value) → IsOf m h x (ops.Write slot offset bytes) f
       → Ended h lane x (ops.Write slot offset bytes) y (Done value) → Covers offset bytes i v → Wrote m h x y f i v
@@ -66,7 +66,7 @@ pub data Wrote (m : Modes) (h : List Entry) (x y : ℕ) (f : List ℕ) (i v : �
       → Ended h lane x (ops.Fill slot offset count v) y (Done value) → offset ≤ i → i < offset + count → Wrote m h x y f i v
   put : (offset : ℕ) (bytes : List ℕ) → PutsTo h x y f offset bytes → Covers offset bytes i v → Wrote m h x y f i v
 
--- the truncate at the place x of the file to this size went well at the place y
+-- the truncate at the place x of the file to this size succeeded at the place y
 pub record Truncated (m : Modes) (h : List Entry) (x y : ℕ) (f : List ℕ) (size : ℕ) : Type 0 where
   pub lane : ℕ
   pub slot : ℕ
@@ -74,7 +74,7 @@ pub record Truncated (m : Modes) (h : List Entry) (x y : ℕ) (f : List ℕ) (si
   pub of : IsOf m h x (ops.Truncate slot size) f
   pub ended : Ended h lane x (ops.Truncate slot size) y (Done value)
 
--- the sync, close or put of the file at the place x went well at the place y
+-- the sync, close or put of the file at the place x succeeded at the place y
 pub data MadeStable (m : Modes) (h : List Entry) (x y : ℕ) (f : List ℕ) : Type 0 where
   sync : (lane slot : ℕ) (value : Value) → IsOf m h x (ops.Sync slot) f → Ended h lane x (ops.Sync slot) y (Done value) → MadeStable m h x y f
   close : (lane slot : ℕ) (value : Value) → IsOf m h x (ops.Close slot) f → Ended h lane x (ops.Close slot) y (Done value) → MadeStable m h x y f
@@ -141,7 +141,7 @@ pub data ChangesPlace (t : Server) (f : List ℕ) (i : ℕ) (call : Call) (reply
 
 -- After the write at the place w and before the moment p the place i of the file may have been changed: by another
 -- client; by another operation of this one, which wasn't answered before w; since the file is gone; or since a last close
--- gave up what was pending of w, where w isn't a put that was answered before.
+-- gave up what was pending of w, if w isn't a put that was answered before.
 pub data Touched (m : Modes) (origin : Origin) (t : History) (w p : ℕ) (f : List ℕ) (i : ℕ) : Type 0 where
   foreign : (n : ℕ) (call : Call) (reply : Reply) → w < n → n < p → At t.entries n (Foreign call reply) → ChangesPlace (t.at (suc n)) f i call reply
       → Touched m origin t w p f i

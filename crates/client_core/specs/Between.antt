@@ -11,7 +11,7 @@ use Rattle.op_machines.specs.declared.machine.Machine.{Machine}
 use Rattle.client_core.specs.View.{View, has_room, turn_at, IsBound, IsSound}
 use Rattle.client_core.specs.Steps.{IsBusyAt}
 
--- The operation of the lane at a place asked for a call: a piece that flies under its xid is taken back where the call isn't made.
+-- The operation of the lane at a place asked for a call: a piece that flies under its xid is taken back if the call isn't made.
 pub record AwaitsRefusal (v : View) (at : ℕ) : Type 0 where
   pub bound : IsBound v
   pub ready : IsReady (next_xid v.calls + 1) v.shelf.seq v.shelf.back

@@ -74,7 +74,7 @@ busy_in (Some lane) = busy_by true lane.state
 abbrev pub is_busy_at : ℕ → List Lane → Bool
 is_busy_at at lanes = busy_in (slice_get lanes at)
 
--- ---- steps of an operation, where it is under way
+-- ---- steps of an operation, if it is under way
 
 pub record OperationResumes (wsize : ℕ) (machine : Machine) (turn : Turn) (old : Shelf) (next : Step) (state : State) (shelf : Shelf) : Type 0 where
   pub after : Machine

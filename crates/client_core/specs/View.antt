@@ -28,7 +28,7 @@ has_room v = nat_lt (length v.calls.calls) 32
 abbrev pub turn_at : View → Turn
 turn_at v = record { xid = next_xid v.calls; moment = v.moments + 1; now = v.clock; room = has_room v }
 
--- the same where its call couldn't be made: no call may be made in this step, and no call has the xid 0
+-- the same if its call couldn't be made: no call may be made in this step, and no call has the xid 0
 abbrev pub unmade_turn : View → Turn
 unmade_turn v = record { xid = 0; moment = v.moments + 1; now = v.clock; room = false }
 

@@ -155,7 +155,7 @@ impl Lane {
     }
 }
 
-/// The place of the lane of a number, where its operation is under way.
+/// The place of the lane of a number, if its operation is under way.
 pub(crate) fn busy_at(lanes: &[Lane], number: u8) -> Option<usize>
     ensures { result ≡ position (is_busy number) lanes.now }
 {
@@ -165,7 +165,7 @@ pub(crate) fn busy_at(lanes: &[Lane], number: u8) -> Option<usize>
     })
 }
 
-/// The place of the lane of a number, where it has its answer.
+/// The place of the lane of a number, if it has its answer.
 pub(crate) fn over_at(lanes: &[Lane], number: u8) -> Option<usize>
     ensures { result ≡ position (is_over number) lanes.now }
 {

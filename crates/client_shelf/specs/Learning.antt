@@ -21,7 +21,7 @@ pub record LearnsThen (file : List ℕ) (attr : Option Attr) (now : ℕ) (Rest :
   pub first : Learns file attr now old mid
   pub rest : Rest mid new
 
--- what a name stands for, under the stamp of its directory where that is known
+-- what a name stands for, under the stamp of its directory if that is known
 abbrev pub LearnsName : List ℕ → List ℕ → Option Attr → List ℕ → names.Entries → names.Entries → Type 0
 LearnsName dir name None found old new = new ≡ old
 LearnsName dir name (Some attr) found old new = (new ≡ names.learnt dir name (stamp_of attr) found old) ⊎ ((names.kept_of dir name old ≡ None) × (new ≡ old))

@@ -6,7 +6,7 @@ use Rattle.client_shelf.specs.declared.repeats.Repeat.{Repeat}
 abbrev pub is_call : ℕ → Repeat → Bool
 is_call xid repeat = repeat.xid == xid
 
--- the call under an xid, where it was made before
+-- the call under an xid, if it was made before
 abbrev pub repeat_of : ℕ → List Repeat → Option Repeat
 repeat_of xid repeats = option_and_then (λ at. slice_get repeats at) (position (is_call xid) repeats)
 
@@ -18,7 +18,7 @@ times_of xid repeats = option_map_or (λ repeat. repeat.times) (repeat_of xid re
 abbrev pub ended : ℕ → List Repeat → List Repeat
 ended xid repeats = option_map_or (λ at. remove repeats at) (position (is_call xid) repeats) repeats
 
--- A call is made again where it is to be, three times at most. There are places for the 32 calls that may wait.
+-- A call is made again if it is to be, three times at most. There are places for the 32 calls that may wait.
 abbrev pub may_repeat : Bool → ℕ → List Repeat → Bool
 may_repeat again xid repeats = again && nat_lt (times_of xid repeats) 3 && nat_lt (length (ended xid repeats)) 32
 

@@ -1,4 +1,4 @@
-//! What is learnt of a reply. Where there is no memory for it, it isn't learnt.
+//! What is learnt of a reply. If there is no memory for it, it isn't learnt.
 
 ghost use Rattle.client_shelf.specs.Learning.{Learns, Renews, LearnsName};
 
@@ -25,7 +25,7 @@ pub fn renew(attrs: &mut AttrCache, dir: &Handle, attr: &Option<Attr>, now: u64)
     }
 }
 
-/// What a name stands for, under the stamp of its directory where that is known.
+/// What a name stands for, under the stamp of its directory if that is known.
 pub fn learn_name(
     names: &mut NameCache,
     dir: &Handle,

@@ -17,7 +17,7 @@ use Rattle.commit_verf.specs.declared.commit.Verdict.TheVariants.{AllStable, Sen
 abbrev pub decided : ℕ → Verf → FilePending → FilePending
 decided upto verf of = with_change (MarkAgain upto) (with_change (Settle verf upto) of)
 
--- all is stable where nothing may be lost
+-- all is stable if nothing may be lost
 abbrev pub verdict_of : ℕ → Verdict
 verdict_of again = if again == 0 then AllStable else SendAgain again
 

@@ -18,9 +18,9 @@ pub enum Verdict {
     SendAgain(u64),
 }
 
-/// What the verifier of a COMMIT tells of a file's bytes that the server has, of writes with a number up to `upto`: those
-/// that it has under the same verifier are stable and pending no more, and all others are to be sent again, as stable
-/// (RFC 1813, section 4.8). AllStable exactly where there are no others.
+/// What the verifier of a COMMIT tells of those bytes of a file that the server has, of writes with a number up to
+/// `upto`. Those that it has under the same verifier are stable, and pending no more. All others are to be sent again, as
+/// stable (RFC 1813, section 4.8). AllStable exactly if there are no others.
 pub fn decide(wb: &mut WriteBack, file: &Handle, upto: u64, verf: Verf) -> Verdict
     ensures verdict { result ≡ verdict_of (lost verf upto (of_file file.now wb.old).segments) }
     ensures stable { (result ≡ AllStable) ↔ IsAllUnder upto verf (of_file file.now wb.old) }

@@ -29,7 +29,7 @@ opens mode path v = record { all = asks (next_lane v.lane) (ops.OpenFile 1 mode 
 abbrev pub cuts : FilesView → FilesView
 cuts v = record v { all = asks v.lane (ops.Truncate 1 0) v.all }
 
--- the copy of a file begins: it is opened, and made where it isn't there, and gets the size 0
+-- the copy of a file begins: it is opened, and made if it isn't there, and gets the size 0
 abbrev pub begins : List (List ℕ) → FilesView → FilesView
 begins path v = cuts (opens modes.C path v)
 

@@ -77,7 +77,7 @@ impl FileLines {
         self.at.is_some()
     }
 
-    /// Begins the copy of a file to the path: it is opened, and made where it isn't there, and gets the size 0.
+    /// Begins the copy of a file to the path: it is opened, and made if it isn't there, and gets the size 0.
     pub fn begin(&mut self, path: Path) -> Result<(), PlanFault>
         requires { IsNamed path }
         ensures { OnOk result (self.new ≡ begins path self.old) }

@@ -12,7 +12,7 @@ use world_model::Op;
 /// The most lines of a script.
 const MOST_LINES: usize = 16_384;
 
-/// The greatest number of a line, where lines are numbered on from script to script.
+/// The greatest number of a line, if lines are numbered on from script to script.
 const LAST_LINE: u32 = 268_435_455;
 
 /// Why a line isn't added.

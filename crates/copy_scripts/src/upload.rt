@@ -524,7 +524,7 @@ impl Upload {
     }
 }
 
-/// The end of the tree, where nothing waits. It can't be otherwise: a script that is full has a line.
+/// The end of the tree, if nothing waits. It can't be otherwise: a script that is full has a line.
 fn ended(is_over: bool) -> Result<Option<Script>, Memory>
     ensures over { result ≡ Ok None → is_over ≡ true }
     ensures none { IfOk result (λ script. script ≡ None) }

@@ -27,12 +27,12 @@ pub enum Took {
 
 /// A place for a tree of files. It is given a folder before what that holds. What it can't take it says, and the rest goes on.
 ///
-/// A file comes to its path by its end alone, behind a beginning and writes each of which was taken. So a fault leaves no part of it there: no further bytes of it
-/// are taken, and what stood at its path stays.
+/// A file comes to its path by its end alone, behind a beginning and writes each of which was taken. So a fault leaves no part of it there: no further bytes of
+/// it are taken, and what stood at its path stays.
 ///
 /// A target that compares takes what is there already, and makes nothing.
 pub trait Target {
-    /// What it took so far, where it tells.
+    /// What it took so far, if it tells.
     ghost took: { Self → Option (List TookOf) };
 
     /// Whether a file was begun and goes on: all that came of it was taken.

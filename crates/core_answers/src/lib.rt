@@ -1,5 +1,13 @@
-//! What answers and calls show, along each history that the core goes with: whose replies the kept attributes, names and pages are, where paths lead, what each
-//! operation's calls and answers are, and why one is refused. Nothing here runs: each function does nothing, and its contract is the theorem.
+//! What answers and calls show, along each history that the core goes with:
+//! - from which replies the kept attributes, names and pages come;
+//! - where paths lead;
+//! - what each operation's calls and answers are;
+//! - why an operation is refused.
+//!
+//! Nothing here runs: each function does nothing, and its contract is the theorem.
+//!
+//! Two terms recur. A server is honest if it and the network do only what `Lawful` of `world_model` allows. It has fresh stamps if each change of a file or
+//! directory gives it a stamp that it never had (`Fresh`; RFC 1813, section 2.6). The RFC doesn't promise fresh stamps: they are a premise.
 #![tactic(auto)]
 
 ghost use Rattle.core_answers.specs.bonds.Aged.{AttrsAged};
@@ -41,129 +49,145 @@ ghost use Rattle.core_answers.specs.refusals.Rowed.{RefusalsOwned, RefusalsRowed
 
 // What the core keeps of replies: attributes and names.
 
-/// Each attribute that the core keeps was shown by a reply of the history, of the file under which it is kept. The call that this answers was first
-/// sent after the clock showed the time that is kept with it, and it isn't believed for longer than the longest lifetime from then on (nfs(5),
-/// acregmax and acdirmax).
+/// The attributes that the core keeps of a file were shown by a reply of the history. The call of this reply was first sent after the clock showed the time
+/// that is kept with them. They aren't believed for longer than the longest lifetime from that time on (nfs(5), acregmax and acdirmax).
 pub fn attributes_were_shown()
     ensures { AttrsShown }
 {}
 
-/// The attributes that a stat shows were shown by a reply of the history before its answer. The call that this answers was first sent since the stat
-/// began, or after the clock showed a time that was less than the longest lifetime before the stat's own reading of it.
+/// The attributes that a stat shows were shown by a reply that came before its answer. The call of this reply was first sent
+/// - since the stat began; or
+/// - after the clock showed a time that was less than the longest lifetime before the stat's own reading of it.
 pub fn stats_are_recent()
     ensures { StatsRecent }
 {}
 
-/// Where the server is honest, an object had the attributes that the core keeps of it at a moment after the clock showed the time that is kept with
-/// them (RFC 1813, section 2.6).
+/// On an honest server, an object had the attributes that the core keeps of it. It had them at a moment after the clock showed the time that is kept with them
+/// (RFC 1813, section 2.6).
 pub fn attributes_were_true()
     ensures { AttrsTrue }
 {}
 
-/// And an object had the attributes that a stat shows at a moment since the stat began, or after the clock showed a time that was less than the
-/// longest lifetime before the stat's own reading of it.
+/// On an honest server, an object had the attributes that a stat shows, at a moment not after its answer. This moment lies
+/// - since the stat began; or
+/// - after the clock showed a time that was less than the longest lifetime before the stat's own reading of it.
 pub fn stats_are_true()
     ensures { StatsTrue }
 {}
 
-/// Each name that the core keeps was answered by a LOOKUP of the history with the object for which it is kept, and the stamp under which it is kept
-/// is that of the directory's attributes in the same reply.
+/// Each name that the core keeps was answered by a LOOKUP of the history, with the object for which it is kept. It is kept under the stamp of the directory's
+/// attributes in that same reply.
 pub fn names_were_shown()
     ensures { NamesShown }
 {}
 
-/// Where the server is honest, and gives each change of a directory another stamp, a name that the core keeps stands for its object at each moment
-/// at which the directory has the stamp under which it is kept.
+/// Let the server be honest, with fresh stamps. Then a name that the core keeps stands for its object whenever the directory has the stamp under which the name
+/// is kept.
 pub fn names_are_true()
     ensures { NamesTrue }
 {}
 
-/// And what a name stands for by the attributes that the core keeps of its directory, it stood for at a moment after the clock showed the time that
-/// is kept with them: what a walk passes without a call was so not longer ago than these attributes are believed.
+/// By the attributes that the core keeps of a directory, a kept name stands for an object. On an honest server with fresh stamps, it did so at a moment after
+/// the clock showed the time kept with these attributes. So what a walk passes without a call was true no longer ago than these attributes are believed.
 pub fn names_stood()
     ensures { NamesStood }
 {}
 
-/// Where the server is honest, and gives each change another stamp, a stat's path leads from the root by names that stood in their directories at
-/// recent moments, to an object that had the attributes that the stat shows at a recent moment.
+/// On an honest server with fresh stamps, a stat shows attributes of the object to which its path leads. The path leads there from the root by names that stood
+/// in their directories at recent moments. The object had these attributes at a recent moment. Recent moments are those of `stats_are_true`.
 pub fn stats_are_of_the_path()
     ensures { StatsLed }
 {}
 
-/// Where the clock is read before operations begin, and one begins at each of its readings, the attributes that a stat shows are as old at most as the
-/// lifetimes allow by all readings of the clock, which may go back: those of an object, to which its path leads by such names, at such a moment.
+/// A stat's path leads by names that stood at recent moments to an object that had the attributes shown at a recent moment. A moment is recent if it is as old
+/// at most as the lifetimes allow, by all readings of the clock, which may go back. The server is honest, with fresh stamps, and the clock is read as follows:
+/// - it is read before operations begin;
+/// - an operation begins at each of its readings.
 pub fn attributes_are_recent()
     ensures { AttrsAged }
 {}
 
 // Where paths of opens and puts lead, and what a list shows.
 
-/// The file of each open that went well stood under the last name of its path at a moment of the open, in a directory to which the names before it
-/// lead by what directories held at recent moments (RFC 1813, section 3.3.3).
+/// The file of each open that succeeded stood under the last name of its path at a moment of the open. The names before it lead to its directory, by what
+/// directories held at recent moments (RFC 1813, section 3.3.3). Premises and recent moments are those of `attributes_are_recent`.
 pub fn opens_find_their_names()
     ensures { OpensFound }
 {}
 
-/// And so did the file of each put that went well.
+/// And so did the file of each put that succeeded.
 pub fn puts_find_their_names()
     ensures { PutsFound }
 {}
 
-/// The file of each open and of each put that went well had its name then.
+/// The file of each open and of each put that succeeded had its name then.
 pub fn names_were_held()
     ensures { NamesHeld }
 {}
 
-/// Where cookies rise too, a list shows names in byte order, each once, of which its directory held each at a moment of the list; and each name that
-/// the directory held all the while is among them (RFC 1813, section 3.3.17).
+/// If cookies rise, too, a list shows the names of its directory (RFC 1813, section 3.3.17):
+/// - its names are in byte order, each once;
+/// - the directory held each of them at a moment of the list;
+/// - each name that the directory held all the while is among them, but for `.` and `..`.
 pub fn lists_are_whole()
     ensures { ListsWhole }
 {}
 
 // What kept pages are.
 
-/// Each page that the core keeps was given by a READ of the history, and follows each WRITE and SETATTR of this client since whose reply leads from the
-/// stamp under which the page was known to another; it is kept under the last of these stamps (RFC 1813, sections 3.3.2, 3.3.6 and 3.3.7).
+/// Each page that the core keeps is known under its file's stamp. A page is known under a stamp for one of these reasons (RFC 1813, sections 3.3.2, 3.3.6 and
+/// 3.3.7):
+/// - it was kept from the start, under this stamp;
+/// - a READ of the history gave it under this stamp;
+/// - it was known under an earlier stamp, and the reply to a WRITE or SETATTR of this client leads from that to this one. It then has the bytes that were
+///   written, or the size, since.
 pub fn pages_were_shown()
     ensures { PagesShown }
 {}
 
-/// Where the server is honest, and gives each change of a file another stamp, a page that the core keeps is that page of the file at every moment at
-/// which the file has its known stamp (RFC 1813, section 2.6).
+/// On an honest server with fresh stamps, a page that the core keeps is true. It is that page of the file whenever the file has its known stamp (RFC 1813,
+/// section 2.6). A premise: each page that was kept from the start was so at a moment before any operation began.
 pub fn pages_are_true()
     ensures { PagesTrue }
 {}
 
-/// A read that goes well answers bytes of the file that its slot holds. Each was pending in this client at a moment of the read; or kept pages and the
-/// replies to its own READs gave it; or it is a zero past the end of what these gave (RFC 1813, section 3.3.6).
+/// A read that succeeds answers bytes of the file that its slot holds. Each of them is one of these (RFC 1813, section 3.3.6):
+/// - a byte that was pending in this client at a moment of the read;
+/// - a byte that kept pages or the replies to the read's own READs gave;
+/// - a zero past the end of what these gave.
 pub fn reads_are_shown()
     ensures { ReadsShown }
 {}
 
-/// Where the server is honest, and gives each change of a file another stamp, what such a read shows but for what was pending are bytes that the file
-/// had: at a moment since the read began, or at each moment at which it has a stamp that it had before the answer (RFC 1813, section 2.6).
+/// On an honest server with fresh stamps, what pages and READs gave such a read are bytes that the file had (RFC 1813, section 2.6). The pages that were kept
+/// from the start are true: that is a premise. The file had each byte
+/// - at a moment since the read began; or
+/// - at each moment at which it has a stamp that it had before the answer.
 pub fn reads_are_held()
     ensures { ReadsHeld }
 {}
 
 // Where the bytes are from that a read answers.
 
-/// Each byte that a read answers is one that a write, a fill or a put which began before the answer gave to that place of the file; or one that a kept page
-/// of the file has there, or the reply to a READ of the read's own gave; or a zero, past the end of what these gave (RFC 1813, sections 3.3.6 and 4.8).
+/// Each byte that a read answers has one of these origins (RFC 1813, sections 3.3.6 and 4.8):
+/// - a write, fill or put that began before the answer gave it to that place of the file;
+/// - a kept page of the file has it there;
+/// - the reply to a READ of the read's own gave it;
+/// - it is a zero, past the end of what pages and READs gave.
 pub fn reads_are_given()
     ensures { ReadsGiven }
 {}
 
-/// Where the server is honest, and gives each change of a file another stamp, what pages and READs gave such a read are bytes that the file had, at a moment
-/// since the read began or whenever it has a stamp that it had before the answer (RFC 1813, section 2.6).
+/// On an honest server with fresh stamps, what pages and READs gave such a read are bytes that the file had (RFC 1813, section 2.6). The file had each at a
+/// moment since the read began, or whenever it has a stamp that it had before the answer. The pages that were kept from the start are true: that is a premise.
 pub fn reads_are_from()
     ensures { ReadsFrom }
 {}
 
 // Calls and answers of opens, lists and operations on slots.
 
-/// A list goes well only where it ends with the last page of the directory to which its path leads, and its names are those of a chain of pages
-/// of that directory, from the first on, which came within it.
+/// A list succeeds only if it ends with the last page of the directory to which its path leads. Its names are those of a chain of pages of that directory, from
+/// the first on, which came within the list.
 pub fn lists_are_shown()
     ensures { ListsShown }
 {}
@@ -173,22 +197,26 @@ pub fn lists_calls_are_asked()
     ensures { ListsAsk }
 {}
 
-/// An open asks for each call that is sent for it: the LOOKUP of a name of its path, CREATE of the last one where it makes its file, or GETATTR of
-/// the file.
+/// An open asks for each call that is sent for it: the LOOKUP of a name of its path, CREATE of the last one if it makes its file, or GETATTR of the file.
 pub fn opens_calls_are_asked()
     ensures { OpensAsk }
 {}
 
-/// A sync, a close, a write, a fill or a read is answered ok only where the history shows its row: the open that its slot holds, the COMMIT of
-/// a sync, and the value, which of a read has no more bytes than it was asked for.
+/// A sync, close, write, fill or read succeeds only if the history shows its row:
+/// - its slot holds an open, which has the right that a read, write or fill needs;
+/// - the COMMIT of a sync was answered 0;
+/// - a read has no more bytes than it was asked for, and the others have no value.
 pub fn slot_rows_are_shown()
     ensures { SlotRowsShown }
 {}
 
 // A session that nothing disturbs.
 
-/// In a session that nothing disturbs, whose refusals have their rows, each operation goes well, or finds its slot taken or free, no right, no file,
-/// too many names, no calls left, or no memory.
+/// Let nothing disturb a session in which each refusal has its row, calls are numbered and each WRITE carries a byte. Then each operation succeeds or is
+/// refused for one of these reasons:
+/// - its slot is taken or free, or its open has no right;
+/// - it finds no file, or too many names;
+/// - no calls are left, or no memory.
 pub fn rows_are_complete()
     ensures { RowsComplete }
 {}
@@ -200,7 +228,7 @@ pub fn xids_are_within()
     ensures { XidsWithin }
 {}
 
-/// An operation is answered that no more calls may be made only where as many were made as may be.
+/// An operation is answered that no more calls may be made only if as many were made as may be.
 pub fn spent_means_all_made()
     ensures { AllMade }
 {}
@@ -210,12 +238,13 @@ pub fn spent_means_all_sent()
     ensures { AllSent }
 {}
 
-/// Where it is answered so while no other operation is under way, in a session that isn't lost, that is so before its answer.
+/// Let an operation be answered so while no other is under way, in a session that isn't lost. Then a record was sent under each of the core's xids before its
+/// answer.
 pub fn a_lone_spent_answer_comes_after_all_calls()
     ensures { SentByThen }
 {}
 
-/// Where a record was sent under each of so many xids, and under no other, so many calls were made.
+/// If a record was sent under each of so many xids, and under no other, so many calls were made.
 pub fn so_many_xids_are_so_many_calls()
     ensures { CallsAreAll }
 {}
@@ -248,8 +277,9 @@ pub fn slots_calls_are_asked()
     ensures { SlotsAsk }
 {}
 
-/// A read asks for each call that is sent for it: READ inside the pages that meet its range, of the file that its slot holds, or GETATTR of that file
-/// in a session that asks anew.
+/// A read asks for each call that is sent for it:
+/// - READ of the file that its slot holds, inside the pages that meet its range, of no more bytes than the READ size;
+/// - in a session that asks anew, GETATTR of that file.
 pub fn reads_calls_are_asked()
     ensures { ReadsAsk }
 {}
@@ -266,8 +296,8 @@ pub fn removes_calls_are_asked()
 
 // Whose the pending bytes are, and which calls carry them.
 
-/// As long as the session isn't lost, each byte that is pending at a place of a file, in flight or not, is one that a write, fill or put which
-/// began gave to that place, a write or fill of a slot that held this file.
+/// As long as the session isn't lost, each byte that is pending, also in flight, at a place of a file was given to it. What gave it to this place is a put
+/// which began, or a write or fill which began on a slot that held this file.
 pub fn pending_bytes_were_written()
     ensures { PendingWritten }
 {}
@@ -290,19 +320,19 @@ pub fn commits_wait_alone()
 
 // Answers of puts, stats, truncates and lists.
 
-/// A put goes well only where its path leads to a file of which COMMIT, sent since the put began, was answered 0, and it ends with the reply to a
-/// WRITE or COMMIT of that file.
+/// A put succeeds only if its path leads to a file of which COMMIT, sent since the put began, was answered 0. It ends with the reply to a WRITE or COMMIT of
+/// that file.
 pub fn puts_are_shown()
     ensures { PutsShown }
 {}
 
-/// A put is refused for the kind of its file only where it ends with the reply to GETATTR of that, of another kind than 1.
+/// A put is refused for the kind of its file only if it ends with the reply to GETATTR of that file. This reply shows another kind than 1.
 pub fn put_kinds_are_shown()
     ensures { PutKindsShown }
 {}
 
-/// A put is refused for a rule only where a record that came within it, for a call that was first sent within it, breaks this rule of what a reply to
-/// that call has to be.
+/// A put is refused for a rule only if a record breaks this rule of what a reply has to be. The record came within the put, for a call that was first sent
+/// within it.
 pub fn put_rules_are_shown()
     ensures { PutRulesShown }
 {}
@@ -318,25 +348,31 @@ pub fn lone_puts_refusals_are_rows()
     ensures { LoneRefusals }
 {}
 
-/// A list is refused for too many names only where it ends with a page of its directory with which the pages that came within it hold them.
+/// A list is refused for too many names only if it ends with a page of its directory that makes them too many. With it the pages that came within the list hold
+/// more than 65,536 names.
 pub fn many_names_are_shown()
     ensures { ManyShown }
 {}
 
-/// A stat goes well only with attributes that a reply showed of the object to which its path leads.
+/// A stat succeeds only with attributes that a reply showed of the object to which its path leads.
 pub fn stats_go_well()
     ensures { StatsOk }
 {}
 
-/// A truncate goes well only where it ends with the reply to SETATTR of its size on the file that its slot held as it began.
+/// A truncate succeeds only if it ends with the reply to SETATTR of its size. The SETATTR is of the file that its slot held as it began, and its reply has
+/// status 0.
 pub fn truncates_go_well()
     ensures { TruncatesOk }
 {}
 
 // Why an operation is refused.
 
-/// An operation is refused with a status or by RPC only where a record refused so a call that was sent for it and for which it asks, as far as that is known,
-/// other than the REMOVE of a last close; and it doesn't go on from that.
+/// If an operation is refused with a final status, by RPC or for a broken rule, a record refused so a call of its own:
+/// - the call was sent for it, and it asks for this call, as far as that is known;
+/// - the call isn't the REMOVE of a last close;
+/// - the operation doesn't go on from that refusal.
+///
+/// A status is final but for 10008, and for 2 of a remove or of an open that may make its file.
 pub fn refusals_are_of_own_calls()
     ensures { RefusalsOwned }
 {}

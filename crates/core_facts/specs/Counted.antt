@@ -39,7 +39,7 @@ abbrev pub known_by : ℕ → List Lane → ℕ
 known_by number [] = 0
 known_by number (lane ∷ lanes) = where_ (lane.number == number) (known_in lane.state) + known_by number lanes
 
--- In each lane as many calls wait as its operation knows of, and none where it has its answer.
+-- In each lane as many calls wait as its operation knows of, and none if it has its answer.
 abbrev pub AreCounted : View → Type 0
 AreCounted v = (number : ℕ) → calls_for number v.calls.calls ≡ known_by number v.lanes
 

@@ -38,7 +38,7 @@ use Rattle.op_machines.specs.declared.name_machine.NameMachine.TheVariants as na
 use Rattle.op_machines.specs.Openers.{file_of}
 use Rattle.op_machines.specs.Steps.{Starts, Resumes, Takes}
 
--- one where it is so
+-- one if it is so
 abbrev pub one_if : Bool → ℕ
 one_if true = 1
 one_if false = 0
@@ -192,7 +192,7 @@ IsCounted machine = Unit {0}
 
 -- ---- how they are counted
 
--- A step before which so many calls wait, and after it so many: one that asks for a call adds it, and an operation ends only where none
+-- A step before which so many calls wait, and after it so many: one that asks for a call adds it, and an operation ends only if none
 -- waits. P holds as long as it goes on.
 abbrev pub Leaves : Step → ℕ → ℕ → Type 0 → Type 0
 Leaves (Send call) before after P = (after ≡ before + 1) × P
@@ -202,7 +202,7 @@ Leaves (Done answer) before after P = before ≡ 0
 abbrev pub Counts : Step → ℕ → Machine → Type 0
 Counts next before new = Leaves next before (in_flight new) (IsCounted new)
 
--- Each operation knows how many of its calls wait: none before its first step, and one less where what came of one is taken.
+-- Each operation knows how many of its calls wait: none before its first step, and one less once what came of one is taken.
 pub record CountsCalls : Type 0 where
   pub start : (wsize : ℕ) (machine : Machine) (turn : Turn) (old : Shelf) (next : Step) (new : Machine) (after : Shelf)
       → Starts wsize machine turn old next new after → IsUnbegun machine → Counts next 0 new

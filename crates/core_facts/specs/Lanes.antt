@@ -50,7 +50,7 @@ abbrev pub LossesShown : Type 0
 LossesShown = (machine_of : ℕ → Op → Machine) (setup : Setup) (h : List Entry) (v : View) → Reaches machine_of setup h v
     → v.lost ≡ true → IsLost h (length h)
 
--- An operation is answered that the session is lost only where one of them came before its answer.
+-- An operation is answered that the session is lost only if one of them came before its answer.
 abbrev pub LostAnswersShown : Type 0
 LostAnswersShown = (m : Mounted) (setup : Setup) (h : List Entry) (v : View) → Reaches (machine_of m) setup h v
     → (lane x : ℕ) (op : Op) (y : ℕ) → Ended h lane x op y (Refused faults.Lost) → IsLost h y

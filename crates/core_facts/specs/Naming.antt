@@ -1,4 +1,4 @@
--- What the answer of an operation on names that went well shows.
+-- What the answer of an operation on names that succeeded shows.
 use Rattle.std.specs.Prelude.{ℕ, List}
 use Rattle.world_model.specs.declared.answer.Answer.TheVariants.{Done}
 use Rattle.world_model.specs.declared.answer.Value.{Value}
@@ -32,7 +32,7 @@ IsOneCall op = ⊥
 abbrev pub KnowsRoot : Origin → List Entry → List ℕ → Type 0
 KnowsRoot origin h root = (x lane line : ℕ) (op : Op) → At h x (Began lane line op) → Rooted origin h x root
 
--- An operation of a script that makes one call goes well only so: it ends with the reply to that call on the objects to which its paths lead, of
+-- An operation of a script that makes one call succeeds only so: it ends with the reply to that call on the objects to which its paths lead, of
 -- status 0, and its value is the reply's.
 abbrev pub OneCallsDone : Type 0
 OneCallsDone = (m : Mounted) (setup : Setup) (h : List Entry) (v : View) → Reaches (machine_of m) setup h v → (terms : Terms) → KnowsRoot terms.origin h m.root

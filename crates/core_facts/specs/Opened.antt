@@ -17,7 +17,7 @@ use Rattle.client_core.specs.View.{View}
 use Rattle.core_facts.specs.Naming.{KnowsRoot}
 use Rattle.core_facts.specs.Reaches.{Reaches}
 
--- In a session in which each open asks anew, one goes well only so: its last reply is that to GETATTR of the file to which its path leads, or which
+-- In a session in which each open asks anew, one succeeds only so: its last reply is that to GETATTR of the file to which its path leads, or which
 -- its CREATE gave, and says kind 1.
 abbrev pub OpensShown : Type 0
 OpensShown = (m : Mounted) (setup : Setup) (h : List Entry) (v : View) → Reaches (machine_of m) setup h v → (terms : Terms) → KnowsRoot terms.origin h m.root

@@ -59,6 +59,6 @@ abbrev pub LanesWait : Type 0
 LanesWait = (m : Mounted) (setup : Setup) (h : List Entry) (v : View) → Reaches (machine_of m) setup h v → v.lost ≡ false → (at number : ℕ) (machine : Machine)
     → IsBusyAt v at number machine → WaitsFor v number
 
--- Where no call waits no operation is under way.
+-- If no call waits no operation is under way.
 abbrev pub NoneUnanswered : Type 0
 NoneUnanswered = (m : Mounted) (setup : Setup) (h : List Entry) (v : View) → Reaches (machine_of m) setup h v → v.calls.calls ≡ [] → NoneBusy v

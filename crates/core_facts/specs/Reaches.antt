@@ -48,7 +48,7 @@ pub record MayHear (v : View) : Type 0 where
   pub sent : WereSent v.calls.calls
   pub noted : (at number : ℕ) (answer : Answer) → slice_get v.lanes at ≡ Some (record { number = number; state = Over answer }) → ⊥
 
--- the last reading of the clock, or this one where there is none
+-- the last reading of the clock, or this one if there is none
 abbrev pub last_reading : ℕ → List Entry → ℕ
 last_reading ms [] = ms
 last_reading ms (Clock now ∷ es) = last_reading now es
@@ -88,7 +88,7 @@ StepsTo machine_of h old (Flushed file from len) new = new ≡ old
 StepsTo machine_of h old (Reboot verf) new = new ≡ old
 StepsTo machine_of h old (Clock ms) new = new ≡ old
 
--- The view goes with the history. The caller gives the session up only where the history shows a cause.
+-- The view goes with the history. The caller gives the session up only if the history shows a cause.
 pub data Reaches (machine_of : ℕ → Op → Machine) (setup : Setup) : List Entry → View → Type 0 where
   begins : (h : List Entry) (v : View) → MaySetUp setup → IsSetUp setup h → IsFresh setup v → Reaches machine_of setup h v
   goes : (h before : List Entry) (v b : View) (e : Entry) → Reaches machine_of setup before b → h ≡ before ++ e ∷ []

@@ -25,7 +25,7 @@ IsRefusalShown h x y (faults.Nfs status) = IsRefusedSo h x y (faults.Nfs status)
 IsRefusalShown h x y (faults.Rpc n) = IsRefusedSo h x y (faults.Rpc n)
 IsRefusalShown h x y fault = Unit {0}
 
--- An operation is answered so only where a record that came within it refused so a call that was made within it.
+-- An operation is answered so only if a record that came within it refused so a call that was made within it.
 abbrev pub RefusalsShown : Type 0
 RefusalsShown = (m : Mounted) (setup : Setup) (h : List Entry) (v : View) → Reaches (machine_of m) setup h v
     → (lane x : ℕ) (op : Op) (y : ℕ) (fault : Fault) → Ended h lane x op y (answers.Refused fault) → IsRefusalShown h x y fault

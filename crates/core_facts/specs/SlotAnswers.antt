@@ -24,12 +24,12 @@ pub record GoesWith (m : Mounted) (terms : Terms) (setup : Setup) (h : List Entr
   pub nocto : m.nocto ≡ terms.modes.nocto
   pub reaches : Reaches (machine_of m) setup h v
 
--- A sync is answered ok only where COMMIT of the file that its slot holds was answered 0 since it began.
+-- A sync is answered ok only if COMMIT of the file that its slot holds was answered 0 since it began.
 abbrev pub SyncsOk : Type 0
 SyncsOk = (m : Mounted) (terms : Terms) (setup : Setup) (h : List Entry) (v : View) → GoesWith m terms setup h v
     → (lane x slot y : ℕ) (value : Value) → Ended h lane x (Sync slot) y (Done value) → SyncOk terms h x y (Sync slot)
 
--- The other operations on a slot are answered ok only where it holds an open, which is for reading or for writing as they are.
+-- The other operations on a slot are answered ok only if it holds an open, which is for reading or for writing as they are.
 pub record HoldOpens (terms : Terms) (h : List Entry) (lane x slot y : ℕ) (value : Value) : Type 0 where
   pub close : Ended h lane x (Close slot) y (Done value) → CloseOk terms h lane x slot
   pub read : (offset count : ℕ) → Ended h lane x (Read slot offset count) y (Done value) → HoldsToRead terms h lane x slot
@@ -51,8 +51,8 @@ abbrev pub PlacesExact : Type 0
 PlacesExact = (m : Mounted) (terms : Terms) (setup : Setup) (h : List Entry) (v : View) → GoesWith m terms setup h v
     → (lane x y : ℕ) (op : Op) (answer : Answer) → Ended h lane x op y answer → IsTried answer → FindsPlace terms h lane x op answer
 
--- An operation is refused for its slot only where it finds an open there that it is to open, or none, and for its right only where the open that
--- its slot holds isn't for it.
+-- An operation is refused for its slot only if it finds an open there that it is to open, or none to work on. It is refused for its right only
+-- if the open that its slot holds isn't for it.
 pub record PlaceRows (terms : Terms) (h : List Entry) (lane x y : ℕ) (op : Op) : Type 0 where
   pub slot : Ended h lane x op y (Refused faults.Slot) → NoPlace terms h lane x op
   pub mode : Ended h lane x op y (Refused faults.Mode) → NoRight terms h lane x op

@@ -23,8 +23,8 @@ pub fn waiting_calls_are_sound()
     ensures { CallsSound }
 {}
 
-/// Each call that waits is a call of NFS of the session; it wasn't sent yet, or it was sent as often as its attempts count, always with
-/// the same record, and no record under its xid came since (RFC 5531, section 9).
+/// Each call that waits is a call of NFS of the session (RFC 5531, section 9). It wasn't sent yet; or it was sent as often as its attempts count, always with
+/// the same record, and no record under its xid came since.
 pub fn waiting_calls_were_sent()
     ensures { WaitingKnown }
 {}
@@ -34,12 +34,15 @@ pub fn calls_are_numbered()
     ensures { ReachedNumbered }
 {}
 
-/// A session is lost only where a call was sent four times in vain, four dials in a row failed, or too many records were dropped.
+/// A session is lost only for one of these causes:
+/// - a call was sent four times in vain;
+/// - four dials in a row failed;
+/// - 65,536 records in a row answered no call.
 pub fn losses_are_shown()
     ensures { LossesShown }
 {}
 
-/// An operation is answered that the session is lost only where the history shows one of these before the answer.
+/// An operation is answered that the session is lost only if the history shows one of these before the answer.
 pub fn lost_answers_are_lost()
     ensures { LostAnswersShown }
 {}
@@ -54,13 +57,13 @@ pub fn lanes_are_under_way()
     ensures { LanesUnderWay }
 {}
 
-/// Each operation knows how many of its calls wait, and ends only where none does.
+/// Each operation knows how many of its calls wait, and ends only if none does.
 pub fn calls_are_counted()
     ensures { CountsCalls }
 {}
 
-/// As long as the session isn't lost, each call that waits is one of the operation that is under way in its lane, and each record of it was
-/// sent since that began. In each lane as many calls wait as its operation knows of, and none where it has its answer.
+/// As long as the session isn't lost, each call that waits is one of the operation that is under way in its lane. Each record of it was sent since that
+/// operation began. In each lane as many calls wait as its operation knows of, and none if it has its answer.
 pub fn waiting_calls_have_operations()
     ensures { CallsOwned }
 {}
@@ -76,75 +79,77 @@ pub fn lanes_wait()
     ensures { LanesWait }
 {}
 
-/// Where no call waits, each operation that began has its answer.
+/// If no call waits, each operation that began has its answer.
 pub fn operations_are_answered()
     ensures { NoneUnanswered }
 {}
 
-/// A record under the xid of a call that waits answers that call, which was first sent since the operation began that is under way in its
-/// lane; and what the operation takes is what the record says of it.
+/// As long as the session isn't lost, a record under the xid of a call that waits answers that call. The call was first sent since the operation began that is
+/// under way in its lane. What the operation takes is what the record says of the call.
 pub fn replies_are_heard()
     ensures { RepliesHeard }
 {}
 
-/// A sync is answered ok only where a COMMIT of the whole file that it saves, sent since the sync began, was answered 0.
+/// A sync is answered ok only if a COMMIT of the whole file that it saves, sent since the sync began, was answered 0.
 pub fn syncs_are_committed()
     ensures { SyncsCommitted }
 {}
 
-/// A put is answered ok only where a COMMIT of the whole file that it saves, sent since the put began, was answered 0.
+/// A put is answered ok only if a COMMIT of the whole file that it saves, sent since the put began, was answered 0.
 pub fn puts_are_committed()
     ensures { PutsCommitted }
 {}
 
-/// A sync is answered ok only where a COMMIT of the whole file that its slot holds, sent since the sync began, was answered 0: the file that
-/// the lane's last open of the slot found, with no close between.
+/// A sync is answered ok only if a COMMIT of the whole file that its slot holds, sent since the sync began, was answered 0. This is the file that the lane's
+/// last open of the slot found, with no close between.
 pub fn syncs_save_their_files()
     ensures { SyncsOk }
 {}
 
-/// A close, read, write, fill or truncate is answered ok only where its slot holds an open as it begins: for reading, where it reads, and for
-/// writing, where it writes or truncates.
+/// A close, read, write, fill or truncate is answered ok only if its slot holds an open as it begins. The open of a read is for reading, and that of a write,
+/// fill or truncate is for writing.
 pub fn slots_hold_opens()
     ensures { SlotsHoldOpens }
 {}
 
-/// An open of a slot that holds an open, an operation on a slot that holds none, and one for which the open of its slot isn't, are refused
-/// so, unless the session is lost or memory runs out.
+/// Unless the session is lost or memory runs out, each of these is refused so:
+/// - an open of a slot that holds an open;
+/// - an operation on a slot that holds none;
+/// - an operation for which the open of its slot isn't.
 pub fn missing_places_are_refused()
     ensures { PlacesExact }
 {}
 
-/// An operation is answered with a status of NFS or a refusal by RPC only where a record that came within it refused so a call that was made
-/// within it.
+/// An operation is answered with a status of NFS or a refusal by RPC only if a record refused a call so. The record came within the operation, and the call
+/// was made within it.
 pub fn refusals_are_shown()
     ensures { RefusalsShown }
 {}
 
-/// An operation of a script that walks along its paths and makes one call goes well only where it ends with the reply to that call, on the
-/// objects to which its paths lead, and this has status 0.
+/// Some operations of a script walk along their paths and make one call. Such a one succeeds only if it ends with the reply to that call, on the objects to
+/// which its paths lead. The reply has status 0.
 pub fn one_calls_are_done()
     ensures { OneCallsDone }
 {}
 
-/// An operation is refused for its slot only where that holds an open as it is to open one, or holds none, and for its right only where the
-/// open that its slot holds isn't for it.
+/// An operation is refused for its slot only if it finds an open there which it is to open, or none to work on. It is refused for its right only if the open
+/// that its slot holds isn't for it.
 pub fn slot_refusals_are_caused()
     ensures { PlacesCaused }
 {}
 
-/// Each record that was sent was sent before any operation began, or is a call, with the session's credential, of an operation that was under
-/// way; an operation of a script that makes one call after its LOOKUPs asks for it.
+/// Each record was sent before any operation began, or is a call of an operation that was under way, with the session's credential. An operation of a script
+/// that makes one call after its LOOKUPs asks for this call.
 pub fn calls_are_caused()
     ensures { CallsCaused }
 {}
 
-/// In a session in which each open asks anew, an open goes well only where it ends with the reply to GETATTR of its file, of kind 1.
+/// In a session in which each open asks anew, an open succeeds only if it ends with the reply to GETATTR of its file. This reply shows kind 1.
 pub fn opens_are_shown()
     ensures { OpensShown }
 {}
 
-/// An open is refused for the kind of its file only where it ends with the reply to GETATTR of that, of another kind than 1.
+/// An open is refused for the kind of its file only if it ends with the reply to GETATTR of that file. This reply shows another kind than 1.
 pub fn kinds_are_shown()
     ensures { KindsShown }
 {}
@@ -156,7 +161,7 @@ pub fn histories_are_reached()
     ensures { HistoriesReached }
 {}
 
-/// Where a record is sent or received, after an operation began, no lane has an answer that wasn't noted.
+/// When a record is sent or received, after an operation began, no lane has an answer that wasn't noted.
 pub fn answers_come_first()
     ensures { AnswersFirst }
 {}

@@ -26,7 +26,7 @@ fn parts_of<'a>(line: &'a str) -> Option<(&'a str, u32, &'a str, &'a str)> {
     Some((front, number_of(count), text, back))
 }
 
-/// The bytes of digits in hex, with or without spaces; none where they aren't digits of whole bytes.
+/// The bytes of digits in hex, with or without spaces; none if they aren't digits of whole bytes.
 pub fn bytes_of(alloc: Global, text: &str) -> Result<Vec<u8>, AllocError> {
     let mut digits = String::new(alloc);
     for part in text.split(' ') {
@@ -40,12 +40,12 @@ pub fn record_of(alloc: Global, text: &str) -> Result<Record, Memory> {
     Record::copy(alloc, bytes_of(alloc, text)?.as_slice())
 }
 
-/// The number of decimal digits; 0 where they aren't of a number below 2^32.
+/// The number of decimal digits; 0 if they aren't of a number below 2^32.
 pub fn number_of(text: &str) -> u32 {
     text.parse::<u32>().unwrap_or(0)
 }
 
-/// The number of a port; 0 where it is none.
+/// The number of a port; 0 if it is none.
 pub fn port_of(text: &str) -> u16 {
     text.parse::<u16>().unwrap_or(0)
 }

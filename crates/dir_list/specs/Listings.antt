@@ -26,7 +26,7 @@ abbrev pub last_cookie : PlusRow → List PlusRow → ℕ
 last_cookie row [] = row.cookie
 last_cookie row (next ∷ rows) = last_cookie next rows
 
--- What a page leads to, where these names count of the pages before it: a name that stands twice counts twice, and too
+-- What a page leads to, if these names count of the pages before it: a name that stands twice counts twice, and too
 -- many are found before the end is.
 unfoldable pub page_step : List (List ℕ) → List PlusRow → Verf → Bool → Result ListStep ListFault
 page_step before [] verf true = Ok End

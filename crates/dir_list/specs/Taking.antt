@@ -8,7 +8,7 @@ use Rattle.dir_list.specs.declared.progress.ListFault.{ListFault}
 use Rattle.dir_list.specs.declared.progress.ListFault.TheVariants.{Stuck}
 use Rattle.dir_list.specs.Listings.{listing_limit, counts, counted, last_cookie}
 
--- a name, or none where it doesn't count
+-- a name, or none if it doesn't count
 abbrev pub counted_name : List ℕ → List (List ℕ)
 counted_name name = if counts name then name ∷ [] else []
 

@@ -45,8 +45,8 @@ impl Listing {
 
     /// Takes the next page, with its verifier of cookies and whether it is the last one.
     ///
-    /// Many comes exactly where the names that count of this page and of all before it, repeated ones among them, are
-    /// more than 65,536. Stuck comes exactly where the page has no entry, not even `.` or `..`, and isn't the last.
+    /// Many comes exactly if the names that count of this page and of all before it, repeated ones among them, are
+    /// more than 65,536. Stuck comes exactly if the page has no entry, not even `.` or `..`, and isn't the last.
     /// After a fault the listing is as it was.
     pub fn page(&mut self, page: PlusPage<'_>, verf: Verf, eof: bool) -> Result<ListStep, ListFault>
         ensures ok { IfOk result (λ step. page_step self.old page.entry verf eof ≡ Ok step) }

@@ -14,9 +14,9 @@ use std::rt::Files;
 use world_model::Path;
 use xdr_codec::Memory;
 
-/// A folder or a file of the system that a tree is copied to. Folders are made if they aren't there, and files are written under a name of their own, which they
-/// change for theirs at their end. So a link that stands there is replaced, and not written through. A folder isn't reached through a link, but the root may be.
-/// It tells nothing of what it took.
+/// A folder or a file of the system that a tree is copied to. Folders are made if they aren't there, and files are written under a name of their own, which
+/// they change for theirs at their end. So a link that stands there is replaced, and not written through. A folder isn't reached through a link, but the root
+/// may be. It tells nothing of what it took.
 #[derive(Drop)]
 pub struct DiskTarget<'a, R: Files> {
     files: &'a R,

@@ -22,7 +22,7 @@ next view = view.counter + 1
 abbrev pub takes : View → List Node → View
 takes view nodes = record view { nodes = nodes; counter = next view }
 
--- the object at a place is changed, where one is given
+-- the object at a place is changed, if one is given
 abbrev pub changed_at : (Node → Node) → Option ℕ → List Node → List Node
 changed_at change None nodes = nodes
 changed_at change (Some place) nodes = changed change place nodes

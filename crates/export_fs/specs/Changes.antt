@@ -24,7 +24,7 @@ changed change place nodes = put_node nodes place change (slice_get nodes place)
 
 -- ---- new objects
 
--- an object with what a call sets, and with these bits of permission where it sets none
+-- an object with what a call sets, and with these bits of permission if it sets none
 abbrev pub made : ℕ → ℕ → ℕ → SetAttr → Holds → Node
 made mode nlink number set holds = record {
   mode = unwrap_or set.mode mode;
@@ -113,14 +113,14 @@ without_name name (Link text) = Link text
 abbrev pub left : ℕ → List ℕ → Node → Node
 left number name node = record node { mtime = number; ctime = number; holds = without_name name node.holds }
 
--- an object loses a name: a directory is gone then, and another object where that was its last name
+-- an object loses a name: a directory is gone then, and another object if that was its last name
 abbrev pub with_fewer : Node → Node
 with_fewer node = record node { nlink = node.nlink - 1; gone = nat_le node.nlink 1 }
 
 abbrev pub unnamed : Node → Node
 unnamed node = if kind_of node.holds == 2 then record node { gone = true } else with_fewer node
 
--- where names are left, its ctime changes
+-- if names are left, its ctime changes
 abbrev pub with_ctime : ℕ → Node → Node
 with_ctime number node = if node.gone then node else record node { ctime = number }
 

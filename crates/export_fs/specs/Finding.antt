@@ -9,6 +9,6 @@ use Rattle.export_fs.specs.Answer.{found_handle}
 abbrev pub found : View → List (List ℕ) → Option (List ℕ)
 found view path = found_handle (walked view.nodes (Some 0) path)
 
--- how many bytes the file under a file handle has; None where it is no file, or isn't there
+-- how many bytes the file under a file handle has; None if it is no file, or isn't there
 abbrev pub file_size : View → List ℕ → Option ℕ
 file_size view file = if kind view.nodes file == 1 then Some (length (bytes_in (object view.nodes file))) else None

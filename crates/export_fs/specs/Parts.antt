@@ -42,7 +42,7 @@ abbrev pub not_gone : Option Node → Option Node
 not_gone None = None
 not_gone (Some node) = if node.gone then None else Some node
 
--- the object at a place, where it is there
+-- the object at a place, if it is there
 abbrev pub live : List Node → ℕ → Option Node
 live nodes place = not_gone (slice_get nodes place)
 
@@ -50,7 +50,7 @@ abbrev pub at_place : List Node → Option ℕ → Option Node
 at_place nodes None = None
 at_place nodes (Some place) = live nodes place
 
--- the object under a file handle, where it is there
+-- the object under a file handle, if it is there
 abbrev pub object : List Node → List ℕ → Option Node
 object nodes h = at_place nodes (place_of h)
 
@@ -70,7 +70,7 @@ abbrev pub kind_in : Option Node → ℕ
 kind_in None = 0
 kind_in (Some node) = kind_of node.holds
 
--- the kind of the object at a place, and under a file handle; 0 where there is none
+-- the kind of the object at a place, and under a file handle; 0 if there is none
 abbrev pub kind_at : List Node → Option ℕ → ℕ
 kind_at nodes place = kind_in (at_place nodes place)
 
@@ -87,7 +87,7 @@ abbrev pub bytes_in : Option Node → List ℕ
 bytes_in None = []
 bytes_in (Some node) = bytes_of node.holds
 
--- the text of a link, where the object is one
+-- the text of a link, if the object is one
 abbrev pub text_of : Holds → Option (List ℕ)
 text_of (File content) = None
 text_of (Directory listing) = None
@@ -156,7 +156,7 @@ abbrev pub attr_at : List Node → Option ℕ → Option Attr
 attr_at nodes None = None
 attr_at nodes (Some place) = option_map (attr_of place) (live nodes place)
 
--- the attributes of the object under a file handle, where it is there
+-- the attributes of the object under a file handle, if it is there
 abbrev pub attr : List Node → List ℕ → Option Attr
 attr nodes h = attr_at nodes (place_of h)
 

@@ -35,7 +35,7 @@ abbrev pub placed_last : View → List (List ℕ) → Option (List ℕ) → Opti
 placed_last view front None file = None
 placed_last view front (Some name) file = placed_in view name file (walked view.nodes (Some 0) front)
 
--- The export with an object at the end of the path, and None where it can't be placed: the path is the root, or the way
+-- The export with an object at the end of the path, and None if it can't be placed: the path is the root, or the way
 -- to its last name leads nowhere, or the object can't be placed there.
 abbrev pub placed : View → List (List ℕ) → Option (List ℕ) → Option View
 placed view path file = placed_last view (take (length path - 1) path) (slice_get path (length path - 1)) file

@@ -159,7 +159,7 @@ is_missing nodes (dirs.Rename dir name to_dir to) = is_none (named nodes dir nam
 is_missing nodes call = false
 
 -- 17, EXIST: the name to make is there, or is `.` or `..`; CREATE UNCHECKED over another kind than a file; RENAME over
--- an object where one of the two is a directory and the other isn't
+-- an object if one of the two is a directory and the other isn't
 abbrev pub is_taken : List Node → List ℕ → List ℕ → Bool
 is_taken nodes dir name = is_own_name name || is_some (named nodes dir name)
 

@@ -21,7 +21,7 @@ held_of (Link text) = Text text
 abbrev pub object_of : ℕ → Node → Object
 object_of place node = record { attr = attr_of place node; gone = node.gone; holds = held_of node.holds }
 
--- the object at a place, also where it is gone
+-- the object at a place, also if it is gone
 abbrev pub seen_at : List Node → ℕ → Option Object
 seen_at nodes place = option_map (object_of place) (slice_get nodes place)
 

@@ -50,7 +50,7 @@ IsHeld count place (Directory listing) = IsListing count place listing
 IsHeld count place (Link text) = ⊤
 
 -- A directory that is there has one name, unless it is the root. Another object has as many names as it counts, and is
--- gone where it has none.
+-- gone if it has none.
 pub record IsCounted (names place : ℕ) (node : Node) : Type 0 where
   pub directory : (kind_of node.holds == 2) ≡ true → names ≡ (if node.gone || (place == 0) then 0 else 1)
   pub links : (kind_of node.holds == 2) ≡ false → names ≡ node.nlink

@@ -22,7 +22,7 @@ use xdr_codec::{Blob, Memory};
 /// The most bytes of the entries of a page.
 const MOST_PAGE: u32 = 65_536;
 
-/// The file handle of the object at a place, where one is given.
+/// The file handle of the object at a place, if one is given.
 fn found_handle(place: Option<u32>) -> Option<Handle>
     ensures { result ≡ found_handle place }
 {

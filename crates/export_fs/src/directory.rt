@@ -70,7 +70,7 @@ impl Directory {
         self.parent = parent;
     }
 
-    /// The last cookie that it gave, and 0 where it gave none.
+    /// The last cookie that it gave, and 0 if it gave none.
     pub(crate) fn last(&self) -> u64
         ensures { result ≡ self.now.last }
     {
@@ -102,7 +102,7 @@ impl Directory {
     }
 
     /// Gives the name to the object at a place, with the next cookie; what had the name loses it. When out of memory,
-    /// or where no cookie is left, it is as it was.
+    /// or if no cookie is left, it is as it was.
     pub(crate) fn put(&mut self, name: &Name, place: u32) -> Result<(), Memory>
         ensures ok { OnOk result (self.new ≡ with_row name.now place self.old) }
         ensures err { OnErr result (self.new ≡ self.old) }
@@ -127,7 +127,7 @@ impl Directory {
         Ok(())
     }
 
-    /// The name leaves, where it is there.
+    /// The name leaves, if it is there.
     pub(crate) fn remove(&mut self, name: &Name)
         ensures { self.new ≡ without_row name.now self.old }
     {

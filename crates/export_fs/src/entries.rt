@@ -88,7 +88,7 @@ impl Entries {
         Ok(())
     }
 
-    /// The entry of that cookie goes, where it is there.
+    /// The entry of that cookie goes, if it is there.
     #[tactic(auto, using(crate::proofs::Cookies::remove_at, crate::proofs::Cookies::rising_without))]
     pub(crate) fn take(&mut self, cookie: u64)
         ensures { self.new ≡ without_cookie cookie self.old }

@@ -30,7 +30,7 @@ use world_model::{Call, Path, Reply};
 use xdr_codec::Memory;
 
 /// A file system in memory, whose name is `/srv`. Whatever is done with it, each of its names is of an object that is
-/// there, and no time that it gave is above the number of its last change.
+/// there. No time that it gave is above the number of its last change.
 #[derive(Drop)]
 pub struct Export {
     tree: Tree,
@@ -83,9 +83,9 @@ impl Export {
         self.tree.execute(call)
     }
 
-    /// Executes a WRITE that breaks off: its first bytes, at most so many, are in the file as a change of their own, none
-    /// of them stable, and the reply has the status (RFC 1813, section 3.3.7). No bytes are no change. A call that
-    /// `execute` would refuse is answered as by `execute`. Memory means out of memory, and then nothing is changed.
+    /// Executes a WRITE that breaks off (RFC 1813, section 3.3.7). Its first bytes, at most so many, are in the file as a
+    /// change of their own, none of them stable. The reply has the status. No bytes are no change. A call that `execute`
+    /// would refuse is answered as by `execute`. Memory means out of memory, and then nothing is changed.
     ///
     /// Each call that has a spelling is what a server may do. What changes takes a stamp that was never given. The reply
     /// has a spelling.
@@ -102,7 +102,7 @@ impl Export {
     }
 
     /// Restarts: each file is left with its stable bytes, and the write verifier is new. It is false, and nothing is
-    /// changed, exactly where a file that changes has no number left, or where 4,294,967,295 restarts were made.
+    /// changed, exactly if a file that changes has no number left, or if 4,294,967,295 restarts were made.
     pub fn reboot(&mut self) -> bool
         ensures done { result ≡ may_restart self.old }
         ensures after { self.new ≡ (if may_restart self.old then after_restart self.old else self.old) }
@@ -112,7 +112,7 @@ impl Export {
         self.tree.reboot()
     }
 
-    /// So many bytes of a file from an offset become stable, as far as they are there, also those of a file that lost
+    /// So many bytes of a file from an offset become stable, as far as they are there. So do those of a file that lost
     /// its last name. A handle of no file changes nothing. Memory means out of memory, and then nothing is changed.
     pub fn flush(&mut self, file: &Handle, from: u64, len: u64) -> Result<(), Memory>
         ensures ok { OnOk result (self.new ≡ after_flush self.old file.now from len) }
@@ -124,8 +124,12 @@ impl Export {
     }
 
     /// Places a file with these bytes, all of them stable, or a directory at the end of the path, as one change. It is
-    /// false, and nothing is changed, exactly where the path is the root, its directory isn't there, the name is there
-    /// or is `.` or `..`, or no change has a number left. Memory means out of memory, and then nothing is changed.
+    /// false, and nothing is changed, exactly in these cases:
+    /// - the path is the root, or its directory isn't there;
+    /// - the name is there, or is `.` or `..`;
+    /// - no change has a number left.
+    ///
+    /// Memory means out of memory, and then nothing is changed.
     pub fn place(&mut self, path: &Path, file: Option<&[u8]>) -> Result<bool, Memory>
         ensures made { IfOk result (λ made. made ≡ is_some (placed self.old path.now (option_copied file.entry))) }
         ensures after { OnOk result (self.new ≡ unwrap_or (placed self.old path.now (option_copied file.entry)) self.old) }
@@ -134,14 +138,14 @@ impl Export {
         self.tree.place(path, file)
     }
 
-    /// The file handle of the object to which a path leads from the root. None exactly where it leads to none.
+    /// The file handle of the object to which a path leads from the root. None exactly if it leads to none.
     pub fn find(&self, path: &[Name]) -> Option<Handle>
         ensures { result ≡ findings.found self.now path.now }
     {
         self.tree.find(path)
     }
 
-    /// How many bytes a file has. None exactly where the handle is that of no file, or of one that is gone.
+    /// How many bytes a file has. None exactly if the handle is that of no file, or of one that is gone.
     pub fn file_size(&self, file: &Handle) -> Option<u64>
         ensures { result ≡ findings.file_size self.now file.now }
     {
@@ -162,7 +166,7 @@ impl Export {
         self.tree.made()
     }
 
-    /// The attributes of the object at a place, also where it is gone. None exactly where no object has the place.
+    /// The attributes of the object at a place, also if it is gone. None exactly if no object has the place.
     pub fn attr_made(&self, place: u32) -> Option<Attr>
         ensures { result ≡ option_map (attr_of place) (slice_get self.now.nodes place) }
     {
@@ -176,29 +180,29 @@ impl Export {
         self.tree.is_gone(place)
     }
 
-    /// The bytes of the file at a place as they are, also where it is gone; none of another object.
+    /// The bytes of the file at a place as they are, also if it is gone; none of another object.
     pub fn bytes_made(&self, place: u32) -> &[u8]
         ensures { result.now ≡ bytes_in (slice_get self.now.nodes place) }
     {
         self.tree.bytes_made(place)
     }
 
-    /// The bytes of the file at a place that a restart leaves, also where it is gone; none of another object.
+    /// The bytes of the file at a place that a restart leaves, also if it is gone; none of another object.
     pub fn stable_made(&self, place: u32) -> &[u8]
         ensures { result.now ≡ stable_in (slice_get self.now.nodes place) }
     {
         self.tree.stable_made(place)
     }
 
-    /// The text of the symbolic link at a place, also where it is gone. None exactly where it is no link.
+    /// The text of the symbolic link at a place, also if it is gone. None exactly if it is no link.
     pub fn text_made(&self, place: u32) -> Option<&[u8]>
         ensures { option_copied result ≡ text_in (slice_get self.now.nodes place) }
     {
         self.tree.text_made(place)
     }
 
-    /// The next entry after a cookie of the directory at a place, also where it is gone. None exactly where no entry
-    /// has a cookie above, or where it is no directory.
+    /// The next entry after a cookie of the directory at a place, also if it is gone. None exactly if no entry
+    /// has a cookie above, or if it is no directory.
     pub fn row_made(&self, place: u32, cookie: u64) -> Option<Row>
         ensures { MatchOption result (rows_after cookie (rows_in (slice_get self.now.nodes place)) ≡ []) (λ row. rows_after cookie (rows_in (slice_get self.now.nodes place)) ≡ row ∷ rows_after row.cookie (rows_in (slice_get self.now.nodes place))) }
     {

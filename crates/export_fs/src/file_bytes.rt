@@ -69,7 +69,7 @@ impl FileBytes {
         self.bytes.as_slice() == self.stable.as_slice()
     }
 
-    /// Fills the bytes with zeros up to a size, and where `firm` says so the stable ones too. When out of memory it
+    /// Fills the bytes with zeros up to a size, and if `firm` says so the stable ones too. When out of memory it
     /// is as it was.
     fn grow(&mut self, size: usize, firm: bool) -> Result<(), Memory>
         ensures ok { OnOk result (self.new ≡ record { bytes = filled size self.old.bytes; stable = if firm then filled size self.old.stable else self.old.stable }) }
@@ -98,8 +98,8 @@ impl FileBytes {
         Ok(())
     }
 
-    /// Puts bytes at an offset, and where `how` isn't 0 into the stable ones too (RFC 1813, section 3.3.7). After want
-    /// of memory, and where the end can't be counted, it is as it was.
+    /// Puts bytes at an offset, and if `how` isn't 0 into the stable ones too (RFC 1813, section 3.3.7). After want
+    /// of memory, and if the end can't be counted, it is as it was.
     #[tactic(auto, using(crate::proofs::Puts::put_filled))]
     pub(crate) fn write(&mut self, offset: usize, how: u32, bytes: &[u8]) -> Result<(), Memory>
         ensures ok { OnOk result (self.new ≡ record { bytes = put_at offset bytes.now self.old.bytes; stable = steady_after how offset bytes.now self.old.stable }) }
@@ -175,7 +175,7 @@ fn fill(bytes: &mut Vec<u8>, size: usize) -> Result<(), Memory>
     Ok(())
 }
 
-/// Puts others in place of the bytes from an offset, where they are long enough. It takes no memory.
+/// Puts others in place of the bytes from an offset, if they are long enough. It takes no memory.
 #[tactic(auto, using(crate::proofs::Puts::put_within))]
 fn paste(bytes: &mut Vec<u8>, offset: usize, others: &[u8])
     requires fits { offset + length others.now ≤ vec_len bytes.old }

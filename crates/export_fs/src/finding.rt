@@ -9,7 +9,7 @@ use crate::tree::Tree;
 use nfs_types::{Handle, Name};
 
 impl Tree {
-    /// The file handle of the object to which a path leads from the root. None exactly where it leads to none.
+    /// The file handle of the object to which a path leads from the root. None exactly if it leads to none.
     pub(crate) fn find(&self, path: &[Name]) -> Option<Handle>
         ensures { result ≡ found self.now path.now }
     {
@@ -19,7 +19,7 @@ impl Tree {
         }
     }
 
-    /// How many bytes a file has. None exactly where the handle is that of no file, or of one that is gone.
+    /// How many bytes a file has. None exactly if the handle is that of no file, or of one that is gone.
     pub(crate) fn file_size(&self, file: &Handle) -> Option<u64>
         ensures { result ≡ file_size self.now file.now }
     {

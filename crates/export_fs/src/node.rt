@@ -92,7 +92,7 @@ impl Holds {
         }
     }
 
-    /// The place of the object that has the name, where it is a directory.
+    /// The place of the object that has the name, if it is a directory.
     pub(crate) fn find(&self, name: &Name) -> Option<u32>
         ensures { result ≡ option_map (λ (row : Row). row.place) (find_row name.now (rows_of self.now)) }
     {
@@ -164,7 +164,7 @@ pub(crate) fn second(number: u32) -> Time
     }
 }
 
-/// A new object: what a call sets, and these permission bits where it sets none.
+/// A new object: what a call sets, and these permission bits if it sets none.
 fn made(mode: u32, nlink: u32, number: u32, set: &SetAttr, holds: Holds) -> Node
     ensures { result ≡ changes.made mode nlink number set.now holds }
 {
@@ -215,7 +215,7 @@ impl Node {
         made(0o644, 1, number, set, Holds::File(bytes))
     }
 
-    /// Its attributes, where it is at that place.
+    /// Its attributes, if it is at that place.
     pub(crate) fn attr(&self, place: u32) -> Attr
         ensures { result ≡ attr_of place self.now }
     {
@@ -279,7 +279,7 @@ impl Node {
         self.holds.commit(offset, count)
     }
 
-    /// A name enters, where it is a directory. When out of memory it is as it was.
+    /// A name enters, if it is a directory. When out of memory it is as it was.
     pub(crate) fn enter(&mut self, number: u32, name: &Name, place: u32) -> Result<(), Memory>
         ensures ok { OnOk result (self.new ≡ changes.entered number name.now place self.old) }
         ensures err { OnErr result (self.new ≡ self.old) }
@@ -290,7 +290,7 @@ impl Node {
         Ok(())
     }
 
-    /// A name leaves, where it is a directory.
+    /// A name leaves, if it is a directory.
     pub(crate) fn leave(&mut self, number: u32, name: &Name)
         ensures { self.new ≡ changes.left number name.now self.old }
     {
@@ -299,7 +299,7 @@ impl Node {
         self.ctime = number;
     }
 
-    /// It loses a name: a directory is gone then, and another object where that was its last name.
+    /// It loses a name: a directory is gone then, and another object if that was its last name.
     pub(crate) fn lose_name(&mut self)
         ensures { self.new ≡ changes.unnamed self.old }
     {

@@ -58,7 +58,7 @@ impl Nodes {
         }
     }
 
-    /// The object at a place, where one is given.
+    /// The object at a place, if one is given.
     pub(crate) fn at(&self, place: Option<u32>) -> Option<&Node>
         ensures { option_copied result ≡ at_place self.now place }
     {
@@ -82,7 +82,7 @@ impl Nodes {
         self.object(handle).is_none()
     }
 
-    /// The kind of the object at a place, and 0 where there is none.
+    /// The kind of the object at a place, and 0 if there is none.
     pub(crate) fn kind_at(&self, place: Option<u32>) -> u32
         ensures { result ≡ kind_at self.now place }
     {
@@ -92,7 +92,7 @@ impl Nodes {
         }
     }
 
-    /// The kind of the object under a file handle, and 0 where there is none.
+    /// The kind of the object under a file handle, and 0 if there is none.
     pub(crate) fn kind(&self, handle: &Handle) -> u32
         ensures { result ≡ kind self.now handle.now }
     {
@@ -213,7 +213,7 @@ impl Nodes {
     }
 }
 
-/// Changes of the object at a place, where one is given and there is one. When out of memory it is as it was.
+/// Changes of the object at a place, if one is given and there is one. When out of memory it is as it was.
 impl Nodes {
     /// SETATTR (RFC 1813, section 3.3.2).
     pub(crate) fn set_attr(
@@ -332,7 +332,7 @@ impl Nodes {
         }
     }
 
-    /// It moves into the directory at the place `parent`, where it is a directory.
+    /// It moves into the directory at the place `parent`, if it is a directory.
     pub(crate) fn move_into(&mut self, place: u32, parent: u32)
         ensures { self.new ≡ changes.changed (changes.moved parent) place self.old }
     {

@@ -52,8 +52,12 @@ impl Tree {
     }
 
     /// Places a file with these bytes, all of them stable, or a directory at the end of the path, as one change. It is
-    /// false, and nothing is changed, exactly where the path is the root, its directory isn't there, the name is there
-    /// or is `.` or `..`, or no change has a number left. Memory means out of memory, and then nothing is changed.
+    /// false, and nothing is changed, exactly in these cases:
+    /// - the path is the root, or its directory isn't there;
+    /// - the name is there, or is `.` or `..`;
+    /// - no change has a number left.
+    ///
+    /// Memory means out of memory, and then nothing is changed.
     pub(crate) fn place(&mut self, path: &Path, file: Option<&[u8]>) -> Result<bool, Memory>
         ensures made { IfOk result (λ made. made ≡ is_some (placings.placed self.old path.now (option_copied file.entry))) }
         ensures after { OnOk result (self.new ≡ unwrap_or (placings.placed self.old path.now (option_copied file.entry)) self.old) }

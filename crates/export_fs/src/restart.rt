@@ -33,7 +33,7 @@ fn restart_all(nodes: &mut [Node], counter: u32)
 
 impl Tree {
     /// Restarts: each file is left with its stable bytes, and the write verifier is new. It is false, and nothing is
-    /// changed, exactly where a file that changes has no number left, or where 4,294,967,295 restarts were made.
+    /// changed, exactly if a file that changes has no number left, or if 4,294,967,295 restarts were made.
     pub(crate) fn reboot(&mut self) -> bool
         ensures done { result ≡ restarts.may_restart self.old }
         ensures after { self.new ≡ (if restarts.may_restart self.old then restarts.after_restart self.old else self.old) }

@@ -24,14 +24,14 @@ impl Holds {
 }
 
 impl Nodes {
-    /// The object at a place, also where it is gone.
+    /// The object at a place, also if it is gone.
     pub(crate) fn made(&self, place: u32) -> Option<&Node>
         ensures { option_copied result ≡ slice_get self.now place }
     {
         self.list.as_slice().get(place as usize)
     }
 
-    /// The attributes of the object at a place, also where it is gone.
+    /// The attributes of the object at a place, also if it is gone.
     fn attr_made(&self, place: u32) -> Option<Attr>
         ensures { result ≡ option_map (attr_of place) (slice_get self.now place) }
     {
@@ -51,7 +51,7 @@ impl Nodes {
         }
     }
 
-    /// The bytes of the file at a place as they are, also where it is gone.
+    /// The bytes of the file at a place as they are, also if it is gone.
     fn bytes_made(&self, place: u32) -> &[u8]
         ensures { result.now ≡ bytes_in (slice_get self.now place) }
     {
@@ -61,7 +61,7 @@ impl Nodes {
         }
     }
 
-    /// The bytes of the file at a place that a restart leaves, also where it is gone.
+    /// The bytes of the file at a place that a restart leaves, also if it is gone.
     fn stable_made(&self, place: u32) -> &[u8]
         ensures { result.now ≡ stable_in (slice_get self.now place) }
     {
@@ -71,7 +71,7 @@ impl Nodes {
         }
     }
 
-    /// The text of the symbolic link at a place, also where it is gone.
+    /// The text of the symbolic link at a place, also if it is gone.
     fn text_made(&self, place: u32) -> Option<&[u8]>
         ensures { option_copied result ≡ text_in (slice_get self.now place) }
     {
@@ -81,7 +81,7 @@ impl Nodes {
         }
     }
 
-    /// The next entry after a cookie of the directory at a place, also where it is gone.
+    /// The next entry after a cookie of the directory at a place, also if it is gone.
     fn row_made(&self, place: u32, cookie: u64) -> Option<Row>
         ensures { MatchOption result (rows_after cookie (rows_in (slice_get self.now place)) ≡ []) (λ row. rows_after cookie (rows_in (slice_get self.now place)) ≡ row ∷ rows_after row.cookie (rows_in (slice_get self.now place))) }
     {
@@ -100,7 +100,7 @@ impl Tree {
         self.nodes.len()
     }
 
-    /// The attributes of the object at a place, also where it is gone.
+    /// The attributes of the object at a place, also if it is gone.
     pub(crate) fn attr_made(&self, place: u32) -> Option<Attr>
         ensures { result ≡ option_map (attr_of place) (slice_get self.now.nodes place) }
     {
@@ -114,28 +114,28 @@ impl Tree {
         self.nodes.is_gone(place)
     }
 
-    /// The bytes of the file at a place as they are, also where it is gone.
+    /// The bytes of the file at a place as they are, also if it is gone.
     pub(crate) fn bytes_made(&self, place: u32) -> &[u8]
         ensures { result.now ≡ bytes_in (slice_get self.now.nodes place) }
     {
         self.nodes.bytes_made(place)
     }
 
-    /// The bytes of the file at a place that a restart leaves, also where it is gone.
+    /// The bytes of the file at a place that a restart leaves, also if it is gone.
     pub(crate) fn stable_made(&self, place: u32) -> &[u8]
         ensures { result.now ≡ stable_in (slice_get self.now.nodes place) }
     {
         self.nodes.stable_made(place)
     }
 
-    /// The text of the symbolic link at a place, also where it is gone.
+    /// The text of the symbolic link at a place, also if it is gone.
     pub(crate) fn text_made(&self, place: u32) -> Option<&[u8]>
         ensures { option_copied result ≡ text_in (slice_get self.now.nodes place) }
     {
         self.nodes.text_made(place)
     }
 
-    /// The next entry after a cookie of the directory at a place, also where it is gone.
+    /// The next entry after a cookie of the directory at a place, also if it is gone.
     pub(crate) fn row_made(&self, place: u32, cookie: u64) -> Option<Row>
         ensures { MatchOption result (rows_after cookie (rows_in (slice_get self.now.nodes place)) ≡ []) (λ row. rows_after cookie (rows_in (slice_get self.now.nodes place)) ≡ row ∷ rows_after row.cookie (rows_in (slice_get self.now.nodes place))) }
     {

@@ -65,7 +65,7 @@ impl Tree {
         })
     }
 
-    /// The number of the next change. It is Memory where none is left, which no call meets: one that takes a number is
+    /// The number of the next change. It is Memory if none is left, which no call meets: one that takes a number is
     /// refused before.
     pub(crate) fn next_number(&self) -> Result<u32, Memory>
         ensures { IfOk result (λ number. number ≡ next self.now) }

@@ -85,7 +85,7 @@ fn print_reply(rt: &impl Print, reply: Result<Reply, Memory>) -> io::Result<()> 
     }
 }
 
-/// The call of the arguments, where there is such a procedure.
+/// The call of the arguments, if there is such a procedure.
 fn read(alloc: Global, kind: &str, proc: u32, args: &[u8]) -> Option<Result<Call, CodecFault>> {
     match kind {
         "file" => read_file(alloc, proc, args),

@@ -2,7 +2,7 @@
 
 use std::alloc::Global;
 
-/// The bytes of digits in hex, with or without spaces. None where they aren't digits of whole bytes, or out of memory.
+/// The bytes of digits in hex, with or without spaces. None if they aren't digits of whole bytes, or out of memory.
 pub fn bytes_of(alloc: Global, text: &str) -> Option<Vec<u8>> {
     let mut digits = String::new(alloc);
     for part in text.split(' ') {
@@ -11,7 +11,7 @@ pub fn bytes_of(alloc: Global, text: &str) -> Option<Vec<u8>> {
     hex::decode(alloc, digits.as_str()).ok()
 }
 
-/// The number of decimal digits; 0 where they aren't of a number below 2^32.
+/// The number of decimal digits; 0 if they aren't of a number below 2^32.
 pub fn number_of(text: &str) -> u32 {
     text.parse::<u32>().unwrap_or(0)
 }

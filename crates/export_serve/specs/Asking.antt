@@ -48,7 +48,7 @@ abbrev pub file_read : Result FileCall XdrFault → Option Call
 file_read (Ok call) = Some (calls.File call)
 file_read (Err fault) = None
 
--- the call of a procedure of a program that the arguments spell, where they spell one
+-- the call of a procedure of a program that the arguments spell, if they spell one
 abbrev pub arguments_at : ℕ → ℕ → List ℕ → Option Call
 arguments_at prog proc args =
     if prog == MOUNT_PROGRAM then mount_read (mount_call_at proc args) else
@@ -64,7 +64,7 @@ GivesCallOf (Err (faults.Xdr fault)) read = read ≡ None
 abbrev pub refused_as : ℕ → Refusal → Asked
 refused_as xid refusal = askings.Refuse xid (refusal_bytes xid refusal)
 
--- the call that the arguments spell, and a refusal where they spell none
+-- the call that the arguments spell, and a refusal if they spell none
 abbrev pub served_as : ℕ → Option Call → Asked
 served_as xid (Some call) = askings.Serve xid call
 served_as xid None = refused_as xid refusals.Arguments
@@ -95,7 +95,7 @@ asked_at bytes = read_asks bytes (call_at bytes)
 
 -- ---- what is spelled
 
--- what reading a call from a record gives, where the record is no call
+-- what reading a call from a record gives, if the record is no call
 abbrev pub IsNoCall : Result (CallHead × List ℕ) CallFault → Type 0
 IsNoCall (Ok call) = ⊥
 IsNoCall (Err Version) = ⊥

@@ -24,10 +24,13 @@ use std::alloc::Global;
 use world_model::Call;
 use xdr_codec::{CodecFault, Memory};
 
-/// What a record asks for. It is no call exactly where `read_call` answers NotCall or Xdr. A call is refused exactly
-/// where it is of another version of RPC than 2 (RPC_MISMATCH with 2 and 2), its program isn't served (PROG_UNAVAIL),
-/// it isn't of version 3 (PROG_MISMATCH with 3 and 3), its procedure isn't served (PROC_UNAVAIL), or its arguments
-/// aren't spelled (GARBAGE_ARGS): for the first of these that holds.
+/// What a record asks for. It is no call exactly if `read_call` answers NotCall or Xdr. A call is refused exactly if
+/// one of these holds, and for the first that does:
+/// - it is of another version of RPC than 2 (RPC_MISMATCH with 2 and 2);
+/// - its program isn't served (PROG_UNAVAIL);
+/// - it isn't of version 3 (PROG_MISMATCH with 3 and 3);
+/// - its procedure isn't served (PROC_UNAVAIL);
+/// - its arguments aren't spelled (GARBAGE_ARGS).
 pub fn asked(alloc: Global, rec: &[u8]) -> Result<Asked, Memory>
     ensures exact { IfOk result (λ a. a ≡ asked_at rec.now) }
     ensures no_call { IfOk result (λ a. a ≡ NoCall → IsNoCall (call_at rec.now)) }

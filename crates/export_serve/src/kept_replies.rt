@@ -14,8 +14,11 @@ const MOST: usize = 64;
 /// The record of a call that was executed, and the one of the reply to it.
 #[derive(Drop)]
 pub(crate) struct KeptReply {
+    /// The xid of both.
     pub xid: u32,
+    /// The record of the call.
     pub call: Blob,
+    /// The record of the reply.
     pub reply: Blob,
 }
 
@@ -47,7 +50,7 @@ impl KeptReplies {
         }
     }
 
-    /// The reply to an equal record; None exactly where none is kept.
+    /// The reply to an equal record; None exactly if none is kept.
     pub fn reply_to(&self, rec: &[u8]) -> Option<&Blob>
         ensures found { MatchOption result (reply_kept rec.now self.now ≡ None) (λ reply. reply_kept rec.now self.now ≡ Some reply.now) }
         ensures call { IfSome result (λ reply. IsExecuted rec.now) }

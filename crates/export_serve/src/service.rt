@@ -49,12 +49,12 @@ impl Service {
         }
     }
 
-    /// Answers a record; None exactly where it is no call. A record equal to one whose reply is kept executes nothing,
-    /// and that reply is the answer. Any other call is refused exactly where `asked` says so, or else executed, as one
+    /// Answers a record; None exactly if it is no call. A record equal to one whose reply is kept executes nothing,
+    /// and that reply is the answer. Any other call is refused exactly if `asked` says so, or else executed, as one
     /// step of a server, and its reply is kept.
     ///
-    /// When out of memory on a record whose reply wasn't kept, the export may have taken the step of that call, and
-    /// no reply to it is kept; all else is as it was.
+    /// If it runs out of memory on a record whose reply wasn't kept, the export may have taken the step of that call.
+    /// Then no reply to it is kept, and all else is as it was.
     pub fn serve(&mut self, rec: &[u8]) -> Result<Option<Blob>, Memory>
         ensures left { OnOk result (self.new ≡ (served rec.now self.old).0) }
         ensures answered { IfOk result (λ answer. answer ≡ (served rec.now self.old).1) }

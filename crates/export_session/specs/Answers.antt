@@ -20,7 +20,7 @@ answers_by None rec s = served rec s
 abbrev pub answers : ℕ → List ℕ → ServiceView → ServiceView × Option (List ℕ)
 answers port rec s = answers_by (answered port (call_at rec)) rec s
 
--- the answer, where there is one
+-- the answer, if there is one
 abbrev pub answer_to : ServingView → List ℕ → Option (List ℕ)
 answer_to s rec = (answers s.port rec s.service).1
 

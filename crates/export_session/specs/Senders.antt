@@ -35,8 +35,8 @@ pub record DoesAll (old new : Option DatagramsTold) (P : List DatagramEntry → 
 
 -- ---- one datagram
 
--- A turn, from what is served to what is served after it. Each datagram that is sent is the answer to the one that came just before it,
--- by what is served at that moment, and goes to the port that this came from; and a call that no reply is kept of is one step of a server.
+-- A turn, from what is served to what is served after it. Each datagram that is sent is the answer to the one that came just before it, by
+-- what is served at that moment. It goes to the port that this came from. A call that no reply is kept of is one step of a server.
 pub data Turn (s t : ServingView) (es : List DatagramEntry) : Type 0 where
   -- nothing came
   silent : es ≡ Missed ∷ [] → t ≡ s → Turn s t es

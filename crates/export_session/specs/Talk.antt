@@ -71,7 +71,7 @@ pub record TalksOut (s t : ServingView) (es : List Entry) : Type 0 where
   pub talks : Talks s before between
   pub out : RunsOut between t last
 
--- by how serving ends: None where the link failed or was silent, or where no more is waited for
+-- by how serving ends: None if the link failed or was silent, or if no more is waited for
 abbrev pub TalksTo : Option End → ServingView → ServingView → List Entry → Type 0
 TalksTo None s t es = Talks s es t
 TalksTo (Some Served) s t es = Talks s es t

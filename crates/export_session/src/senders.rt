@@ -15,8 +15,10 @@ use outside::{Arrived, Datagrams, LinkFault};
 const MOST_MISSED: u32 = 65_536;
 
 impl Serving {
-    /// Serves whoever sends datagrams. It ends well once the calls were answered, and else after 65,536 waits that failed or
-    /// were silent and replies that couldn't be sent, after as many records that are no call, or by lack of memory.
+    /// Serves whoever sends datagrams. It ends well once the calls were answered, and else
+    /// - after 65,536 waits that failed or were silent, and replies that couldn't be sent;
+    /// - after as many records that are no call;
+    /// - by lack of memory.
     pub fn serve_datagrams<D: Datagrams>(&mut self, datagrams: &mut D) -> End
         ensures talks { DoesAll (D.told datagrams.old) (D.told datagrams.new) (TalksTo (Some result) self.old self.new) }
         ensures served { result ≡ Served → self.new.calls ≡ 0 }

@@ -49,7 +49,7 @@ impl Serving {
         }
     }
 
-    /// The answer to a record: of the port mapper, or else of the service. None where the record is no call.
+    /// The answer to a record: of the port mapper, or else of the service. None if the record is no call.
     pub(crate) fn reply_to(&mut self, rec: &[u8]) -> Result<Option<Blob>, Memory>
         ensures answers { IfOk result (λ reply. reply ≡ answer_to self.old rec.now) }
         ensures serves { OnOk result (self.new ≡ serves self.old rec.now) }

@@ -160,8 +160,8 @@ pub record ReadsView : Type 0 where
 
 -- ---- a copy from the server that is under way
 
--- The path that is copied, and whether something wasn't copied. The lines of files, and the files of the script that was sent. Whether the target took what came
--- so far of the file that goes on.
+-- The path that is copied, and whether something wasn't copied. The lines of files, and the files of the script that was sent. Whether the target took what
+-- came so far of the file that goes on.
 pub record DownloadView : Type 0 where
   pub from : List (List ℕ)
   pub wrong : Bool

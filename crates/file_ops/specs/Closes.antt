@@ -140,7 +140,7 @@ pub record TakesOne (wsize lane slot : ℕ) (sent turn : Turn) (came : Result Re
   pub others : took ≡ record old { attrs = took.attrs; back = took.back; pages = took.pages; repeats = took.repeats }
   pub follows : Follows gives lane slot turn.room true saved took next state new
 
--- what follows the reply to the REMOVE: it is made again where the server is busy, or the close ends
+-- what follows the reply to the REMOVE: it is made again if the server is busy, or the close ends
 pub record RemovesAgain (removal : Removal) (old : Shelf) (next : Step) (state : Closing) (new : Shelf) : Type 0 where
   pub next_is : next ≡ nexts.Send (remove_of removal)
   pub state_is : state ≡ Removing removal

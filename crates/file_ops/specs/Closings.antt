@@ -1,5 +1,7 @@
--- What a close does once what was pending of its file was made stable, or wasn't: the slot is free, a file that was to be removed at
--- its last close is removed, and bytes that were refused are given up where the file isn't open any more.
+-- What a close does once what was pending of its file was made stable, or wasn't:
+-- - the slot is free;
+-- - a file that was to be removed at its last close is removed;
+-- - bytes that were refused are given up if the file isn't open any more.
 use Rattle.std.specs.Prelude.{◌≡◌, ◌≤◌, ◌==◌, ℕ, Bool, true, false, not, ◌&&◌, if◌then◌else◌, List, Option, Some, None, Result, Ok, Err, MatchBool}
 use Rattle.std.specs.FinMap as map
 use Rattle.std.specs.Ordering.{nat_cmp}
@@ -30,7 +32,7 @@ Places = map.FinMap (slice_cmp nat_cmp) (List ℕ × List ℕ)
 abbrev pub TellsOpen : Opens → List ℕ → Bool → Type 0
 TellsOpen opens file is_open = MatchBool is_open (IsOpen opens file) (¬ IsOpen opens file)
 
--- The place that a file has is told, once, where the file isn't open any more.
+-- The place that a file has is told, once, if the file isn't open any more.
 pub record TellsPlace (file : List ℕ) (opens : Opens) (old : Places) (place : Option (List ℕ × List ℕ)) (new : Places) : Type 0 where
   pub is_open : Bool
   pub told : TellsOpen opens file is_open
@@ -41,7 +43,7 @@ pub record TellsPlace (file : List ℕ) (opens : Opens) (old : Places) (place : 
 abbrev pub remove_of : Removal → Call
 remove_of removal = calls.Dir (Remove removal.dir removal.name)
 
--- the attributes of the directory after a REMOVE, done or refused, where its reply gives them
+-- the attributes of the directory after a REMOVE, done or refused, if its reply gives them
 abbrev pub removed_by : DirKept → Option Attr
 removed_by (kept.Remove wcc) = wcc.after
 removed_by (kept.RemoveFail status wcc) = wcc.after
@@ -62,7 +64,7 @@ remove_busy (Ok (replies.Dir reply)) = busy_by reply
 remove_busy (Ok reply) = false
 remove_busy (Err fault) = false
 
--- Bytes of a file that isn't open are given up. Where some are in flight, which never is so, all stay.
+-- Bytes of a file that isn't open are given up. If some are in flight, which never is so, all stay.
 abbrev pub GivesIf : Bool → List ℕ → Pending → Pending → Type 0
 GivesIf true file old new = OnFile old new file nothing
 GivesIf false file old new = new ≡ old

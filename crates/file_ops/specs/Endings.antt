@@ -1,4 +1,4 @@
--- How many of its calls an operation may still ask for in vain: where such a call can't be made, the operation takes a refusal in its
+-- How many of its calls an operation may still ask for in vain: if such a call can't be made, the operation takes a refusal in its
 -- place, and either has its answer or has fewer left.
 use Rattle.std.specs.Prelude.{ℕ, ◌+◌, Option, Some, None}
 use Rattle.world_model.specs.declared.answer.Fault.{Fault}

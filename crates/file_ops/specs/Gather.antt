@@ -31,7 +31,7 @@ abbrev pub base_with : Option (List ℕ) → Bytes → Bytes
 base_with None base = base
 base_with (Some bytes) base = with_more bytes base
 
--- The next page is taken where it is kept; the bytes end where all pages are there, or the file is known to end.
+-- The next page is taken if it is kept; the bytes end if all pages are there, or the file is known to end.
 abbrev pub taken : List ℕ → Bytes → Pages → Gathered
 taken file base pages =
     if is_whole base || is_past (known_of file pages) (place_after base) then record { found = Ended; base = base; pages = pages } else record {

@@ -40,7 +40,7 @@ commit_told (Ok (replies.File reply)) = commit_told_by reply
 commit_told (Ok reply) = Err (Bad 2)
 commit_told (Err fault) = Err fault
 
--- the attributes after a WRITE or a COMMIT, done or refused, where its reply gives them
+-- the attributes after a WRITE or a COMMIT, done or refused, if its reply gives them
 abbrev pub after_by : FileKept → Option Attr
 after_by (files.Write wcc count committed verf) = wcc.after
 after_by (files.WriteFail status wcc) = wcc.after

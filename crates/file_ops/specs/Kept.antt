@@ -4,7 +4,7 @@ use Rattle.nfs_types.specs.declared.wcc.Stamp.{Stamp}
 use Rattle.page_cache.specs.Bytes.{start_of}
 use Rattle.page_cache.specs.Pages.{Pages, keep_answer, after_keep}
 
--- the bytes that a reply told from the start of a page on, where they begin at a place that isn't after it
+-- the bytes that a reply told from the start of a page on, if they begin at a place that isn't after it
 abbrev pub told_of : ℕ → List ℕ → ℕ → Option (List ℕ)
 told_of place bytes index = if nat_lt (start_of index) place then None else Some (drop (start_of index - place) bytes)
 
@@ -16,7 +16,7 @@ is_given told ends = nat_le 4096 (length told) || (ends && nat_lt 0 (length told
 unfoldable pub kept_page : List ℕ → Stamp → ℕ → ℕ → List ℕ → Pages → Pages
 kept_page file stamp sent index page pages = after_keep (keep_answer file stamp sent pages) stamp (record { file = file; index = index }) page pages
 
--- the same where the reply gave it
+-- the same if the reply gave it
 abbrev pub offered_told : List ℕ → Stamp → ℕ → Bool → ℕ → Option (List ℕ) → Pages → Pages
 offered_told file stamp sent ends index None pages = pages
 offered_told file stamp sent ends index (Some told) pages = if is_given told ends then kept_page file stamp sent index (take 4096 told) pages else pages

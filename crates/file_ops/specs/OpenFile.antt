@@ -24,7 +24,7 @@ use Rattle.file_ops.specs.Opening.{go_next, go_after, opening_again, opening_aft
 abbrev pub place_of : OpenFile → Place
 place_of m = (m.lane, m.slot)
 
--- it went well, without a value
+-- it succeeded, without a value
 abbrev pub well : Step
 well = Done (answers.Done values.Nothing)
 
@@ -42,7 +42,7 @@ goes_as (steps.Ended (Err fault)) = refused fault
 abbrev pub begun : OpenFile → Turn → OpenFile
 begun m turn = record m { opening = record m.opening { moment = turn.moment - 1 } }
 
--- the machine after its opening asked for a call, where there was room
+-- the machine after its opening asked for a call, if there was room
 abbrev pub gone : OpenFile → Turn → OpenFile
 gone m turn = record m { opening = go_after m.opening turn }
 
@@ -75,7 +75,7 @@ abbrev pub Follows : OpenFile → OpeningStep → Step → Opens → Opens → T
 Follows m (steps.Ended (Ok file)) next old new = Puts (place_of m) (opened_of m.opening file) next old new
 Follows m step next old new = (next ≡ goes_as step) × (new ≡ old)
 
--- the machine after a reply: where the call is made again, it stays as it is
+-- the machine after a reply: if the call is made again, it stays as it is
 abbrev pub took_after : Bool → OpenFile → Turn → Result Reply Fault → Attrs → Pages → OpenFile
 took_after again m turn reply attrs pages = record m { opening = opening_after again m.opening turn (led_on m.opening turn.now reply attrs pages) }
 

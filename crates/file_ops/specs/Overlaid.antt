@@ -11,7 +11,7 @@ abbrev pub listed : (ℕ → ℕ) → ℕ → List ℕ
 listed f zero = []
 listed f (suc n) = listed f n ++ f n ∷ []
 
--- the byte at a place, or another where there is none
+-- the byte at a place, or another if there is none
 abbrev pub byte_or : List ℕ → ℕ → ℕ → ℕ
 byte_or bytes at other = unwrap_or (slice_get bytes at) other
 
@@ -39,7 +39,7 @@ abbrev pub AreEven : Option PendingBytes → Type 0
 AreEven None = ⊤
 AreEven (Some kept) = length kept.lows ≡ length kept.highs
 
--- a byte where it is like another, or else a third one
+-- a byte if it is like another, or else a third one
 abbrev pub alike_or : ℕ → ℕ → ℕ → ℕ
 alike_or low high other = if low == high then low else other
 

@@ -16,7 +16,7 @@ no_wcc = record { before = None; after = None }
 abbrev pub is_late : List ℕ → ℕ → Pages → Bool
 is_late file sent pages = option_map_or (λ mark. nat_le sent mark) (mark_of file pages) false
 
--- the file is opened in the state that GETATTR showed, or in no known state where that is too old
+-- the file is opened in the state that GETATTR showed, or in no known state if that is too old
 abbrev pub opened_pages : List ℕ → Attr → ℕ → Turn → Turn → Pages → Pages
 opened_pages file attr moment sent turn pages =
     if is_late file sent.moment pages then wrote file no_wcc 0 [] (turn.moment - 1) pages else opened file (stamp_of attr) moment pages

@@ -1,5 +1,4 @@
--- A put, step by step: its file is opened to be written, its bytes become pending as those of a write do, and what is pending of the
--- file is made stable.
+-- A put, step by step. Its file is opened to be written. Its bytes become pending as those of a write do. What is pending of the file is made stable.
 use Rattle.std.specs.Prelude.{◌≡◌, ℕ, ◌-◌, Bool, true, false, not, ◌||◌, List, Option, Some, Result, Ok, Err}
 use Rattle.std.specs.List.{list_any}
 use Rattle.world_model.specs.declared.answer.Fault.{Fault}
@@ -44,12 +43,12 @@ pub record Waits (state : Putting) (old : Shelf) (next : Step) (after : Putting)
   pub state_is : after ≡ state
   pub shelf_is : new ≡ old
 
--- Refused bytes stay where another put is at the file, or where this one isn't the first in its order: then it wasn't its own save that was refused, but
+-- Refused bytes stay if another put is at the file, or if this one isn't the first in its order: then it wasn't its own save that was refused, but
 -- room for its bytes, and what is pending of the file came from others.
 abbrev pub keeps_refused : ℕ → List ℕ → List LaneFile → List LaneFile → Bool
 keeps_refused lane file places order = list_any (is_other lane file) places || not (is_first lane order)
 
--- Where they don't stay, refused bytes of a file that isn't open are given up.
+-- If they don't stay, refused bytes of a file that isn't open are given up.
 abbrev pub GivesUpAlone : Bool → Option Fault → List ℕ → Opens → Pending → Pending → Type 0
 GivesUpAlone true refusal file opens old new = new ≡ old
 GivesUpAlone false refusal file opens old new = GivesUpBy refusal file opens old new

@@ -123,7 +123,7 @@ refused fault = Done (answers.Refused fault)
 abbrev pub shown_next : List ℕ → Step
 shown_next bytes = Done (answers.Done (values.Bytes bytes))
 
--- What it comes to where it has ended, or else waits. The answer takes no memory that it didn't take when it began.
+-- What it comes to if it has ended, or else waits. The answer takes no memory that it didn't take when it began.
 abbrev pub Stays : Phase → Reading → Pending → Step → Type 0
 Stays phases.Attrs r back next = next ≡ Wait
 Stays phases.AskedAttrs r back next = next ≡ Wait
@@ -141,7 +141,7 @@ answered phases.Rest r = r
 answered (phases.Asked count) r = r
 answered phases.Ended r = record r { space = 0 }
 
--- It makes a call where it is to and there is room.
+-- It makes a call if it is to and there is room.
 abbrev pub asks : Bool → State → Bool
 asks room s = room && wants s.reading.phase
 

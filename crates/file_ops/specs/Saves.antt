@@ -67,7 +67,7 @@ first_of (Some first) fault = first
 abbrev pub with_refusal : Fault → Saving → Saving
 with_refusal fault s = record s { refusal = Some (first_of s.refusal fault) }
 
--- It may send in a phase of transmission, where there is room and fewer than 32 of its calls wait.
+-- It may send in a phase of transmission, if there is room and fewer than 32 of its calls wait.
 abbrev pub may_send : Bool → Saving → Bool
 may_send room s = room && is_sending s.phase && nat_lt s.waiting 32
 
@@ -78,7 +78,7 @@ write_of file piece = calls.File (Write file piece.offset piece.how piece.bytes)
 abbrev pub commit_of : List ℕ → Call
 commit_of file = calls.File (Commit file 0 0)
 
--- Nothing is left to send: it waits for its own WRITEs; it is done where the reply to one, which counts all its bytes, made the last
+-- Nothing is left to send: it waits for its own WRITEs; it is done if the reply to one, which counts all its bytes, made the last
 -- lost byte stable; else it asks for a COMMIT.
 abbrev pub next_sent : Bool → Saving → SavingStep
 next_sent by_reply s = if nat_lt 0 s.waiting then Wait else if is_again s.phase && by_reply then Ended (Ok tt) else Send (commit_of s.file)
@@ -103,14 +103,14 @@ SendsRun xid by_reply [] s back next new after = Leads (next_sent by_reply s) (s
 SendsRun xid by_reply (e ∷ es) s back next new after =
     Leads (Send (write_of s.file (piece_of xid e (e ∷ es)))) (record s { waiting = s.waiting + 1 }) next new × PutsPiece xid s.upto (e ∷ es) back after s.file
 
--- Where there is no memory for a call it waits for the replies to its others, and is refused where none waits.
+-- If there is no memory for a call it waits for the replies to its others, and is refused if none waits.
 abbrev pub Lacks : Saving → Pending → SavingStep → Saving → Pending → Type 0
 Lacks s back next new after = Leads (refused_next s.waiting Memory) s next new × (after ≡ back)
 
 abbrev pub Sends : ℕ → Bool → Segments → Saving → Pending → SavingStep → Saving → Pending → Type 0
 Sends xid by_reply run s back next new after = SendsRun xid by_reply run s back next new after ⊎ Lacks s back next new after
 
--- It sends where it may, and waits else.
+-- It sends if it may, and waits else.
 abbrev pub SendsIf : Bool → ℕ → Bool → Segments → Saving → Pending → SavingStep → Saving → Pending → Type 0
 SendsIf true xid by_reply run s back next new after = Sends xid by_reply run s back next new after
 SendsIf false xid by_reply run s back next new after = Leads Wait s next new × (after ≡ back)
@@ -194,7 +194,7 @@ pub record TakesWrite (wsize asked xid : ℕ) (room : Bool) (told : WriteTold) (
   pub counted : counts ≡ counts_whole asked s.file told back
   pub goes : Goes wsize xid room counts (refused_by refusal s) between next new after
 
--- It is done where all is stable; else what may be lost is sent again.
+-- It is done if all is stable; else what may be lost is sent again.
 abbrev pub Decides : Verdict → ℕ → ℕ → Bool → Saving → Pending → SavingStep → Saving → Pending → Type 0
 Decides AllStable wsize xid room s back next new after = Leads (Ended (Ok tt)) s next new × (after ≡ back)
 Decides (SendAgain count) wsize xid room s back next new after = Goes wsize xid room false (record s { phase = Resending }) back next new after
@@ -230,12 +230,12 @@ told_busy (Fails fault) = false
 abbrev pub may_again : Bool → Saving → Bool
 may_again busy s = busy && is_none s.refusal
 
--- the call of a piece, once more, where there is memory for it
+-- the call of a piece, once more, if there is memory for it
 abbrev pub CopiesPiece : Option Sent → List ℕ → Option Call → Type 0
 CopiesPiece None file call = call ≡ None
 CopiesPiece (Some piece) file call = (call ≡ Some (write_of file piece)) ⊎ (call ≡ None)
 
--- The WRITE goes on under another xid with the bytes that it has, so that as many are pending as before, or is refused once it was made
+-- The WRITE goes on under another xid with the bytes that it has, so that as many are pending as before. It is refused once it was made
 -- again too often.
 abbrev pub RepeatsWrite : Bool → ℕ → Turn → Turn → WriteTold → Saving → Pending → SavingStep → Saving → Pending → Type 0
 RepeatsWrite true wsize sent turn told s back next new after =

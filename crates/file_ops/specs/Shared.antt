@@ -1,4 +1,4 @@
--- Bytes of a file that an answer shares.
+-- Bytes of a file that are shared.
 use Rattle.std.specs.Prelude.{ℕ, ◌≤◌, List, length, Option, None, Some}
 
 -- Either there is room for all bytes that there may be, or these are all there and shared.

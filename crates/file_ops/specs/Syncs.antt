@@ -1,5 +1,5 @@
--- A sync, step by step: it takes its place in the order of its file, and when its turn has come, what was pending of the file at its
--- start is made stable (RFC 1813, sections 3.3.7 and 3.3.21).
+-- A sync, step by step (RFC 1813, sections 3.3.7 and 3.3.21). It takes its place in the order of its file. When its turn has come,
+-- what was pending of the file at its start is made stable.
 use Rattle.std.specs.Prelude.{◌≡◌, ℕ, ◌-◌, Bool, true, false, List, Option, Some, None, Result, Ok, Err}
 use Rattle.client_shelf.specs.declared.lane_files.LaneFile.{LaneFile}
 use Rattle.client_shelf.specs.declared.shelf.Shelf.{Shelf}

@@ -15,7 +15,7 @@ found_by (Ok (Dir (dirs.LookupFail status dir))) = Err (Nfs status.0)
 found_by (Ok reply) = Err (Bad 2)
 found_by (Err fault) = Err fault
 
--- the file that CREATE made, where it gives the file handle
+-- the file that CREATE made, if it gives the file handle
 abbrev pub made_by : Result Reply Fault → Result (Option (List ℕ)) Fault
 made_by (Ok (Dir (dirs.Create found attr wcc))) = Ok found
 made_by (Ok (Dir (dirs.CreateFail status wcc))) = Err (Nfs status.0)

@@ -1,5 +1,5 @@
--- A truncate, step by step: it takes its place in the order of its file, and asks for the size when its turn has come and
--- nothing of the file is in flight (RFC 1813, section 3.3.2).
+-- A truncate, step by step (RFC 1813, section 3.3.2). It takes its place in the order of its file. It asks for the size when its turn has come and
+-- nothing of the file is in flight.
 use Rattle.std.specs.Prelude.{◌≡◌, ℕ, ◌-◌, List, [], Bool, true, false, ◌&&◌, if◌then◌else◌, Option, Some, None, Result, Ok, Err}
 use Rattle.nfs_types.specs.declared.set_attr.SetTime.TheVariants.{Keep}
 use Rattle.nfs_types.specs.declared.attr.Attr.{Attr}
@@ -78,7 +78,7 @@ started_state machine turn shelf = begun_state (found_file machine shelf) machin
 abbrev pub started_shelf : TruncateFile → Shelf → Shelf
 started_shelf machine shelf = begun_shelf (found_file machine shelf) machine shelf
 
--- It goes on where it waits for its turn.
+-- It goes on if it waits for its turn.
 abbrev pub resumed_next : Truncating → TruncateFile → Turn → Shelf → Step
 resumed_next Idle machine turn shelf = Wait
 resumed_next (Queued file upto) machine turn shelf = queued_next machine file turn shelf
@@ -121,12 +121,12 @@ abbrev pub leaves_pages : Fault → Bool
 leaves_pages (faults.Nfs status) = true
 leaves_pages fault = is_unmade fault
 
--- Kept pages follow the new size, and may be dropped where it wasn't set.
+-- Kept pages follow the new size, and may be dropped if it wasn't set.
 abbrev pub told_pages : Result Wcc Fault → List ℕ → ℕ → ℕ → pages.Pages → pages.Pages
 told_pages (Ok wcc) file size moment c = pages.cut file wcc size moment c
 told_pages (Err fault) file size moment c = if leaves_pages fault then c else pages.wrote file untold 0 [] moment c
 
--- Pending bytes that are older than the truncate go from the new end on; where some are in flight, which never is so, all stay.
+-- Pending bytes that are older than the truncate go from the new end on; if some are in flight, which never is so, all stay.
 abbrev pub CutsQuiet : Bool → List ℕ → ℕ → ℕ → Pending → Pending → Type 0
 CutsQuiet true file size upto old new = OnFile old new file (with_cut size upto (of_file file old))
 CutsQuiet false file size upto old new = new ≡ old
@@ -158,7 +158,7 @@ ended_next again machine file came = if again then Send (size_call file machine.
 abbrev pub ended_state : Bool → Truncating → Truncating
 ended_state again state = if again then state else Idle
 
--- A reply means nothing where it asked for none.
+-- A reply means nothing if it asked for none.
 abbrev pub took_next : Truncating → TruncateFile → Result Reply Fault → Turn → Turn → List Repeat → Step
 took_next Idle machine came sent turn repeats = Wait
 took_next (Queued file upto) machine came sent turn repeats = Wait

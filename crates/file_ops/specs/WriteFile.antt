@@ -1,4 +1,4 @@
--- A write or a fill, step by step: its bytes become pending. Where there is no room for them, the file with the oldest pending byte is
+-- A write or a fill, step by step: its bytes become pending. If there is no room for them, the file with the oldest pending byte is
 -- made stable first.
 use Rattle.std.specs.Prelude.{◌≡◌, ◌≤◌, ◌⊎◌, ℕ, ◌+◌, ◌-◌, List, [], length, replicate, Bool, true, false, Result, Ok, Err}
 use Rattle.world_model.specs.declared.answer.Fault.{Fault}
@@ -131,7 +131,7 @@ StartsAt (Ok file) wsize machine turn shelf next new after =
 abbrev pub Starts : ℕ → WriteFile → Turn → Shelf → Step → WriteFile → Shelf → Type 0
 Starts wsize machine turn shelf next new after = StartsAt (file_to_write machine.lane machine.slot shelf.opens) wsize machine turn shelf next new after
 
--- It goes on where it makes room.
+-- It goes on if it makes room.
 abbrev pub ResumesIn : Writing → ℕ → ℕ → Turn → Shelf → Step → Writing → Shelf → Type 0
 ResumesIn Idle wsize lane turn shelf next new after = Leads Wait Idle shelf next new after
 ResumesIn (Room file saving) wsize lane turn shelf next new after = SavesInTurn wsize lane file saving turn shelf next new after
@@ -156,7 +156,7 @@ pub record TakesSave (wsize : ℕ) (machine : WriteFile) (sent turn : Turn) (cam
   pub follows : Follows told wsize machine file saved turn (record shelf
       { attrs = attrs; pages = pages_after sent.xid (turn.moment - 1) came saving shelf.back shelf.pages; back = back; repeats = repeats }) next new after
 
--- What comes where it asked for nothing means nothing.
+-- What comes if it asked for nothing means nothing.
 abbrev pub TakesIn : Writing → ℕ → WriteFile → Turn → Turn → Result Reply Fault → Shelf → Step → Writing → Shelf → Type 0
 TakesIn Idle wsize machine sent turn came shelf next new after = Leads Wait Idle shelf next new after
 TakesIn (Room file saving) wsize machine sent turn came shelf next new after = TakesSave wsize machine sent turn came file saving shelf next new after

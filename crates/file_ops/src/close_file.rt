@@ -160,7 +160,7 @@ impl CloseFile {
         self.go(saving, false, alloc, wsize, turn, shelf)
     }
 
-    /// Its save goes on where it is the first at its file.
+    /// Its save goes on if it is the first at its file.
     fn go_on(
         &mut self,
         saving: Saving,
@@ -293,7 +293,7 @@ impl CloseFile {
         }
     }
 
-    /// After the REMOVE, whatever came of it; it is made again where the server is busy.
+    /// After the REMOVE, whatever came of it; it is made again if the server is busy.
     fn take_removal(
         &mut self,
         removal: &Removal,

@@ -35,7 +35,7 @@ pub struct Removal {
     pub refusal: Option<Fault>,
 }
 
-/// The place of a file that is to be removed, where it isn't open any more.
+/// The place of a file that is to be removed, if it isn't open any more.
 pub(crate) fn last_place(
     file: &Handle,
     opens: &OpenFiles,
@@ -59,7 +59,7 @@ pub(crate) fn remove_of(removal: &Removal) -> Call
     })
 }
 
-/// After a REMOVE the names of its directory are dropped, and its attributes are new or forgotten. All stays where the call
+/// After a REMOVE the names of its directory are dropped, and its attributes are new or forgotten. All stays if the call
 /// couldn't be made.
 pub(crate) fn note_removal(
     dir: &Handle,
@@ -78,7 +78,7 @@ pub(crate) fn note_removal(
     renew(attrs, dir, &removed_of(came), now);
 }
 
-/// The attributes of the directory after a REMOVE, where the reply gives them.
+/// The attributes of the directory after a REMOVE, if the reply gives them.
 pub(crate) fn removed_of(came: &Came<'_>) -> Option<Attr>
     ensures { result ≡ removed_of (reply_of came.now) }
 {

@@ -9,7 +9,7 @@ use nfs_types::{Handle, Wcc};
 use page_cache::PageCache;
 use world_model::Fault;
 
-/// The call failed: the pages are dropped, since it isn't known what the file has now. They stay where the call couldn't be
+/// The call failed: the pages are dropped, since it isn't known what the file has now. They stay if the call couldn't be
 /// made.
 pub(crate) fn note_failed(file: &Handle, fault: &Fault, moment: u64, pages: &mut PageCache)
     ensures { pages.new ≡ pages_failed file.now moment fault.now pages.old }

@@ -70,7 +70,7 @@ fn written_by(how: u32, size: usize, wcc: Wcc, count: u32, committed: u32, verf:
     }
 }
 
-/// What came of a COMMIT: its verifier where it was done.
+/// What came of a COMMIT: its verifier if it was done.
 pub(crate) fn commit_told(came: &Came<'_>) -> Result<Verf, Fault>
     ensures { result ≡ commit_told (reply_of came.now) }
 {
@@ -91,7 +91,7 @@ fn commit_told_by(reply: &FileReply<'_>) -> Result<Verf, Fault>
     }
 }
 
-/// The attributes of the file after a WRITE or a COMMIT, where the reply gives them.
+/// The attributes of the file after a WRITE or a COMMIT, if the reply gives them.
 pub(crate) fn after_of(came: &Came<'_>) -> Option<Attr>
     ensures { result ≡ after_of (reply_of came.now) }
 {

@@ -1,8 +1,9 @@
 //! What holds of every step of an operation on files. Facts for proofs: these functions do nothing.
 //!
 //! A step that no reply made possible and that waits, though there is room for a call, changes neither the operation nor the
-//! shelf. And each step leaves what the next one needs: the next number of a write is above those of all pending bytes, and
-//! nothing is in flight under the next xid or a later one.
+//! shelf. And each step leaves what the next one needs:
+//! - the next number of a write is above those of all pending bytes;
+//! - nothing is in flight under the next xid or a later one.
 
 ghost use Rattle.file_ops.specs.Laws.{PutResumesReady, PutTakesReady, TruncateTakesReady, ReadWaitsStill, SyncStartsReady, SyncResumesReady, SyncTakesReady, CloseStartsReady, CloseResumesReady, CloseTakesReady, WriteStartsReady, WriteResumesReady, WriteTakesReady, SyncWaitsStill, WriteWaitsStill, CloseWaitsStill, PutWaitsStill, OpenWaitsStill, TruncateWaitsStill};
 

@@ -46,7 +46,7 @@ pub(crate) fn note_look_up(
 }
 
 /// Of CREATE: the attributes of the file whose handle it gave, and those of the directory, whose names are dropped. All stays
-/// where the call couldn't be made.
+/// if the call couldn't be made.
 pub(crate) fn note_create(
     dir: &Handle,
     came: &Came<'_>,

@@ -7,7 +7,7 @@ use crate::base::PAGE;
 use nfs_types::{Handle, Stamp};
 use page_cache::PageCache;
 
-/// Offers each page that a reply gave whole, or up to the file's end where its bytes end there. It told bytes from a place
+/// Offers each page that a reply gave whole, or up to the file's end if its bytes end there. It told bytes from a place
 /// on, and the file's state.
 pub(crate) fn offer_all(
     pages: &mut PageCache,
@@ -51,7 +51,7 @@ fn offer(
     );
 }
 
-/// The bytes that a reply told from the start of a page on; it told bytes from a place on. None where the page begins
+/// The bytes that a reply told from the start of a page on; it told bytes from a place on. None if the page begins
 /// before that place.
 fn told_of(place: u64, bytes: &[u8], index: u64) -> Option<&[u8]>
     ensures { option_map (λ told. told.now) result ≡ told_of place bytes.now index }
@@ -64,7 +64,7 @@ fn told_of(place: u64, bytes: &[u8], index: u64) -> Option<&[u8]>
     Some(&bytes[skip..])
 }
 
-/// Offers a page of which these bytes were told, if there are any, where they are all of it.
+/// Offers a page of which these bytes were told, if there are any and they are all of it.
 fn offer_told(
     pages: &mut PageCache,
     file: &Handle,

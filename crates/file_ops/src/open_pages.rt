@@ -8,8 +8,8 @@ use nfs_types::{Attr, Handle, Wcc};
 use page_cache::PageCache;
 use xdr_codec::Memory;
 
-/// An operation with its own moment is about to use a file in the state that a GETATTR showed, which the step with the turn
-/// `sent` made. Where that call was made too early to tell of the file, no state of it is known.
+/// An operation with its own moment is about to use a file in the state that a GETATTR showed. The step with the turn
+/// `sent` made that call. If it was made too early to tell of the file, no state of the file is known.
 pub(crate) fn open_pages(
     file: &Handle,
     attr: &Attr,

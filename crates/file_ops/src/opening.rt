@@ -102,7 +102,7 @@ impl Opening {
         }
     }
 
-    /// Asks for its next call, where there is room.
+    /// Asks for its next call, if there is room.
     pub(crate) fn go(&mut self, turn: Turn) -> OpeningStep
         ensures next { result ≡ go_next self.old turn }
         ensures machine { self.new ≡ go_after self.old turn }
@@ -213,7 +213,7 @@ impl Opening {
         }
     }
 
-    /// What a reply leads to where a file that is known needs no GETATTR.
+    /// What a reply leads to if a file that is known needs no GETATTR.
     fn known(&self, led: Led, now: u64, attrs: &AttrCache, pages: &PageCache) -> Led
         ensures { result ≡ known_by self.now.nocto led now attrs.now pages.now }
     {
@@ -389,7 +389,7 @@ fn ends_busy(led: &Led) -> bool
     }
 }
 
-/// What a reply leads to where a file whose attributes are believed, and show the state in which its pages are kept, needs no
+/// What a reply leads to if a file whose attributes are believed, and show the state in which its pages are kept, needs no
 /// GETATTR.
 fn known_led(led: Led, now: u64, attrs: &AttrCache, pages: &PageCache) -> Led
     ensures { result ≡ known_led led now attrs.now pages.now }
@@ -402,7 +402,7 @@ fn known_led(led: Led, now: u64, attrs: &AttrCache, pages: &PageCache) -> Led
     }
 }
 
-/// The same where it leads to another call.
+/// The same if it leads to another call.
 fn known_step(step: OpeningPhase, now: u64, attrs: &AttrCache, pages: &PageCache) -> Led
     ensures { result ≡ known_step step now attrs.now pages.now }
 {

@@ -7,7 +7,7 @@ use nfs_types::{Handle, Mode};
 use open_files::OpenFiles;
 use world_model::Fault;
 
-/// The file of a slot, where it is open to be written.
+/// The file of a slot, if it is open to be written.
 pub(crate) fn file_to_write(opens: &OpenFiles, lane: u8, slot: u8) -> Result<Handle, Fault>
     ensures { result ≡ file_to_write lane slot opens.now }
 {

@@ -19,7 +19,7 @@ use xdr_codec::{Blob, Memory};
 pub struct WasPending {
     /// How many bytes the range has.
     count: u32,
-    /// The pending bytes; none where the last one of the file ended before the range.
+    /// The pending bytes; none if the last one of the file ended before the range.
     bytes: Option<PendingBytes>,
     /// Where the last pending byte of the file ended.
     end: Option<u64>,
@@ -60,7 +60,7 @@ impl WasPending {
         Ok(WasPending { count, bytes, end })
     }
 
-    /// How many of the server's bytes a read shows as they are. None where something was pending of its range or may be now,
+    /// How many of the server's bytes a read shows as they are. None if something was pending from its offset on, or is now,
     /// or zeros are shown after them.
     pub(crate) fn bare(
         &self,
@@ -123,7 +123,7 @@ impl WasPending {
     }
 }
 
-/// The pending bytes of a range. None only where the last one of the file ends before the range.
+/// The pending bytes of a range. None only if the last one of the file ends before the range.
 fn pending_bytes(
     alloc: Global,
     back: &WriteBack,
@@ -172,7 +172,7 @@ fn lay_alike(lows: &[u8], highs: &[u8], bytes: &mut [u8])
     }
 }
 
-/// A byte where it is like another, or else a third one.
+/// A byte if it is like another, or else a third one.
 fn alike_or(low: u8, high: u8, other: u8) -> u8
     ensures { result ≡ alike_or low high other }
 {

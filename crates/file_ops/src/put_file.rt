@@ -401,8 +401,8 @@ impl PutFile {
     }
 }
 
-/// After its own save was refused, a put gives the bytes of its file up, where no other put is at it and it isn't open.
-/// A put that isn't the first in the order of its file was refused before: what is pending there isn't its own.
+/// After its own save was refused, a put gives up the bytes of its file. It doesn't if the file is open or another put is at it. A
+/// put that isn't the first in the order of its file was refused before: what is pending there isn't its own.
 fn give_up_alone(
     lane: u8,
     refusal: Option<Fault>,

@@ -158,7 +158,7 @@ impl ReadFile {
         }
     }
 
-    /// The same where that may be read. All memory that the read needs is taken here.
+    /// The same if that may be read. All memory that the read needs is taken here.
     fn begun(
         &self,
         alloc: Global,

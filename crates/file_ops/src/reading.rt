@@ -89,7 +89,7 @@ impl Reading {
         }
     }
 
-    /// It makes its next call where it is to and there is room; where it has ended it answers.
+    /// It makes its next call if it is to and there is room; if it has ended it answers.
     fn step(&mut self, alloc: Global, room: bool, pages: &mut PageCache, back: &WriteBack) -> Step
         ensures next { Goes room back.now (record { reading = self.old; pages = pages.old }) result }
         ensures state { record { reading = self.new; pages = pages.new } ≡ gone room (record { reading = self.old; pages = pages.old }) }
@@ -182,7 +182,7 @@ impl Reading {
         })
     }
 
-    /// What it comes to where it has ended, or else waits.
+    /// What it comes to if it has ended, or else waits.
     fn stay(&mut self, alloc: Global, back: &WriteBack) -> Step
         ensures next { Stays self.old.phase self.old back.now result }
         ensures state { self.new ≡ answered self.old.phase self.old }
@@ -219,7 +219,7 @@ impl Reading {
         }
     }
 
-    /// The server's bytes where these are its answer, without a copy. None where others are shown, or there is no memory.
+    /// The server's bytes if these are its answer, without a copy. None if others are shown, or there is no memory.
     fn share(&mut self, alloc: Global, back: &WriteBack) -> Option<Blob>
         ensures bytes { IfSome result (λ b. b ≡ answer_of self.old back.now) }
         ensures state { self.new ≡ self.old }

@@ -159,7 +159,7 @@ impl Saving {
         room && is_sending(self.phase) && self.waiting < MOST_CALLS
     }
 
-    /// Sends the next piece, or goes on where there is none.
+    /// Sends the next piece, or goes on if there is none.
     fn send(
         &mut self,
         alloc: Global,
@@ -234,7 +234,7 @@ impl Saving {
         }
     }
 
-    /// A WRITE was answered. Where the server is busy and nothing was refused, it is made again.
+    /// A WRITE was answered. If the server is busy and nothing was refused, it is made again.
     fn take_told(
         &mut self,
         alloc: Global,
@@ -256,7 +256,7 @@ impl Saving {
         self.take_write(alloc, wsize, sent.xid, told, turn, back)
     }
 
-    /// Whether a call is made again where the server is busy.
+    /// Whether a call is made again if the server is busy.
     fn may_again(&self, busy: bool) -> bool
         ensures { result ≡ may_again busy self.now }
     {
@@ -270,7 +270,7 @@ impl Saving {
         self.may_again(fails_busy(told)) && self.put_off < MOST_TIMES
     }
 
-    /// The WRITE goes on under another xid with the bytes that it has, unless it was made again too often or there is
+    /// The WRITE goes on under another xid with the bytes that it has. It doesn't if it was made again too often, or if there is
     /// no memory for them.
     fn take_busy(
         &mut self,
@@ -463,7 +463,7 @@ fn refused_next(waiting: u32, fault: Fault) -> SavingStep
     }
 }
 
-/// Puts the next piece in flight, and makes its call, whose memory is taken before. None where there is no piece. When
+/// Puts the next piece in flight, and makes its call, whose memory is taken before. None if there is no piece. When
 /// out of memory nothing is changed.
 fn write_call(
     alloc: Global,
@@ -498,7 +498,7 @@ fn write_of(file: &Handle, offset: u64, how: u32, bytes: Blob) -> Call
     })
 }
 
-/// The WRITE of what is in flight under an xid, once more. None where nothing is, or there is no memory for it.
+/// The WRITE of what is in flight under an xid, once more. None if nothing is, or there is no memory for it.
 fn write_again(alloc: Global, file: &Handle, asked: u32, back: &WriteBack) -> Option<Call>
     ensures { CopiesPiece (piece_under asked (of_file file.now back.now).pieces) file.now result }
 {

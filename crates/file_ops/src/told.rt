@@ -25,7 +25,7 @@ pub(crate) fn found_by(came: &Came<'_>) -> Result<Handle, Fault>
     }
 }
 
-/// The file that CREATE made, where it gives the file handle.
+/// The file that CREATE made, if it gives the file handle.
 pub(crate) fn made_by(came: &Came<'_>) -> Result<Option<Handle>, Fault>
     ensures { result ≡ made_by (reply_of came.now) }
 {

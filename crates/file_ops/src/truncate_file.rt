@@ -133,7 +133,7 @@ impl TruncateFile {
         }
     }
 
-    /// At the reply to its SETATTR; it is made again where the server is busy.
+    /// At the reply to its SETATTR; it is made again if the server is busy.
     fn end(
         &mut self,
         file: &Handle,
@@ -219,7 +219,7 @@ fn attr_told(came: &Came<'_>) -> Option<Attr>
     }
 }
 
-/// Kept pages follow the new size, and may be dropped where it wasn't set.
+/// Kept pages follow the new size, and may be dropped if it wasn't set.
 fn show_size(
     pages: &mut PageCache,
     file: &Handle,
@@ -235,7 +235,7 @@ fn show_size(
     }
 }
 
-/// The size wasn't set. Where it isn't known whether the call was executed the pages are dropped.
+/// The size wasn't set. If it isn't known whether the call was executed the pages are dropped.
 fn note_unset(file: &Handle, fault: &Fault, moment: u64, pages: &mut PageCache)
     ensures { pages.new ≡ (if leaves_pages fault.now then pages.old else wrote file.now untold 0 [] moment pages.old) }
 {
@@ -255,7 +255,7 @@ fn leaves_pages(fault: &Fault) -> bool
     }
 }
 
-/// Pending bytes from the new end on go, where it was set.
+/// Pending bytes from the new end on go, if it was set.
 fn cut_pending(back: &mut WriteBack, file: &Handle, told: &Result<Wcc, Fault>, size: u64, upto: u64)
     ensures back { CutsBack told.now file.now size upto back.old back.new }
     ensures total { all_pending back.new ≤ all_pending back.old }
@@ -265,7 +265,7 @@ fn cut_pending(back: &mut WriteBack, file: &Handle, told: &Result<Wcc, Fault>, s
     }
 }
 
-/// The same, where nothing of the file is in flight.
+/// The same, if nothing of the file is in flight.
 fn cut_quiet(back: &mut WriteBack, file: &Handle, size: u64, upto: u64)
     ensures back { CutsQuiet (is_quiet file.now back.old) file.now size upto back.old back.new }
     ensures total { all_pending back.new ≤ all_pending back.old }

@@ -19,7 +19,7 @@ pub enum Given {
 
 /// A tree of files. It gives a folder before what that holds, and each file's bytes behind it. What can't be read is given as such, and the rest goes on.
 pub trait Tree {
-    /// What it gave so far, where it tells.
+    /// What it gave so far, if it tells.
     ghost given: { Self → Option (List GivenOf) };
 
     /// That it is at its end: it was asked for the next path, and gave none.

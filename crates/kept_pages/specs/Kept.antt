@@ -11,7 +11,8 @@ use Rattle.page_store.specs.Store.{StoreView, Stands}
 abbrev pub IsKept : Pages → StoredPage → Type 0
 IsKept c page = (n : ℕ) × (nth_handed n c ≡ Some (record { file = page.file; stamp = page.stamp; index = page.index; bytes = page.bytes }))
 
--- each page in the first n places of an image stood there in one of these images, or it is in a slot and the cache keeps it
+-- Each page in the first n places of an image stood there in one of these images; or it is in a slot and the cache keeps
+-- it.
 abbrev pub KeepsOrKept : ℕ → ℕ → Pages → (List ℕ → Type 0) → List ℕ → Type 0
 KeepsOrKept n slots c old image = (k : ℕ) (page : StoredPage) → k < n → HasPage image k page → WasKept old k page ⊎ ((k < slots) × IsKept c page)
 

@@ -20,7 +20,7 @@ use std::alloc::Global;
 const PAGE: usize = 4096;
 
 /// Stores the pages that a cache keeps, in one round. A page that a slot has stays there. The others go into the first slots that
-/// have no page of the cache, as far as there are such slots: always, where the cache has room for at most as many pages as there
+/// have no page of the cache, as far as there are such slots: always, if the cache has room for at most as many pages as there
 /// are slots. All other slots that show a page are closed. If nothing changes, no call of the disk is made. A crash at any moment
 /// leaves in each slot a page that stood there before, or one that the cache keeps.
 pub fn store_kept<D: Disk + Drop>(

@@ -11,7 +11,7 @@ pub struct Case {
     pub words: Vec<String>,
     /// The text of a script.
     pub script: Vec<u8>,
-    /// The words of a label; none where the session isn't to have a label of its own.
+    /// The words of a label; none if the session isn't to have a label of its own.
     pub label: Vec<u8>,
 }
 

@@ -19,7 +19,7 @@ pub struct Ground {
     pub store: PageStore<MemDisk>,
 }
 
-/// The server of a schedule, and a store of an empty disk whose calls of these numbers fail. None for a faulty schedule, and where
+/// The server of a schedule, and a store of an empty disk whose calls of these numbers fail. None for a faulty schedule, and if
 /// the disk fails before the store is there.
 pub fn begin(alloc: Global, schedule: &[u8], fails: &[u32]) -> Option<Ground> {
     let store = empty_store(alloc, fails)?;

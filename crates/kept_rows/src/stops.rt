@@ -55,7 +55,7 @@ fn show_left(rt: &impl Print, alloc: Global, case: &Case, left: Ground) -> io::R
     show_run(rt, alloc, case, &mut left)
 }
 
-/// The number of decimal digits; 0 where they aren't of a number below 2^32.
+/// The number of decimal digits; 0 if they aren't of a number below 2^32.
 fn number_of(text: &str) -> u32 {
     text.parse::<u32>().unwrap_or(0)
 }

@@ -23,8 +23,8 @@ pub record WasTrue (t : History) (u : ℕ) (page : StoredPage) : Type 0 where
 abbrev pub Stored : ℕ → History → ℕ → List ℕ → Type 0
 Stored slots t u image = (k : ℕ) (page : StoredPage) → k < slots → HasPage image k page → WasTrue t u page
 
--- Before a session, until a moment before any operation began: the disk tells what it holds, each image that a crash could leave has true pages, and each page in
--- memory stands in all of them.
+-- Before a session, until a moment before any operation began: the disk tells what it holds; each image that a crash could leave has true pages; and each page
+-- in memory stands in all of them.
 pub record BeganTrue {D : Type 0} (tells : D → Type 0) (may_leave : D → List ℕ → Type 0) (slots : List (Option StoredPage)) (disk : D) (t : History) : Type 0 where
   pub told : tells disk
   pub stands : Stands (may_leave disk) slots
@@ -32,7 +32,7 @@ pub record BeganTrue {D : Type 0} (tells : D → Type 0) (may_leave : D → List
   pub early : IsEarly t until
   pub stored : Every (may_leave disk) (Stored (length slots) t until)
 
--- While the pages are stored that a session handed back, a crash leaves in the slots pages that stood there, or these. Where it handed none back, nothing changes.
+-- While the pages are stored that a session handed back, a crash leaves in the slots pages that stood there, or these. If it handed none back, nothing changes.
 abbrev pub KeepsBack : {D : Type 0} → (D → List ℕ → Type 0) → (D → ℕ) → (D → ℕ → List ℕ → Type 0) → ℕ → Option Stock → D → D → Type 0
 KeepsBack may_leave moment left_since slots None old new = LeavesOnly moment left_since old new (may_leave old)
 KeepsBack may_leave moment left_since slots (Some back) old new =

@@ -33,9 +33,9 @@ const NO_MEMORY: u8 = 7;
 /// A label without words.
 const NO_WORDS: &[u8] = b"";
 
-/// Runs the script that the source gives as `nfs_client::run` does, with its statuses. The session begins with the pages of the store, if the store's label names
-/// its root or there is no label. Where each line had its answer, the pages that are kept at the end are stored, and a store without a label gets one, which
-/// names the root. The first fault of the store ends its use, and changes no answer and no status.
+/// Runs the script that the source gives as `nfs_client::run` does, with its statuses. The session begins with the pages of the store, if the store's label
+/// names its root or there is no label. If each line had its answer, the pages that are kept at the end are stored. A store without a label then gets one,
+/// which names the root. The first fault of the store ends its use, and changes no answer and no status.
 pub fn run_kept<S: Source, L: Link, C: Clock, K: Sink, D: Disk + Drop>(
     alloc: Global,
     words: &[String],
@@ -64,7 +64,7 @@ pub fn run_kept<S: Source, L: Link, C: Clock, K: Sink, D: Disk + Drop>(
         KeptWords (BeganTrue D.tells D.may_leave store.old.pages store.old.disk)
         given (map string_bytes words.now) (S.left script.old) (since before before) (since before h) result text))) }
 
-    // Where the pages were true and the server is honest, a crash at any moment of the call leaves true pages.
+    // If the pages were true and the server is honest, a crash at any moment of the call leaves true pages.
     ensures any_moment { D.tells store.old.disk → (n : ℕ) → length store.old.pages < n → IsSound n (D.may_leave store.old.disk) →
         Relates (L.told link.old) (L.told link.new) (λ before h. (t : History) → t.entries ≡ since before h → Lawful t → Fresh t
         → BeganTrue D.tells D.may_leave store.old.pages store.old.disk t
@@ -80,7 +80,7 @@ pub fn run_kept<S: Source, L: Link, C: Clock, K: Sink, D: Disk + Drop>(
     run_labelled(alloc, words, NO_WORDS, script, link, clock, out, store)
 }
 
-/// The same, where a store without a label gets one with these words, of at most 4,096 bytes.
+/// The same, if a store without a label gets one with these words, of at most 4,096 bytes.
 pub fn run_labelled<S: Source, L: Link, C: Clock, K: Sink, D: Disk + Drop>(
     alloc: Global,
     words: &[String],

@@ -20,7 +20,7 @@ pub data EndsAs (script : List ScriptLine) (k : List Entry) (status : ℕ) : Typ
   whole : Finishes (entries_of script) k → HasStatus k status → EndsAs script k status
   cut : IsCutOff status → EndsAs script k status
 
--- the line of counts, where it is wanted
+-- the line of counts, if it is wanted
 abbrev pub counts_text : Bool → Tally → List ℕ
 counts_text count tally = if count then tally_text tally else []
 

@@ -26,8 +26,8 @@ use Rattle.lane_session.specs.TogetherFrom.{TogetherFrom}
 abbrev pub AllTimed : List Entry → Type 0
 AllTimed h = (x lane line : ℕ) (op : Op) → At h x (Began lane line op) → IsTimed h x
 
--- The lines of the scripts that are done were begun and answered, each lane is at its place in the script that followed them at the place `from` of the
--- history, and the status is that of the answers since then. Whenever a record came since that place, each lane that had a line left had one under way.
+-- The lines of the scripts that are done were begun and answered. Each lane is at its place in the script that followed them at the place `from` of the
+-- history. The status is that of the answers since then. Whenever a record came since that place, each lane that had a line left had one under way.
 pub record Goes (done : List ScriptLine) (from : ℕ) (script : List ScriptLine) (h : List Entry) (s : Session) : Type 0 where
   pub others : (lane : ℕ) → (lane ≡ 0) ⊎ (16 < lane) → (begun lane h ≡ []) × IsResting h lane
   pub placed : (n : ℕ) (p : Place) → slice_get s.lanes n ≡ Some p → IsPlaced done script h (suc n) p
@@ -36,7 +36,7 @@ pub record Goes (done : List ScriptLine) (from : ℕ) (script : List ScriptLine)
   pub timed : AllTimed h
   pub together : TogetherFrom from (entries_of script) h
 
--- What is left of that where a session is cut off.
+-- What is left of that if a session is cut off.
 pub record Went (done : List ScriptLine) (from : ℕ) (script : List ScriptLine) (h : List Entry) : Type 0 where
   pub alternates : (lane : ℕ) → Alternates (marks_of lane h)
   pub begins : (lane : ℕ) → IsFront (begun lane h) (begun lane (entries_of (done ++ script)))
@@ -55,7 +55,7 @@ pub record GoesOn (label : List ℕ) (script : List ScriptLine) (old new : Sessi
   pub goes : (done : List ScriptLine) (from : ℕ) → Goes done from script h old → Goes done from script k new
   pub core : (done : List ScriptLine) (from : ℕ) → Goes done from script h old → CoreGoes old new h k
 
--- The readings were noted but perhaps the last, the text is that of the answers but perhaps within the line of the last entry, and the session went so far.
+-- The readings were noted but perhaps the last. The text is that of the answers but perhaps within the line of the last entry. The session went so far.
 pub record CutsOff (label : List ℕ) (script : List ScriptLine) (old : Session) (halt : Halt) (given text : List ℕ) (h k : List Entry) : Type 0 where
   pub grown : Grows h k
   pub last : List ℕ

@@ -37,7 +37,7 @@ pub record IsSeated (script : List ScriptLine) (s : Session) : Type 0 where
   pub begun : s.core.begun ≤ s.earlier + passed s.lanes
   pub room : s.earlier + 16 * length script < 2 ^ 32
 
--- There is a history with which the core goes, whatever the link tells, in which each line under way is the last one that its lane began.
+-- The core goes with some history, whatever the link tells. In it each line under way is the last one that its lane began.
 pub record HasStory (s : Session) : Type 0 where
   pub setup : Setup
   pub h : List Entry
@@ -78,7 +78,7 @@ pub record SameTries (old new : Session) : Type 0 where
   pub attempts : new.attempts ≡ old.attempts
   pub dropped : new.dropped ≡ old.dropped
 
--- the lane has told its answer, and has no line left where none is under way
+-- the lane has told its answer, and has no line left if none is under way
 pub record IsQuiet (script : List ScriptLine) (s : Session) (n : ℕ) : Type 0 where
   pub told : position (is_over (suc n)) s.core.lanes ≡ None
   pub none : (p : Place) → slice_get s.lanes n ≡ Some p → p.line ≡ None → p.next ≡ length script

@@ -56,7 +56,7 @@ LosesBy label script (Ok u) given text h k = (es : List Entry) × (k ≡ h ++ es
 LosesBy label script (Err halt) given text h k = (n : ℕ) × (l : ScriptLine) × (slice_get script n ≡ Some l)
     × ((es part : List Entry) × (k ≡ h ++ (es ++ part)) × LostLines (take n script) es × LostPart l part × IsToldOf label halt given text (es ++ part))
 
--- the status of a session that was lost before: 6, and 0 where no line was answered so
+-- the status of a session that was lost before: 6, and 0 if no line was answered so
 abbrev pub status_of : List ScriptLine → ℕ
 status_of [] = 0
 status_of (l ∷ ls) = 6

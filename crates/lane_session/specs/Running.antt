@@ -55,7 +55,7 @@ abbrev pub StepsSo : List ScriptLine → Session → Bool → Session → Type 0
 StepsSo script old true new = Lessens script old new
 StepsSo script old false new = RestsAll script old new
 
--- the lane didn't go on; where it has no line under way its next one was looked for
+-- the lane didn't go on; if it has no line under way its next one was looked for
 pub record RestsOne (script : List ScriptLine) (lane : ℕ) (old new : Session) : Type 0 where
   pub core : new.core ≡ old.core
   pub tries : SameTries old new
@@ -136,7 +136,7 @@ abbrev pub dues : List (ℕ × Waiting Purpose) → ℕ
 dues [] = 0
 dues (e ∷ es) = one_where e.1.due + dues es
 
--- the link failed; each call is due again; and where attempts are left each lane has told its answer still
+-- the link failed; each call is due again; and if attempts are left each lane has told its answer still
 pub record Breaks (old new : Session) : Type 0 where
   pub exchanges : Exchanges old new
   pub told : 1 ≤ new.attempts → NoneOver new.core
@@ -151,7 +151,7 @@ SendsOne old sendings.Nothing new = Sends old new × WereSent new.core.calls.cal
 SendsOne old sendings.Went new = Sends old new × (dues new.core.calls.calls < dues old.core.calls.calls)
 SendsOne old sendings.Failed new = Breaks old new
 
--- the attempts that run have ended; where a call is given up none is left
+-- the attempts that run have ended; if a call is given up none is left
 abbrev pub attempts_after : Bool → ℕ → ℕ
 attempts_after true attempts = attempts - 1
 attempts_after false attempts = 0

@@ -38,7 +38,7 @@ pub record SessionIs (count : Bool) (script : List ScriptLine) (given : List ℕ
   pub timed : AllTimed k
   pub together : LanesTogether (entries_of script) k
 
--- The session of a script; and where its set-up was so, and the calls before it were counted, the counts are those of the whole history.
+-- The session of a script; and if its set-up was so, and the calls before it were counted, the counts are those of the whole history.
 pub record SessionCounts (opened : Type 0) (before : Tally) (count : Bool) (script : List ScriptLine) (given : List ℕ) (h k : List Entry) (status : ℕ)
     (text : List ℕ) : Type 0 where
   pub is : SessionIs count script given h k status text
@@ -72,7 +72,7 @@ abbrev pub EndsBy : List ScriptLine → Result End Halt → List ℕ → List �
 EndsBy script (Ok end) given text h k = IsDone script end given text h k
 EndsBy script (Err halt) given text h k = IsBroken script halt given text h k
 
--- the line of counts was written where it is wanted; or a front of it, where the session was cut off
+-- the line of counts was written if it is wanted; or a front of it, if the session was cut off
 pub data TellsEnd (end : End) (count : Bool) (status : ℕ) (text : List ℕ) : Type 0 where
   tells : status ≡ end.status → text ≡ counts_text count end.tally → TellsEnd end count status text
   tells_front : IsCutOff status → IsFrontOf (counts_text count end.tally) text → TellsEnd end count status text

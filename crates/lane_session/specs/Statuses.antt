@@ -10,7 +10,7 @@ use Rattle.world_model.specs.Entries.{At}
 use Rattle.lane_session.specs.declared.halt.Halt.{Halt}
 use Rattle.lane_session.specs.declared.halt.Halt.TheVariants as halts
 
--- after one more answer: 6 where it is lost, 1 at any other refusal unless a link was lost before
+-- after one more answer: 6 if it is lost, 1 at any other refusal unless a link was lost before
 abbrev pub after_answer : ℕ → Answer → ℕ
 after_answer status (Done value) = status
 after_answer status (Refused faults.Lost) = 6
@@ -27,7 +27,7 @@ pub record IsAnswered (h : List Entry) (answer : Answer) : Type 0 where
   pub line : ℕ
   pub is : At h at (Answered lane line answer)
 
--- Status 6 where an answer is that the session is lost; else 1 where one is another refusal; else 0.
+-- Status 6 if an answer is that the session is lost; else 1 if one is another refusal; else 0.
 pub data HasStatus (h : List Entry) (status : ℕ) : Type 0 where
   lost : status ≡ 6 → IsAnswered h (Refused faults.Lost) → HasStatus h status
   refused : status ≡ 1 → (fault : Fault) → IsAnswered h (Refused fault) → (IsAnswered h (Refused faults.Lost) → ⊥) → HasStatus h status

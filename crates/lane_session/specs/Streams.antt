@@ -6,13 +6,13 @@ use Rattle.world_model.specs.History.{History}
 use Rattle.world_model.specs.Told.{Relates}
 use Rattle.outside.specs.Clock.{ReadsClock}
 
--- the bytes were added, where the sink tells what was written
+-- the bytes were added, if the sink tells what was written
 abbrev pub Appends : Option (List ℕ) → Option (List ℕ) → List ℕ → Type 0
 Appends None new bytes = Unit {0}
 Appends (Some old) None bytes = ⊥
 Appends (Some old) (Some new) bytes = new ≡ old ++ bytes
 
--- a text was added, where the sink tells what was written, and it is so
+-- a text was added, if the sink tells what was written, and it is so
 pub record Says (old new : Option (List ℕ)) (P : List ℕ → Type 0) : Type 0 where
   pub text : List ℕ
   pub added : Appends old new text

@@ -62,7 +62,7 @@ impl Lanes {
         self.places[usize::from(lane) - 1].line
     }
 
-    /// The place of the lane's next line. None exactly where it has none left.
+    /// The place of the lane's next line. None exactly if it has none left.
     pub fn seek(&mut self, lane: u8, script: &Script) -> Option<usize>
         requires least { 1 ≤ lane }
         requires most { lane ≤ 16 }

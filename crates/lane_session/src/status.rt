@@ -6,7 +6,7 @@ ghost use Rattle.lane_session.specs.Statuses.{after_answer, of_halt};
 use crate::halt::Halt;
 use world_model::{Answer, Fault};
 
-/// Each operation went well.
+/// Each operation succeeded.
 pub const WELL: u8 = 0;
 /// An operation was refused.
 pub const NOT_OK: u8 = 1;

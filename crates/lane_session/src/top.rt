@@ -34,13 +34,18 @@ pub struct End {
     pub status: u8,
     /// The calls that were sent.
     pub tally: Tally,
-    /// The pages that are kept at the end. None where the session had no set-up.
+    /// The pages that are kept at the end. None if the session had no set-up.
     pub pages: Option<PageCache>,
 }
 
-/// Runs each line of the script in its lane, and answers the status: 0 where each operation went well, 1 where one was refused, 5 where the
-/// sink failed, 6 where the link is lost, 7 for lack of memory outside an operation. Without a set-up the session is lost. Where each line had its
-/// answer, the pages that are kept at the end come with it.
+/// Runs each line of the script in its lane, and answers the status:
+/// - 0: each operation succeeded;
+/// - 1: one was refused;
+/// - 5: the sink failed;
+/// - 6: the link is lost;
+/// - 7: there was no memory outside an operation.
+///
+/// Without a set-up the session is lost. If each line had its answer, the pages that are kept at the end come with it.
 pub fn session<L: Link, C: Clock, K: Sink>(
     alloc: Global,
     settings: &Settings,
@@ -77,7 +82,7 @@ pub fn session<L: Link, C: Clock, K: Sink>(
     }
 }
 
-/// Runs the lines, or answers that they are lost where there is no set-up.
+/// Runs the lines, or answers that they are lost if there is no set-up.
 fn all_lines<L: Link, C: Clock, K: Sink>(
     alloc: Global,
     settings: &Settings,
@@ -204,7 +209,7 @@ fn lost_status(script: &Script) -> u8
     }
 }
 
-/// Writes the line of counts where it is wanted.
+/// Writes the line of counts if it is wanted.
 fn finish<K: Sink>(alloc: Global, end: &End, count: bool, out: &mut K) -> u8
     requires { IsSessionStatus end.now.status }
     ensures ending { IsEnding result }

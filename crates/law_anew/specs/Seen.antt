@@ -19,8 +19,8 @@ pub record IsApart (first : ℕ) (h : List Entry) : Type 0 where
   pub delivered : (q n xid : ℕ) (bytes came : List ℕ) → q < first → first ≤ n → At h q (Sent bytes) → HasXid bytes xid → At h n (Delivered came)
       → HasXid came xid → ⊥
 
--- A history as a client sees it that comes after the first part: it has those entries, and is as lawful. Its servers are those of the whole; and those of the first
--- part are those until a moment before the client did anything.
+-- A history as a client sees it that comes after the first part: it has those entries, and is as lawful. Its servers are those of the whole; and those of the
+-- first part are those until a moment before the client did anything.
 pub record Seen (first : List Entry) (t : History) : Type 0 where
   pub seen : History
   pub entries : seen.entries ≡ since first t.entries

@@ -4,8 +4,8 @@
 
 ghost use Rattle.law_anew.specs.Seen.{LaterClientsSee};
 
-/// A history that is lawful is lawful as a client sees it that comes after its first part, if nothing that comes then has to do with a call that was sent in
-/// that part. It shows the same servers. If no call was executed anew, or each change had its stamp, that is so of it too.
+/// A lawful history is lawful, too, as a client sees it that comes after its first part. It shows the same servers. A condition: nothing that comes then has
+/// to do with a call that was sent in that part. If no call was executed anew, or each change had its stamp, that is so of it too.
 pub fn later_clients_see_honest_servers()
     ensures { LaterClientsSee }
 {}

@@ -1,7 +1,7 @@
-//! The law of calls: where a server is honest and executes no copy of a call after a reply to it was taken, and a client numbers
-//! its calls as `specs/Calls` says, each call is executed while it waits, and the record that answers it tells of such an
-//! execution, whatever was lost, repeated or came late. Nothing here runs: each function has an empty body, and its contract is
-//! the theorem.
+//! The law of calls. Let a server be honest, and execute no copy of a call after a reply to it was taken. Let a client number
+//! its calls as `specs/Calls` says. Then each call is executed while it waits. The record that answers it tells of such an
+//! execution, or refuses it by RPC, whatever was lost, repeated or came late. Nothing here runs: each function has an empty
+//! body, and its contract is the theorem.
 #![tactic(auto)]
 
 ghost use Rattle.std.specs.Prelude.{◌≡◌, ◌<◌, ℕ, List};

@@ -21,7 +21,7 @@ abbrev pub writes_from : ℕ → List (List ℕ) → List Op
 writes_from at [] = []
 writes_from at (piece ∷ pieces) = ops.Write 1 at piece ∷ writes_from (at + length piece) pieces
 
--- A file is copied by these operations: it is opened, and made where it isn't there; it gets the size 0; its pieces are written; and it is closed, which makes
+-- A file is copied by these operations: it is opened, and made if it isn't there; it gets the size 0; its pieces are written; and it is closed, which makes
 -- them stable.
 abbrev pub copy_ops : List (List ℕ) → List (List ℕ) → List Op
 copy_ops path pieces = ops.OpenFile 1 modes.C path ∷ ops.Truncate 1 0 ∷ (writes_from 0 pieces ++ ops.Close 1 ∷ [])

@@ -10,7 +10,8 @@ use Rattle.world_model.specs.Lawful.{Lawful}
 use Rattle.law_anew.specs.Seen.{IsApart, Seen}
 use Rattle.kept_runs.specs.Stored.{BeganTrue, Stored}
 
--- If the pages of each image are true of the history's first part, a session that comes after that part begins with true pages, as it sees the history.
+-- If the pages of each image are true of the history's first part, a session that comes after that part begins with true pages. This is so as it sees
+-- the history.
 abbrev pub BeginTrue : {D : Type 0} → (D → Type 0) → (D → List ℕ → Type 0) → Type 0
 BeginTrue {D} tells may_leave =
     (disk : D) (slots : List (Option StoredPage)) (t : History) (first more : List Entry) → t.entries ≡ first ++ more → Lawful t → Fresh t → IsApart (length first) t.entries

@@ -1,5 +1,6 @@
-//! The law of kept pages over several sessions: pages of a store that are true of an honest server's history are true to a session that comes after it over the
-//! same link, and what that session leaves is true of the whole. Nothing here runs: each function has an empty body, and its contract is the theorem.
+//! The law of kept pages over several sessions, one after the other over the same link, with an honest server. If the pages of a store are true of the history
+//! so far, they are true to a session that comes then. What that session leaves is true of the whole. Nothing here runs: each function has an empty body, and
+//! its contract is the theorem.
 #![tactic(auto)]
 
 ghost use Rattle.law_kept.specs.Sessions.{BeginTrue, LeaveTrue};

@@ -4,14 +4,16 @@
 
 ghost use Rattle.law_own.specs.Own.{SettledAreRead, CutsAreRead};
 
-/// Where bytes that were settled stay on the server, and reads are current and end where the file ended, a read shows each byte that was settled before the
-/// moments that it may show, unless it was touched (nfs(5), close-to-open consistency).
+/// A read shows each byte that was settled before the moments that it may show, unless it was touched (nfs(5), close-to-open consistency). The premises:
+/// - bytes that were settled stay on the server;
+/// - reads are current, and end where the file ended.
 pub fn settled_bytes_are_read()
     ensures { SettledAreRead }
 {}
 
-/// Where places past the size of a truncate stay without bytes but zeros, and reads are current, a read shows them so, where the truncate went well before the
-/// moments that it may show, unless they were touched.
+/// A read shows zeros past the size of a truncate that succeeded before the moments that it may show, unless they were touched. The premises:
+/// - places past the size of a truncate stay without bytes but zeros;
+/// - reads are current.
 pub fn cut_places_are_read()
     ensures { CutsAreRead }
 {}

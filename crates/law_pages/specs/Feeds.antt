@@ -43,8 +43,8 @@ pub record IsSized (t : History) (file : List ℕ) (size : ℕ) (wcc : Wcc) : Ty
   pub done : Done t (files.SetAttr file set guard) (replies.SetAttr wcc)
   pub is : set.size ≡ Some size
 
--- The cache was empty at first, with room for any number of pages, and then took stamps of any kind at opens and replies, pages that READs gave, and own changes.
--- That each kept page's file has a known stamp holds of it at any time (`PageCache::is_sound`).
+-- The cache was empty at first, with room for any number of pages. Then it took stamps of any kind at opens and replies, pages that READs gave, and own
+-- changes. That each kept page's file has a known stamp holds of it at any time (`PageCache::is_sound`).
 pub data IsFed (t : History) : Pages → Type 0 where
   begins : (c : Pages) (room : ℕ) → c ≡ nothing_with room → IsFed t c
   opens : (b c : Pages) (file : List ℕ) (stamp : Stamp) (mark : ℕ) → IsFed t b → c ≡ opened file stamp mark b → IsFed t c

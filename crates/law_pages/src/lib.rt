@@ -1,6 +1,6 @@
-//! The law of kept pages: what a page cache keeps of a file under a stamp, fed as `specs/Feeds` says, is that page of the file at
-//! every moment at which the file has the stamp, whatever other clients did and however often the server restarted. Nothing here
-//! runs: each function has an empty body, and its contract is the theorem.
+//! The law of kept pages. Let a page cache be fed as `specs/Feeds` says, and keep a page of a file under a stamp. It is that page
+//! of the file at every moment at which the file has the stamp. That is so whatever other clients did and however often the
+//! server restarted. Nothing here runs: each function has an empty body, and its contract is the theorem.
 #![tactic(auto)]
 
 ghost use Rattle.std.specs.Prelude.{◌≡◌, ℕ, List, Some};
@@ -13,8 +13,8 @@ ghost use Rattle.world_model.specs.Lawful.{Lawful};
 ghost use Rattle.law_reads.specs.Kept.{HasStamp};
 ghost use Rattle.law_pages.specs.Feeds.{IsFed};
 
-/// A page that is found under its file's known stamp is that page of the file at every moment at which the file has this stamp
-/// (RFC 1813, sections 2.6, 3.3.2, 3.3.6 and 3.3.7).
+/// A page that is found under its file's known stamp is true (RFC 1813, sections 2.6, 3.3.2, 3.3.6 and 3.3.7). It is that page of
+/// the file at every moment at which the file has this stamp.
 pub fn kept_page_is_true()
     ensures { (t : History) → Lawful t → Fresh t → (c : Pages) → IsFed t c → (file : List ℕ) (s : Stamp) (index : ℕ) (bytes : List ℕ) → page_of file index c ≡ Some bytes → known_of file c ≡ Some s
         → (n : ℕ) (now : List ℕ) → HasStamp t n file s now → bytes ≡ page_at index now }

@@ -44,7 +44,7 @@ pub data RepliedBy (steps : List PairStep) (end n : ℕ) (bytes : List ℕ) : Ty
   refused : (m xid code : ℕ) (record_sent : List ℕ) → m < n → StepIs steps m end (Sent record_sent) → HasXid record_sent xid → SpellsRefusal xid code bytes
       → RepliedBy steps end n bytes
 
--- A call is executed for the end that sent it, a record comes to the end whose call it answers, and what a client does leaves the server as it is.
+-- A call is executed for the end that sent it. A record comes to the end whose call it answers. What a client does leaves the server as it is.
 pub record IsSided (h : PairTold) : Type 0 where
   pub executed : (n end xid : ℕ) (call : Call) (reply : Reply) → StepIs h.steps n end (Executed xid call reply) → SentBy h.steps end n xid call
   pub delivered : (n end : ℕ) (bytes : List ℕ) → StepIs h.steps n end (Delivered bytes) → RepliedBy h.steps end n bytes

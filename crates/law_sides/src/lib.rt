@@ -4,8 +4,10 @@
 
 ghost use Rattle.law_sides.specs.Whole.{SidesAreLawful};
 
-/// A history that is lawful as if it were that of one client is lawful as each of two clients sees it, where each call is executed for the end that sent it,
-/// and each reply comes to the end whose call it answers.
+/// A history of two clients that is lawful as if it were that of one is lawful as each of them sees it. The conditions:
+/// - each call is executed for the end that sent it;
+/// - each reply comes to the end whose call it answers;
+/// - what a client does leaves the server as it is.
 pub fn sides_are_lawful()
     ensures { SidesAreLawful }
 {}

@@ -45,7 +45,7 @@ pub record IsBare (s : Server) (f : List ℕ) (i : ℕ) : Type 0 where
   pub bare : IsZeroAt now i
   pub steady : IsZeroAt stable i
 
--- At each moment after its reply the file has no byte but a zero at a place past the size, as long as no WRITE puts another there.
+-- At each moment after its reply the file has no byte but a zero at a place past the size. That lasts as long as no WRITE puts another there.
 abbrev pub CutStays : Type 0
 CutStays = (t : History) → Lawful t → Once t.entries → Numbered t.entries → (from to : ℕ) (f : List ℕ) (size i : ℕ) → (c : CutBy t.entries from to f size) → size ≤ i
     → (p : ℕ) → to ≤ p → p ≤ length t.entries → OwnZeros t.entries c.asked.heard.sent_at p f i → NoForeign t c.asked.heard.sent_at p f i → IsBare (t.at p) f i

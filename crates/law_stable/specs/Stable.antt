@@ -19,14 +19,15 @@ pub record HoldsNow (s : Server) (f : List ℕ) (i v : ℕ) : Type 0 where
   pub has : HasBytes s f now stable
   pub holds : slice_get now i ≡ Some v
 
--- After the reply to its WRITE the byte is in the file at each moment at which the server has the write verifier of that reply, as long as neither this
+-- After the reply to its WRITE the byte is in the file whenever the server has the write verifier of that reply. That lasts as long as neither this
 -- client's calls nor another client's change its place.
 abbrev pub WrittenThere : Type 0
 WrittenThere = (t : History) → Lawful t → Once t.entries → Numbered t.entries → (from to : ℕ) (f : List ℕ) (i v firm : ℕ) (verf : Verf)
     → (w : WroteAt t.entries from to f i v firm verf) → (p : ℕ) → to ≤ p → p ≤ length t.entries → (t.at p).verf ≡ verf
     → OwnCalls t.entries w.asked.heard.sent_at p f i v → NoForeign t w.asked.heard.sent_at p f i → HoldsNow (t.at p) f i v
 
--- At each moment after its evidence the byte is in the file, and stable, as long as neither this client's calls nor another client's change its place.
+-- At each moment after its evidence the byte is in the file, and stable. That lasts as long as neither this client's calls nor another client's change
+-- its place.
 abbrev pub EvidenceStable : Type 0
 EvidenceStable = (t : History) → Lawful t → Once t.entries → Numbered t.entries → (from to : ℕ) (f : List ℕ) (i v : ℕ)
     → (e : Evidence t.entries from to f i v) → (p : ℕ) → to ≤ p → p ≤ length t.entries → OwnCalls t.entries (written_at e) p f i v
@@ -43,6 +44,6 @@ abbrev pub UntouchedUnforeign : Type 0
 UntouchedUnforeign = (m : Modes) (origin : Origin) (t : History) (w p from : ℕ) (f : List ℕ) (i : ℕ) → (Touched m origin t w p f i → ⊥) → w ≤ from
     → NoForeign t from p f i
 
--- whether a server holds a byte so is decided: where it can't be otherwise, it is so
+-- whether a server holds a byte so is decided: if it can't be otherwise, it is so
 abbrev pub StableDecided : Type 0
 StableDecided = (s : Server) (f : List ℕ) (i v : ℕ) → ((HoldsStable s f i v → ⊥) → ⊥) → HoldsStable s f i v

@@ -35,7 +35,7 @@ pub record SendsTo (port : ℕ) (h k : List Entry) : Type 0 where
   pub dials : Dials port h k
   pub sent : (i : ℕ) (bytes : List ℕ) → At k i (Sent bytes) → length h ≤ i → DialedLast k i port
 
--- the same, and where it succeeds what is sent next goes to the port, too
+-- the same, and if it succeeds what is sent next goes to the port, too
 abbrev pub Reaches : {T E : Type 0} → ℕ → Result T E → List Entry → List Entry → Type 0
 Reaches port (Ok x) h k = SendsTo port h k × DialedLast k (length k) port
 Reaches port (Err e) h k = SendsTo port h k

@@ -53,7 +53,7 @@ pub record SentAgain (h : List Entry) (from to xid : ℕ) : Type 0 where
   pub after : from < at
   pub before : at < to
 
--- Since operations began: a call that was sent before a failure and still waits at a later one was sent again between the two, unless what fails at the later one
--- is a dial, or the sending of a call that was made before it. So no client waits for ever without sending.
+-- Since operations began: a call that was sent before a failure, and still waits at a later one, was sent again between the two. An exception: what fails at
+-- the later one is a dial, or the sending of a call that was made before it. So no client waits for ever without sending.
 abbrev pub Resends : List Entry → Type 0
 Resends h = (i j xid : ℕ) (waits : Waits h xid j) → HasBegun h i → At h i Failed → At h j Failed → waits.at < i → i < j → SentAgain h i j xid ⊎ FailsBefore h j xid

@@ -12,8 +12,10 @@ const LAST_END: u128 = 9_223_372_036_854_775_807;
 /// The greatest length of what a symbolic link leads to.
 const LONGEST_TARGET: usize = 1_024;
 
-/// Whether a script can ask for an operation: a path has a last name where it needs one, bytes end within all places of a file, and
-/// a symbolic link leads to at most 1,024 bytes.
+/// Whether a script can ask for an operation:
+/// - a path has a last name if it needs one;
+/// - bytes end within all places of a file;
+/// - a symbolic link leads to at most 1,024 bytes.
 pub(crate) fn is_asked(op: &Op) -> bool
     ensures { result ≡ true → IsAsked op.now }
 {

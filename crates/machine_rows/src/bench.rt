@@ -52,7 +52,7 @@ impl Model for Running {
 }
 
 impl Running {
-    /// An operation that hasn't made a step yet. None where no script can ask for it, or there is no memory.
+    /// An operation that hasn't made a step yet. None if no script can ask for it, or there is no memory.
     pub(crate) fn new(alloc: Global, mounted: &Mounted, lane: u8, op: Op) -> Option<Running> {
         if !is_asked(&op) {
             return None;
@@ -97,14 +97,14 @@ impl Bench {
         Ok(Bench { shelf, number: 1 })
     }
 
-    /// Nothing is kept any more, where there is memory for that.
+    /// Nothing is kept any more, if there is memory for that.
     pub(crate) fn renew(&mut self, alloc: Global) {
         if let Ok(bench) = Bench::new(alloc) {
             *self = bench;
         }
     }
 
-    /// The first step of an operation. None where all numbers of steps were given.
+    /// The first step of an operation. None if all numbers of steps were given.
     pub(crate) fn start(
         &mut self,
         alloc: Global,
@@ -124,7 +124,7 @@ impl Bench {
         Some(Stepped { turn, next })
     }
 
-    /// A step that no reply made possible. None where all numbers of steps were given.
+    /// A step that no reply made possible. None if all numbers of steps were given.
     pub(crate) fn resume(
         &mut self,
         alloc: Global,
@@ -144,7 +144,7 @@ impl Bench {
         Some(Stepped { turn, next })
     }
 
-    /// The step at what came of the call that the step with the turn `sent` asked for. None where all numbers of steps were given.
+    /// The step at what came of the call that the step with the turn `sent` asked for. None if all numbers of steps were given.
     pub(crate) fn took(
         &mut self,
         alloc: Global,

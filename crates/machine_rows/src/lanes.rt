@@ -109,7 +109,7 @@ pub(crate) fn run(
     }
 }
 
-/// An operation begins, where a script can ask for it.
+/// An operation begins, if a script can ask for it.
 fn begin(
     rt: &impl Print,
     alloc: Global,

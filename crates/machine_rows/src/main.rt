@@ -1,17 +1,17 @@
 //! Runs operations over made replies, and prints each line of standard input and what it comes to. A line is one of
 //!
-//! - `new`: nothing is kept, and no operation is under way
-//! - `rsize N`, `wsize N`: how many bytes a READ or a WRITE carries at most
-//! - `clock N`: the reading of the clock from now on
-//! - `full`, `room`: from now on there is no room for a call, or there is
+//! - `new`: nothing is kept, and no operation is under way.
+//! - `rsize N`, `wsize N`: how many bytes a READ or a WRITE carries at most.
+//! - `clock N`: the reading of the clock from now on.
+//! - `full`, `room`: from now on there is no room for a call, or there is.
 //! - `LANE OPERATION`: an operation of lane 1 or 2 begins, as in a script, but with bytes as text: `open SLOT MODE PATH`,
 //!   `read SLOT OFFSET COUNT`, `write SLOT OFFSET TEXT`, `fill SLOT OFFSET COUNT BYTE`, `sync SLOT`, `close SLOT`, `truncate SLOT SIZE`,
 //!   `put PATH OFFSET TEXT`, `stat PATH`, `access PATH BITS`, `readlink PATH`, `list PATH`, `mkdir PATH`, `rmdir PATH`, `remove PATH`,
-//!   `rename PATH PATH`, `link PATH PATH`, `symlink PATH TARGET`; `open` and `put` may end in `nocto`, and `read` in `noac`
-//! - `LANE go`: its operation makes a step without a reply
-//! - `LANE REPLY`: its operation takes a reply to the call that it made last, in the words of `replies`, or `record PROCEDURE HEX`,
-//!   or `zeros PROCEDURE COUNT` for a record of zeros
-//! - `LANE to N REPLY`: it takes a reply to its N-th call
+//!   `rename PATH PATH`, `link PATH PATH`, `symlink PATH TARGET`; `open` and `put` may end in `nocto`, and `read` in `noac`.
+//! - `LANE go`: its operation makes a step without a reply.
+//! - `LANE REPLY`: its operation takes a reply to the call that it made last. It is in the words of `replies`, or
+//!   `record PROCEDURE HEX`, or `zeros PROCEDURE COUNT` for a record of zeros.
+//! - `LANE to N REPLY`: it takes a reply to its N-th call.
 //!
 //! Any other line is only printed.
 #![tactic(auto)]

@@ -16,7 +16,7 @@ pub(crate) fn mounted(rsize: u32, words: &str) -> Mounted {
     }
 }
 
-/// The operation that a line asks for. None where its first word is that of none, or there is no memory.
+/// The operation that a line asks for. None if its first word is that of none, or there is no memory.
 pub(crate) fn operation(alloc: Global, word: &str, words: &str) -> Option<Op> {
     let (first, rest) = first_word(words);
     match word {

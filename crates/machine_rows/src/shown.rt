@@ -207,7 +207,7 @@ pub(crate) fn show_answer(rt: &impl Print, answer: &Answer) -> io::Result<()> {
     }
 }
 
-/// Prints the names of a listing; how many they are, where there are many.
+/// Prints the names of a listing; how many they are, if there are many.
 fn show_names(rt: &impl Print, names: &[Name]) -> io::Result<()> {
     if names.len() > 16 {
         return println!(rt; "  ok {} names", names.len());

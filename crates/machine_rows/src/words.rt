@@ -42,7 +42,7 @@ pub(crate) fn file(number: u64) -> Handle {
     Handle::make(&[tiny(number)]).unwrap_or(Handle::make(&[]).unwrap())
 }
 
-/// A word of a line, counted from 0; no text where there are fewer.
+/// A word of a line, counted from 0; no text if there are fewer.
 pub(crate) fn word_at(words: &str, at: usize) -> &str {
     words.split_whitespace().nth(at).unwrap_or("")
 }

@@ -20,7 +20,7 @@ pub fn empty(alloc: Global) -> Case {
     }
 }
 
-/// Takes what a line adds to the description; false where it adds nothing.
+/// Takes what a line adds to the description; false if it adds nothing.
 pub fn takes(case: &mut Case, word: &str, rest: &str) -> Result<bool, AllocError> {
     match word {
         "schedule" => {

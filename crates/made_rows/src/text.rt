@@ -4,12 +4,12 @@ ghost use Rattle.made_script.specs.Made.{IsSize};
 
 use std::alloc::{AllocError, Global};
 
-/// The number of decimal digits; 0 where they aren't of a number below 2^32.
+/// The number of decimal digits; 0 if they aren't of a number below 2^32.
 pub fn number_of(text: &str) -> u32 {
     text.parse::<u32>().unwrap_or(0)
 }
 
-/// The size of a script; 1 where the digits aren't of one.
+/// The size of a script; 1 if the digits aren't of one.
 pub fn size_of(text: &str) -> u32
     ensures { IsSize result }
 {

@@ -24,7 +24,7 @@ lane_of k = k % 16 + 1
 
 -- ---- the lines
 
--- a lane opens its file, which is made where it isn't there
+-- a lane opens its file, which is made if it isn't there
 unfoldable pub open_text : ℕ → List ℕ
 open_text lane = decimal lane ++ codes " open 1 c /f" ++ decimal lane ++ codes "\n"
 
@@ -44,7 +44,7 @@ sync_text k = decimal (lane_of k) ++ codes " sync 1\n"
 unfoldable pub close_text : ℕ → List ℕ
 close_text lane = decimal lane ++ codes " close 1\n"
 
--- the k-th fill, where 5 divides k a read of the same place, and where 7 does a sync
+-- the k-th fill, if 5 divides k a read of the same place, and if 7 does a sync
 unfoldable pub turn_text : ℕ → ℕ → List ℕ
 turn_text k x = fill_text k x ++ (if k % 5 == 0 then read_text k x else []) ++ (if k % 7 == 0 then sync_text k else [])
 

@@ -2,7 +2,7 @@
 use Rattle.std.specs.Prelude.{ℕ, ◌+◌, ◌/◌, List, [], ◌∷◌, ◌++◌, length, codes, decimal, bytes_eq, Option, Some, None, if◌then◌else◌}
 use Rattle.script_text.specs.Lines.{lines, words}
 
--- what follows the word `ok`, where that is the third
+-- what follows the word `ok`, if that is the third
 abbrev pub after_ok : List (List ℕ) → Option (List (List ℕ))
 after_ok (lane ∷ line ∷ word ∷ others) = if bytes_eq word (codes "ok") then Some others else None
 after_ok words = None
@@ -30,7 +30,7 @@ abbrev pub digits_of : List (List ℕ) → ℕ
 digits_of [] = 0
 digits_of (line ∷ lines) = length_where (after_ok (words line)) + digits_of lines
 
--- The number of lines, of those that went well, and of the bytes that they answer, which are two digits each.
+-- The number of lines, of those that succeeded, and of the bytes that they answer, which are two digits each.
 unfoldable pub summary_text : List ℕ → List ℕ
 summary_text text =
     codes "lines " ++ decimal (length (lines text)) ++ codes " ok " ++ decimal (oks_of (lines text)) ++ codes " bytes "

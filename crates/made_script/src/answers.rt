@@ -10,7 +10,7 @@ use crate::numbers::write_number;
 use script_text::{first_line, next_word};
 use xdr_codec::{Memory, Writer};
 
-/// Appends how many lines a text of answers has, in how many of them the operation went well, and how many bytes these lines
+/// Appends how many lines a text of answers has, in how many of them the operation succeeded, and how many bytes these lines
 /// show. When out of memory the writer begins with what it held.
 #[tactic(auto, using(crate::proofs::Counting::digits_within, crate::proofs::Counting::no_lines), unfolding(crate::specs::Summaries::summary_text))]
 pub fn summary(text: &[u8], out: &mut Writer) -> Result<(), Memory>
@@ -33,7 +33,7 @@ pub fn summary(text: &[u8], out: &mut Writer) -> Result<(), Memory>
     write_counts(out, lines, oks, digits / 2)
 }
 
-/// What follows the word `ok` in a line, where that is the third word.
+/// What follows the word `ok` in a line, if that is the third word.
 fn after_ok<'a>(line: &'a [u8]) -> Option<&'a [u8]>
     ensures { option_map (λ rest. words rest.now) result ≡ after_ok (words line.entry.now) }
 {
@@ -47,7 +47,7 @@ fn after_ok<'a>(line: &'a [u8]) -> Option<&'a [u8]>
     }
 }
 
-/// How long the first word of a line is, 0 where it has none.
+/// How long the first word of a line is, 0 if it has none.
 fn first_length(line: &[u8]) -> usize
     ensures { result ≡ first_length (words line.now) }
 {

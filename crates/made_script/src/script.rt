@@ -9,8 +9,8 @@ use limits::GREATEST_LANE;
 use std::alloc::Global;
 use xdr_codec::{Blob, Memory, Writer};
 
-/// The script of this size: in each of 16 lanes a file is opened, then so many fills follow, at places that a sequence of numbers
-/// gives, with a read after each fifth and a sync after each seventh of them, and at the end each file is closed.
+/// The script of this size. In each of 16 lanes a file is opened, then so many fills follow, at places that a sequence of numbers
+/// gives. A read comes after each fifth of them, and a sync after each seventh. At the end each file is closed.
 #[tactic(auto, using(std::proofs::Common::append_assoc), unfolding(crate::specs::Made::made_text))]
 pub fn made(alloc: Global, n: u32) -> Result<Blob, Memory>
     requires { IsSize n }
@@ -71,7 +71,7 @@ fn next(x: u64) -> u64
     (1_103_515_245 * x + 12_345) % 2_147_483_648
 }
 
-/// Appends the fill of this number, and the read and the sync after it where there are.
+/// Appends the fill of this number, and the read and the sync after it if there are.
 #[tactic(auto, using(std::proofs::Common::append_assoc), unfolding(crate::specs::Made::turn_text))]
 fn write_turn(out: &mut Writer, k: u32, x: u64) -> Result<(), Memory>
     ensures { OnOk result (out.new ≡ out.old ++ turn_text k x) }

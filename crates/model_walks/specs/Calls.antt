@@ -6,7 +6,7 @@ use Rattle.world_model.specs.declared.message.Call.{Call}
 use Rattle.world_model.specs.declared.message.Reply.{Reply}
 use Rattle.world_model.specs.Messages.{HasXid, SpellsCall, SpellsReply}
 
--- a call that waits, the moment at which it was made, and the client's time then, in milliseconds, where it had read the clock
+-- a call that waits, the moment at which it was made, and the client's time then, in milliseconds, if it had read the clock
 pub record Made : Type 0 where
   pub call : Call
   pub at : ℕ

@@ -69,7 +69,8 @@ pub record Walk : Type 0 where
   pub op : ℕ
   pub path : Path
 
--- A listing: its directory, the cookie to go on from, the names so far, the place at which its last page came, and whether the directory ended there.
+-- A listing: its directory, the cookie to go on from, and the names so far; the place at which its last page came, and whether the directory ended
+-- there.
 pub record Listing : Type 0 where
   pub dir : Handle
   pub cookie : ℕ
@@ -259,7 +260,7 @@ pub data Move (m : Modes) (n : ℕ) (old new : View) : Type 0 where
 
 -- ---- entries
 
--- An operation with a path stands at the root as it begins, where the clock was read before: client_core, nfs_client. Others begin to no effect.
+-- An operation with a path stands at the root as it begins, if the clock was read before: client_core, nfs_client. Others begin to no effect.
 pub record StartsWalk (origin : Origin) (t : History) (n : ℕ) (old new : View) : Type 0 where
   pub root : Handle
   pub time : ℕ
@@ -276,7 +277,7 @@ pub record LastCame (t : History) (n : ℕ) (c : View) (call : Call) (reply : Re
   pub came : Came c call reply
   pub last : NoneCame t.entries came.place n
 
--- An open ends with the reply to the GETATTR of its file; or, where it goes by attributes that are kept, with that to the LOOKUP or CREATE that
+-- An open ends with the reply to the GETATTR of its file; or, if it goes by attributes that are kept, with that to the LOOKUP or CREATE that
 -- gave it. Shown by file_ops (Opening).
 pub data EndsOpen (f : Handle) (call : Call) (reply : Reply) : Type 0 where
   by_getattr : call ≡ calls.File (files.GetAttr f) → EndsOpen f call reply

@@ -1,6 +1,9 @@
-//! The law of names, attributes and listings: a client whose steps are those of `specs/Machine` finds the files of its opens and puts under their
-//! names, shows attributes that an object had at a recent moment, and lists the names that a directory held, whatever other clients did. Nothing
-//! here runs: each function has an empty body, and its contract is the theorem.
+//! The law of names, attributes and listings, of a client whose steps are those of `specs/Machine`. Whatever other clients did, it
+//! - finds the files of its opens and puts under their names;
+//! - shows attributes that an object had at a recent moment;
+//! - lists the names that a directory held.
+//!
+//! Nothing here runs: each function has an empty body, and its contract is the theorem.
 #![tactic(auto)]
 
 ghost use Rattle.std.specs.Prelude.{◌≡◌};
@@ -17,8 +20,8 @@ ghost use Rattle.model_walks.specs.Machine.{View};
 ghost use Rattle.model_walks.specs.Reaches.{Reaches};
 ghost use Rattle.model_walks.specs.SmallRun.{IsReached, Records, the_history};
 
-/// The file of each open and put that went well stood under the last name of its path at a moment of the operation, in a directory to which the
-/// earlier names lead by what directories held at recent moments (RFC 1813, section 3.3.3).
+/// The file of each open and put that succeeded stood under the last name of its path at a moment of the operation. The earlier names lead to its
+/// directory, by what directories held at recent moments (RFC 1813, section 3.3.3).
 pub fn names_are_true()
     ensures { (m : Modes) (origin : Origin) (t : History) → Lawful t → Fresh t → (c : View) → Reaches m origin t t.entries c → NamesTrue m origin t }
 {}
@@ -34,13 +37,13 @@ pub fn listings_are_whole()
     ensures { (m : Modes) (origin : Origin) (t : History) → Lawful t → Fresh t → Rising t → (c : View) → Reaches m origin t t.entries c → ListTrue m origin t }
 {}
 
-/// The machine isn't empty: a small run is reached, with each kind of move, where records spell its calls and replies.
+/// The machine isn't empty: a small run is reached, with each kind of move, if records spell its calls and replies.
 pub fn small_run()
     ensures { (mode : Mode) (dir attr : Attr) (r : Records dir attr) → IsReached (the_history mode dir attr r) }
 {}
 
-/// And the premises of the theorems hold together: the run is one of an honest server with fresh stamps and rising cookies, where its objects have
-/// attributes of a directory and of an empty file.
+/// And the premises of the theorems hold together: the run is one of an honest server with fresh stamps and rising cookies. For that its objects
+/// have the attributes of a directory and of an empty file.
 pub fn small_run_is_lawful()
     ensures honest { (mode : Mode) (dir attr : Attr) (r : Records dir attr) → dir.kind ≡ 2 → attr.kind ≡ 1 → attr.size ≡ 0
         → Lawful (the_history mode dir attr r) }

@@ -2,7 +2,7 @@
 use Rattle.std.specs.Prelude.{◌≡◌, ◌≢◌, ◌<◌, ◌≤◌, ◌⊎◌, ℕ, zero, suc, true, length, Some, None}
 use Rattle.model_writes.specs.Story.{Verifier, File, Spot, Call, write, commit, resize, plain, Reply, wrote, committed, told, denied, Event, Entry, Began, Answered, Sent, Executed, Foreign, Reboot, Delivered, Failed, At, gives, Reach, Changes, Alters, Server, Told, Both}
 
--- a place keeps its byte, and where it was stable it stays so
+-- a place keeps its byte, and if it was stable it stays so
 pub record Keeps (old new : Server) (i : Spot) : Type 0 where
   pub verf : new.verf ≡ old.verf
   pub now : (b : ℕ) → old.now i ≡ Some b → new.now i ≡ Some b
@@ -19,7 +19,7 @@ pub record Puts (old new : Server) (call : Call) : Type 0 where
   pub covered : (i : Spot) (y : ℕ) → gives call i ≡ Some y → ((new.now i ≡ old.now i) ⊎ (new.now i ≡ Some y))
       × ((new.stable i ≡ old.stable i) ⊎ (new.stable i ≡ Some y))
 
--- A WRITE that is answered ok has put its first bytes, and made them stable where it says so.
+-- A WRITE that is answered ok has put its first bytes, and made them stable if it says so.
 pub record Writes (old new : Server) (call : Call) (count k : ℕ) (v : Verifier) : Type 0 where
   pub puts : Puts old new call
   pub says : v ≡ old.verf

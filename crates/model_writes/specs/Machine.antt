@@ -89,7 +89,7 @@ pub record NewCall (old new : View) (x : ℕ) (call : Call) : Type 0 where
 
 -- ---- moves of the client alone
 
--- a pending byte takes off, where none of its place is in flight
+-- a pending byte takes off, if none of its place is in flight
 pub record PicksUp (old new : View) (x : ℕ) (i : Spot) (y : ℕ) : Type 0 where
   pub cell : Cell
   pub was : old.rest i ≡ Some cell
@@ -193,7 +193,7 @@ pub record Beside (c : View) (l : ℕ) (file : File) (size : ℕ) : Type 0 where
   pub other : k ≢ l
   pub is : c.lane k ≡ busy from (cut_op file size) starts
 
--- While its SETATTR waits a truncate ends only where the session is lost: an equal one that waits is another truncate's. Shown by file_ops and client_core.
+-- While its SETATTR waits a truncate ends only if the session is lost: an equal one that waits is another truncate's. Shown by file_ops and client_core.
 abbrev pub Unasked : View → ℕ → Op → Type 0
 Unasked c l (write_op file offset bytes) = Unit {0}
 Unasked c l (put_op file offset bytes) = Unit {0}
@@ -203,8 +203,8 @@ Unasked c l (cut_op file size) = (y : ℕ) → c.wait y ≡ Some (resize file si
 Unasked c l (open_op file slot) = Unit {0}
 Unasked c l plain_op = Unit {0}
 
--- How an operation goes on where nothing else changes. It joins the queue of its file with all numbers that were given by then
--- (`queues`: file_ops). It ends ok only where nothing up to its number is pending, and not between a give-up and the next record
+-- How an operation goes on if nothing else changes. It joins the queue of its file with all numbers that were given by then
+-- (`queues`: file_ops). It ends ok only if nothing up to its number is pending, and not between a give-up and the next record
 -- (`firms`: file_ops). What is ready stays (client_core).
 pub data Goes (c : View) (l : ℕ) : Op → Work → Work → Type 0 where
   queues : (op : Op) (file : File) → Firms op file → is_put op ≡ false → Goes c l op starts (joins c.seq)
@@ -282,7 +282,7 @@ pub record Drops (old new : View) (file : File) : Type 0 where
   pub none : (i : Spot) → i.file ≡ file → (new.rest i ≡ None) × (new.fly i ≡ None)
   pub others : (i : Spot) → i.file ≢ file → SameAt old new i
 
--- By a close that is refused, where no slot holds the file (open_files, client_core), and every other close of the file has its
+-- By a close that is refused, if no slot holds the file (open_files, client_core), and every other close of the file has its
 -- answer (file_ops: one that isn't past its sync holds its slot).
 pub record GivesUp (old new : View) : Type 0 where
   pub l : ℕ
@@ -416,8 +416,8 @@ pub data Renamed (x y : ℕ) (fly fly' : Option Flight) : Type 0 where
   unmoved : ((f : Flight) → fly ≡ Some f → f.xid ≢ x) → fly' ≡ fly → Renamed x y fly fly'
   moved : (f : Flight) → fly ≡ Some f → f.xid ≡ x → fly' ≡ Some (record { byte = f.byte; number = f.number; xid = y }) → Renamed x y fly fly'
 
--- The call is made again under a new xid, in one step with the taking of the reply, lest its bytes were in flight under a call
--- that doesn't wait. Shown by rpc_retry.
+-- The call is made again under a new xid, in one step with the taking of the reply. Else its bytes would be in flight under a call that doesn't wait. Shown
+-- by rpc_retry.
 pub record Renews (old new : View) (x : ℕ) (r : Reply) : Type 0 where
   pub call : Call
   pub y : ℕ
@@ -436,7 +436,7 @@ pub record Ignores (old new : View) (x : ℕ) : Type 0 where
   pub calls : SameCalls old new
   pub places : SamePlaces old new
 
--- A record is received only where every answer that is ready was noted. Shown by nfs_client (run).
+-- A record is received only if every answer that is ready was noted. Shown by nfs_client (run).
 pub record Hears (old new : View) (x : ℕ) (r : Reply) : Type 0 where
   pub quiet : (l from : ℕ) (op : Op) (answer : Answer) → old.lane l ≡ busy from op (ready answer) → ⊥
   pub lanes : SameLanes old new

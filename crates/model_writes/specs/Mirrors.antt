@@ -42,7 +42,7 @@ held_stable (servers.Bytes now stable) i = slice_get stable i
 held_stable (servers.Entries listed) i = None
 held_stable (servers.Text text) i = None
 
--- the byte of a place of an object, where it is a file
+-- the byte of a place of an object, if it is a file
 abbrev pub byte_now : Option servers.Object → ℕ → Option ℕ
 byte_now None i = None
 byte_now (Some o) i = held_now o.holds i

@@ -75,7 +75,7 @@ Unrefused h x = (lane y : ℕ) (op : Op) → At h x (Began lane op) → is_put o
 abbrev pub Touched : Told → ℕ → ℕ → Spot → Type 0
 Touched t w p i = Reason t.entries (λ x. Unrefused t.entries x) w p i ⊎ ((t.at p).gone i.file ≡ true)
 
--- Each byte of a write or put that was answered ok, and that a sync, close or put of the file made stable by j, is there and
+-- A write or put was answered ok, and a sync, close or put of the file made its bytes stable by j. Each byte is there and
 -- stable at every later moment, unless it was touched.
 abbrev pub Settled : Told → Type 0
 Settled t = (w : ℕ) (i : Spot) (b l y lane s j p : ℕ) (wop op : Op) → At t.entries w (Began l wop) → means wop i ≡ Some b → Ends t.entries l w y done

@@ -40,7 +40,7 @@ pub data Reply : Type 0 where
   told : (status : ℕ) → Reply
   denied : Reply
 
--- an operation went well, or it didn't
+-- an operation succeeded, or it didn't
 pub data Answer : Type 0 where
   done : Answer
   refused : Answer
@@ -125,8 +125,8 @@ abbrev pub Alters : Event → Spot → Type 0
 Alters (changes places) i = places i ≡ true
 Alters flushes i = ⊥
 
--- A server has a write verifier and, of each place, the byte that it has now and the one that a restart leaves (RFC 1813,
--- section 4.8); a file may be gone.
+-- A server has a write verifier. It has of each place the byte that is there now, and the one that a restart leaves (RFC
+-- 1813, section 4.8). A file may be gone.
 pub record Server : Type 0 where
   pub verf : Verifier
   pub now : Spot → Option ℕ

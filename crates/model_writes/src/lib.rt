@@ -27,8 +27,8 @@ pub fn small_run()
     ensures { IsReached }
 {}
 
-/// The same law over histories of the layers' model: where a story reads a history entry by entry, and the machine reaches the
-/// story, bytes that a sync, close or put made stable stay on stable storage until something touches them.
+/// The same law over histories of the layers' model. Let a story read a history entry by entry, and let the machine reach the
+/// story. Then bytes that a sync, close or put made stable stay on stable storage until something touches them.
 pub fn history_settles()
     ensures { (m : Modes) (origin : Origin) (t : History) (s : Told) → Mirrors m origin t s → model.Lawful t → once.Once t.entries → (c : View) → Reaches s.entries c → kept.Settled m origin t }
 {}

@@ -44,7 +44,7 @@ impl Flavors {
     }
 }
 
-/// Reads a list with its count. TooLong exactly where the count is there and above 64.
+/// Reads a list with its count. TooLong exactly if the count is there and above 64.
 #[tactic(auto, unfolding(crate::specs::Flavors::flavors_at))]
 pub fn read_flavors(alloc: Global, r: &mut Reader<'_>) -> Result<Flavors, CodecFault>
     ensures { ReadsOwned result r.new (flavors_at r.old) }

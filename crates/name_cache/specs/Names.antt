@@ -47,7 +47,7 @@ is_of_other dir e = not (pointwise nat_eq e.0.dir dir)
 abbrev pub without_dir : List ℕ → Entries → Entries
 without_dir dir entries = filter (is_of_other dir) entries
 
--- the front entry goes, or behind the others where it is another directory's
+-- the front entry goes, or behind the others if it is another directory's
 abbrev pub turned : List ℕ → Entries → Entries
 turned dir [] = []
 turned dir (e ∷ entries) = if is_of_other dir e then entries ++ e ∷ [] else entries

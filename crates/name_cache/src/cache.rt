@@ -11,7 +11,7 @@ use std::marker::Model;
 use std::num::NonZeroUsize;
 use xdr_codec::Memory;
 
-/// What at most 256 names stand for, each in its directory. Where there are more, the one that wasn't used for the
+/// What at most 256 names stand for, each in its directory. If there are more, the one that wasn't used for the
 /// longest time goes.
 #[derive(Drop)]
 pub struct NameCache {
@@ -45,7 +45,7 @@ impl NameCache {
     }
 
     /// What a name stands for in a directory whose length and times of change are those of `stamp`. None exactly
-    /// where nothing is kept of that name, or it was learnt under another stamp. An answered entry goes to the front;
+    /// if nothing is kept of that name, or it was learnt under another stamp. An answered entry goes to the front;
     /// else the order stays.
     pub fn look(&mut self, dir: &Handle, name: &Name, stamp: &Stamp) -> Option<Handle>
         ensures found { result ≡ looked dir.now name.now stamp.now self.old }

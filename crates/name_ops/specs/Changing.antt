@@ -1,5 +1,5 @@
 -- What follows the reply to a call that changes a directory. A call that is repeated may be refused because its first copy was
--- executed, so a refusal too drops the directory's names, and its attributes are learnt or forgotten. Where the call couldn't be made
+-- executed. So a refusal, too, drops the directory's names, and its attributes are learnt or forgotten. If the call couldn't be made
 -- both stay.
 use Rattle.std.specs.Prelude.{◌≡◌, ℕ, Bool, true, false, if◌then◌else◌, List, Option, Some, None, Result}
 use Rattle.nfs_types.specs.declared.attr.Attr.{Attr}
@@ -56,7 +56,7 @@ abbrev pub told_busy : Option Fault → Bool
 told_busy None = false
 told_busy (Some fault) = is_busy fault
 
--- The attributes of the object, where it is known, are learnt, and then those of the directory.
+-- The attributes of the object, if it is known, are learnt, and then those of the directory.
 abbrev pub LearnsOf : Option (List ℕ) → Option Attr → List ℕ → Option Attr → ℕ → Attrs → Attrs → Type 0
 LearnsOf (Some object) attr dir after now old new = LearnsThen object attr now (Renews dir after now) old new
 LearnsOf None attr dir after now old new = Renews dir after now old new
@@ -66,7 +66,7 @@ abbrev pub LearnsTold : Bool → Told → List ℕ → ℕ → Attrs → Attrs �
 LearnsTold true told dir now old new = new ≡ old
 LearnsTold false told dir now old new = LearnsOf told.object told.attr dir told.dir now old new
 
--- the same call again where the server is busy, or the answer
+-- the same call again if the server is busy, or the answer
 abbrev pub change_next : Bool → Call → Told → Step
 change_next again call told = if again then Send call else Done (answer_of told.refusal)
 

@@ -22,7 +22,7 @@ use Rattle.name_ops.specs.Pairs.{Walks}
 abbrev pub link_call : List ℕ → List ℕ → List ℕ → Call
 link_call name file dir = calls.Dir (dirs.Link file dir name)
 
--- what the reply tells: the file's attributes too, also where it refuses
+-- what the reply tells: the file's attributes too, also if it refuses
 abbrev pub linked : List ℕ → Option Attr → Wcc → Option Fault → Told
 linked file attr wcc refusal = record { object = Some file; attr = attr; dir = wcc.after; refusal = refusal; unmade = false }
 

@@ -1,5 +1,5 @@
--- The names of a directory are listed page by page (RFC 1813, section 3.3.17): the first page is asked for with the cookie 0 and a
--- verifier of zeros, each next one with the last cookie and the verifier of the page before it.
+-- The names of a directory are listed page by page (RFC 1813, section 3.3.17). The first page is asked for with the cookie 0 and a
+-- verifier of zeros. Each next one is asked for with the last cookie and the verifier of the page before it.
 use Rattle.std.specs.Prelude.{◌≡◌, ◌⊎◌, ℕ, ◌++◌, Bool, true, false, if◌then◌else◌, List, [], Option, None, Result, Ok, Err}
 use Rattle.nfs_types.specs.declared.attr.Attr.{Attr}
 use Rattle.nfs_types.specs.declared.verf.Verf.{Verf}
@@ -91,7 +91,7 @@ TakesPage heard room m next new =
     ((next ≡ Done (answers.Refused faults.Memory)) × (new ≡ m))
     ⊎ (TakesStep (page_step m.listing heard.page heard.verf heard.eof) heard room m next new)
 
--- the same call again where the server is busy, or the refusal
+-- the same call again if the server is busy, or the refusal
 abbrev pub refused_next : Bool → Fault → ListDir → Step
 refused_next again fault m = if again then Send (page_call m.place m.visit.walk.spot.dir) else Done (answers.Refused fault)
 

@@ -1,5 +1,5 @@
 -- RENAME, and what follows its reply (RFC 1813, section 3.3.14). A refusal too drops the names of both directories, since a call that
--- is repeated may be refused because its first copy was executed. Where the call couldn't be made they stay.
+-- is repeated may be refused because its first copy was executed. If the call couldn't be made they stay.
 use Rattle.std.specs.Prelude.{◌≡◌, ℕ, nat_eq, Bool, true, false, List, Option, Some, None, Result, Ok, Err}
 use Rattle.std.specs.Cmp.Lexicographic.{pointwise}
 use Rattle.nfs_types.specs.declared.attr.Attr.{Attr}

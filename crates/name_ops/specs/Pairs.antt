@@ -85,7 +85,7 @@ on_after p turn shelf = first_kept (go_next p.first turn shelf) (walked_first p 
 abbrev pub on_shelf : Pair → Turn → Shelf → Shelf
 on_shelf p turn shelf = first_shelf (go_next p.first turn shelf) (walked_first p turn shelf) turn (go_shelf p.first turn shelf)
 
--- A step that no reply made possible: nothing, where the second walk or the call has no reply yet.
+-- A step that no reply made possible: nothing, if the second walk or the call has no reply yet.
 abbrev pub waits : Pair → Bool
 waits p = p.asked || p.second.asked
 

@@ -1,5 +1,5 @@
--- A name of a file is removed (RFC 1813, section 3.3.12). A server forgets a file with its last name, so one that this client has open
--- gets a `.nfs` name instead, and is removed at its last close (this client's own rule; RFC 1813, section 1.5).
+-- A name of a file is removed (RFC 1813, section 3.3.12). A server forgets a file with its last name. So one that this client has open
+-- gets a `.nfs` name instead, and is removed at its last close. (This is the client's own rule; RFC 1813, section 1.5.)
 use Rattle.std.specs.Prelude.{◌≡◌, ◌⊎◌, ◌==◌, ℕ, ◌+◌, Bool, true, false, if◌then◌else◌, List, Option, Some, None, Result, Ok, Err, MatchBool}
 use Rattle.std.specs.FinMap as map
 use Rattle.nfs_dir_calls.specs.declared.call.DirCall.TheVariants as dirs
@@ -67,7 +67,7 @@ pub record Asks (deed : Deed) (room : Bool) (m : RemoveFile) (old : Shelf) (next
   pub machine_is : new ≡ asked_after m deed room
   pub shelf_is : after ≡ old
 
--- it is made again where the server is busy
+-- it is made again if the server is busy
 pub record Again (deed : Deed) (m : RemoveFile) (old : Shelf) (next : Step) (new : RemoveFile) (after : Shelf) : Type 0 where
   pub next_is : next ≡ nexts.Send (call_of m deed)
   pub machine_is : new ≡ m
@@ -75,7 +75,7 @@ pub record Again (deed : Deed) (m : RemoveFile) (old : Shelf) (next : Step) (new
 
 -- ---- to the directory
 
--- Where this client has any file open, it looks up the name.
+-- If this client has any file open, it looks up the name.
 abbrev pub first_deed : Bool → Deed
 first_deed any = if any then Look else Remove
 
@@ -225,7 +225,7 @@ TakesDeed (Seek file to) m sent turn came old next new after = TakesSeek file to
 TakesDeed (Move file to) m sent turn came old next new after = (new ≡ m) × TakesMove file to m sent turn came old next after
 TakesDeed Remove m sent turn came old next new after = (new ≡ m) × Changes m.walk.spot.dir (call_of m Remove) (removed_told came) sent turn old next after
 
--- It means nothing where none was asked for.
+-- It means nothing if none was asked for.
 abbrev pub TakesIf : Bool → Deed → RemoveFile → Turn → Turn → Result Reply Fault → Shelf → Step → RemoveFile → Shelf → Type 0
 TakesIf true deed m sent turn came old next new after = TakesDeed deed m sent turn came old next new after
 TakesIf false deed m sent turn came old next new after = Waits m old next new after

@@ -18,7 +18,7 @@ use Rattle.name_ops.specs.Pairs.{Walks}
 abbrev pub rename_call : List ℕ → List ℕ → List ℕ → List ℕ → Call
 rename_call from to from_dir to_dir = move_call from_dir from to_dir to
 
--- the same call again where the server is busy, or the answer
+-- the same call again if the server is busy, or the answer
 abbrev pub renamed_next : Bool → Call → Moved → Step
 renamed_next again call told = if again then Send call else Done (answer_of told.refusal)
 

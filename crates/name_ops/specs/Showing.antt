@@ -22,7 +22,7 @@ abbrev pub shown_answer : Result Value Fault → Answer
 shown_answer (Ok value) = answers.Done value
 shown_answer (Err fault) = answers.Refused fault
 
--- the same call again where the server is busy, or the answer
+-- the same call again if the server is busy, or the answer
 abbrev pub show_next : Bool → Call → Result Value Fault → Step
 show_next again call told = if again then Send call else Done (shown_answer told)
 

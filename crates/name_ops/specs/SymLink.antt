@@ -54,7 +54,7 @@ pub record WalksByCopy (call : List ℕ → Call) (v : Visit) (sent turn : Turn)
 abbrev pub lacking : Told → Told
 lacking told = record told { refusal = Some faults.Memory }
 
--- The step at the reply. Where the server is busy the target is copied first, and where there is no memory for that no call follows.
+-- The step at the reply. If the server is busy the target is copied first, and if there is no memory for that no call follows.
 abbrev pub ChangesByCopy : List ℕ → Call → Told → Turn → Turn → Shelf → Step → Shelf → Type 0
 ChangesByCopy dir call told sent turn old next after =
     (Changes dir call told sent turn old next after)

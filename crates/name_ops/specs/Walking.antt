@@ -1,4 +1,4 @@
--- A path is walked from the root. A name is taken from the kept ones where its directory's attributes are believed and it was learnt
+-- A path is walked from the root. A name is taken from the kept ones if its directory's attributes are believed and it was learnt
 -- under their stamp; else LOOKUP is asked (RFC 1813, section 3.3.3).
 use Rattle.std.specs.Prelude.{◌≡◌, ℕ, zero, suc, ◌-◌, Bool, true, false, if◌then◌else◌, List, length, Option, Some, None, slice_get, Result, Ok, Err}
 use Rattle.nfs_types.specs.declared.attr.Attr.{Attr}
@@ -34,7 +34,7 @@ abbrev pub spot_after : Option (List ℕ) → Spot → Spot
 spot_after None spot = spot
 spot_after (Some found) spot = reached found spot
 
--- A name is gone through where it was learnt under the stamp of its directory's attributes.
+-- A name is gone through if it was learnt under the stamp of its directory's attributes.
 abbrev pub passed_under : Option Attr → List ℕ → Passed → Passed
 passed_under None name p = p
 passed_under (Some attr) name p = record {
@@ -69,7 +69,7 @@ walked w now known kept = record w { spot = (passed_all w now known kept).spot }
 abbrev pub next_name : Walk → Option (List ℕ)
 next_name w = name_at w.path w.spot.left
 
--- Where a name is left, it is asked for as soon as there is room.
+-- If a name is left, it is asked for as soon as there is room.
 abbrev pub asks : Option (List ℕ) → Bool → Walk → WalkStep
 asks None room w = At w.spot.dir
 asks (Some name) room w = if room then Send (look_up w.spot.dir name) else Wait
@@ -125,7 +125,7 @@ abbrev pub told_shelf : Walk → Result (List ℕ) Fault → Turn → Shelf → 
 told_shelf w (Ok found) turn shelf = record shelf { names = on_names (arrived w found) turn shelf.attrs shelf.names }
 told_shelf w (Err fault) turn shelf = shelf
 
--- The same LOOKUP is made again where the server is busy.
+-- The same LOOKUP is made again if the server is busy.
 abbrev pub followed_next : Bool → Walk → List ℕ → Result (List ℕ) Fault → Turn → Shelf → WalkStep
 followed_next busy w name told turn shelf = if busy then Send (look_up w.spot.dir name) else told_next w told turn shelf
 

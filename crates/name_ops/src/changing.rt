@@ -25,7 +25,7 @@ pub(crate) fn change(dir: &Handle, told: &Told, sent: Turn, turn: Turn, shelf: &
 }
 
 /// The names of the directory are dropped, and what the reply tells of attributes is learnt; without those of the directory
-/// it is forgotten. All stays where the call couldn't be made.
+/// it is forgotten. All stays if the call couldn't be made.
 fn note_change(dir: &Handle, told: &Told, now: u64, attrs: &mut AttrCache, names: &mut NameCache)
     ensures attrs { LearnsTold told.now.unmade told.now dir.now now attrs.old attrs.new }
     ensures names { names.new ≡ names_after told.now.unmade dir.now names.old }
@@ -78,7 +78,7 @@ pub(crate) fn mode_set(mode: u32) -> SetAttr
     }
 }
 
-/// The attributes of the object, where it is known, and then those of the directory.
+/// The attributes of the object, if it is known, and then those of the directory.
 fn learn_of(
     object: &Option<Handle>,
     attr: &Option<Attr>,

@@ -20,7 +20,7 @@ use world_model::{Answer, Call, Fault, Value};
 /// What a reply to RENAME tells.
 #[derive(Clone, Copy, Debug)]
 pub struct Moved {
-    /// The attributes of the directory that had the name, where the reply gives them.
+    /// The attributes of the directory that had the name, if the reply gives them.
     pub from: Option<Attr>,
     /// Those of the directory that has the new name.
     pub to: Option<Attr>,
@@ -118,7 +118,7 @@ pub(crate) fn move_names(
     again(told.is_busy(), sent, turn, &mut shelf.repeats)
 }
 
-/// The names of both directories are dropped, and their attributes learnt or forgotten. All stays where the call couldn't be
+/// The names of both directories are dropped, and their attributes learnt or forgotten. All stays if the call couldn't be
 /// made.
 fn note_move(
     from: &Handle,

@@ -114,7 +114,7 @@ impl RemoveFile {
         self.follow(step, turn.room, &shelf.opens)
     }
 
-    /// It does as its walk does, until that has come to its end. Then it looks up the name where any file is open.
+    /// It does as its walk does, until that has come to its end. Then it looks up the name if any file is open.
     fn follow(&mut self, step: WalkStep, room: bool, opens: &OpenFiles) -> Step
         ensures { Follows step room self.old opens.now result self.new }
     {
@@ -144,7 +144,7 @@ impl RemoveFile {
         self.next_call(&deed, room)
     }
 
-    /// The call of a deed, where there is room.
+    /// The call of a deed, if there is room.
     fn next_call(&self, deed: &Deed, room: bool) -> Step
         ensures { result ≡ asked_next self.now deed.now room }
     {
@@ -171,7 +171,7 @@ impl RemoveFile {
         }
     }
 
-    /// A reply means nothing where it asked for none.
+    /// A reply means nothing if it asked for none.
     fn take_asked(
         &mut self,
         deed: Deed,
@@ -288,7 +288,7 @@ impl RemoveFile {
         }
     }
 
-    /// Nothing was found: the name is taken where nothing has it.
+    /// Nothing was found: the name is taken if nothing has it.
     fn miss(&mut self, fault: Fault, file: Handle, to: Name, room: bool) -> Step
         ensures next { result ≡ missed_next (is_missing fault) fault file to self.old room }
         ensures machine { self.new ≡ missed_after (is_missing fault) file to self.old room }

@@ -10,7 +10,7 @@ use client_shelf::{Shelf, Step, Turn};
 use nfs_types::{Attr, Handle};
 use world_model::{Answer, Call, Fault, Value};
 
-/// The object's attributes are learnt, where the reply gives them. The call is made again where the server is busy; else
+/// The object's attributes are learnt, if the reply gives them. The call is made again if the server is busy; else
 /// what was shown is the answer.
 pub(crate) fn show(
     object: &Handle,

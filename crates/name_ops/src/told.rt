@@ -12,11 +12,11 @@ use world_model::{Answer, Fault, Value};
 /// What a reply to a call that changes a directory tells.
 #[derive(Clone, Copy, Debug)]
 pub struct Told {
-    /// The object that got a name, where its file handle is known.
+    /// The object that got a name, if its file handle is known.
     pub object: Option<Handle>,
-    /// Its attributes, where the reply gives them.
+    /// Its attributes, if the reply gives them.
     pub attr: Option<Attr>,
-    /// The directory's attributes after the call, where the reply gives them.
+    /// The directory's attributes after the call, if the reply gives them.
     pub dir: Option<Attr>,
     /// Why nothing was changed, if nothing was.
     pub refusal: Option<Fault>,
@@ -77,7 +77,7 @@ impl Told {
         }
     }
 
-    /// The same reply, where there is no memory for the call that is to follow.
+    /// The same reply, if there is no memory for the call that is to follow.
     pub(crate) fn lacking(&self) -> Told
         ensures { result ≡ lacking self.now }
     {

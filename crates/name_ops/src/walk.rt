@@ -191,7 +191,7 @@ fn pass_kept(spot: Spot, path: &[Name], now: u64, attrs: &AttrCache, names: &mut
     spot
 }
 
-/// Goes through the next name, where one is left and it is kept.
+/// Goes through the next name, if one is left and it is kept.
 fn pass_next(spot: Spot, path: &[Name], now: u64, attrs: &AttrCache, names: &mut NameCache) -> Spot
     ensures { record { spot = result; names = names.new } ≡ passed_one path.now now attrs.now (record { spot = spot; names = names.old }) }
 {
@@ -201,7 +201,7 @@ fn pass_next(spot: Spot, path: &[Name], now: u64, attrs: &AttrCache, names: &mut
     }
 }
 
-/// Goes through a name, where it was learnt while its directory had the attributes that are believed now.
+/// Goes through a name, if it was learnt while its directory had the attributes that are believed now.
 fn pass_name(spot: Spot, name: &Name, now: u64, attrs: &AttrCache, names: &mut NameCache) -> Spot
     ensures { record { spot = result; names = names.new } ≡ passed_name name.now now attrs.now (record { spot = spot; names = names.old }) }
 {

@@ -1,4 +1,4 @@
--- How a count of failures goes on: it stays where a call went well, and rises by one where it failed.
+-- How a count of failures goes on: it stays if a call succeeded, and rises by one if it failed.
 use Rattle.std.specs.Prelude.{◌≡◌, ◌+◌, ◌-◌, ◌^◌, min, ℕ, Result, Ok, Err}
 use Rattle.outside.specs.declared.source.Failed.{Failed}
 use Rattle.outside.specs.declared.link.LinkFault.{LinkFault}
@@ -23,7 +23,7 @@ CountsFault old new (Ok x) = new ≡ old
 CountsFault old new (Err faults.Failed) = new ≡ next_count old
 CountsFault old new (Err faults.Memory) = ⊥
 
--- of a wire that waits, where silence counts, too
+-- of a wire that waits, if silence counts, too
 abbrev pub CountsRead : ℕ → ℕ → WireRead → Type 0
 CountsRead old new (reads.Got n) = new ≡ old
 CountsRead old new reads.Silent = new ≡ next_count old

@@ -1,4 +1,4 @@
-//! Reads and writes that are made again where the system interrupts them.
+//! Reads and writes that are made again if the system interrupts them.
 
 ghost use Rattle.std.specs.Prelude.{◌≡◌, ◌≢◌, ◌↔◌, IsTrue, IfErr};
 ghost use Rattle.std.specs.Io.{ReadsAtMost, WritesAtMost};
@@ -6,7 +6,7 @@ ghost use Rattle.std.specs.IoError.{error_kind};
 
 use std::io::{self, ErrorKind, Read, Write};
 
-/// Reads, and reads again as often as the system interrupts it. It does so where the process was stopped and goes on.
+/// Reads, and reads again as often as the system interrupts it. It does so if the process was stopped and goes on.
 pub fn read_again<R: Read>(reader: &mut R, buf: &mut [u8]) -> io::Result<usize>
     ensures fits { ReadsAtMost result buf.new }
     ensures uninterrupted { IfErr result (λ e. error_kind e ≢ ErrorKind.Interrupted) }

@@ -1,7 +1,11 @@
-//! The true outside: TCP as a wire, UDP as datagrams, a port at which others connect, standard input as a source of
-//! bytes, standard output and standard error as sinks, and the clock of the system. What they pass on is told nowhere:
-//! each keeps a count of its failures, and the clock its last reading. A read or a write that the system interrupts is made
-//! again, and a standard stream that is closed when the program starts stays so.
+//! The true outside:
+//! - TCP as a wire, and UDP as datagrams;
+//! - a port at which others connect;
+//! - standard input as a source of bytes, standard output and standard error as sinks;
+//! - the clock of the system.
+//!
+//! What they pass on is told nowhere: each keeps a count of its failures, and the clock its last reading. A read or a write
+//! that the system interrupts is made again. A standard stream that is closed when the program starts stays so.
 #![tactic(auto)]
 
 mod again;

@@ -31,7 +31,7 @@ impl<'a, R: Net + Clock> Model for LoopbackListener<'a, R> {
 }
 
 impl<'a, R: Net + Clock> LoopbackListener<'a, R> {
-    /// Listens at that port of 127.0.0.1; at 0 the system chooses one. `Failed` where the system refuses it, as where
+    /// Listens at that port of 127.0.0.1; at 0 the system chooses one. `Failed` if the system refuses it, as when
     /// another program listens there.
     pub fn bind(system: &'a R, port: u16) -> Result<LoopbackListener<'a, R>, Failed>
         ensures { IfOk result (λ listener. listener ≡ 0) }

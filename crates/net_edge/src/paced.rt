@@ -58,7 +58,7 @@ impl PacedSocket {
         arrived
     }
 
-    /// Waits until a datagram of so many bytes has room beside those that weren't answered yet. Where no answer comes in time
+    /// Waits until a datagram of so many bytes has room beside those that weren't answered yet. If no answer comes in time
     /// these count as lost.
     fn await_room(&mut self, len: usize) {
         for _ in 0..MOST_EARLY {
@@ -72,7 +72,7 @@ impl PacedSocket {
         }
     }
 
-    /// Keeps a datagram that comes within the pause. False where none does, or no more are kept.
+    /// Keeps a datagram that comes within the pause. False if none does, or no more are kept.
     fn hear(&mut self) -> bool {
         if self.early.len() >= MOST_EARLY {
             return false;

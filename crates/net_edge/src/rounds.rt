@@ -23,7 +23,7 @@ pub(crate) struct Rounds<'a, C: Clock> {
 }
 
 impl<'a, C: Clock> Rounds<'a, C> {
-    /// Begins the first round. None where the clock can't be read.
+    /// Begins the first round. None if the clock can't be read.
     pub(crate) fn begin(system: &'a C) -> Option<Rounds<'a, C>> {
         Some(Rounds {
             system,
@@ -32,7 +32,7 @@ impl<'a, C: Clock> Rounds<'a, C> {
         })
     }
 
-    /// Waits for the next round. None where the time is over.
+    /// Waits for the next round. None if the time is over.
     pub(crate) fn pause(&mut self) -> Option<()> {
         let elapsed = self.begun.elapsed(self.system).ok()?;
         let left = Duration::from_secs(LIMIT_SECS).checked_sub(elapsed)?;

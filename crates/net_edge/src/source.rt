@@ -36,7 +36,7 @@ impl<R: Read + Drop> ReaderSource<R> {
     }
 }
 
-/// The file at that path as a source. `Failed` where it can't be opened to be read.
+/// The file at that path as a source. `Failed` if it can't be opened to be read.
 pub fn file_source<R: Files>(files: &R, path: &str) -> Result<ReaderSource<R::File>, Failed>
     ensures { IfOk result (λ source. source ≡ 0) }
 {

@@ -20,8 +20,9 @@ pub enum StandardStream {
 }
 
 /// Files in the places of the standard streams that were closed when the program started. Without them the next file or
-/// connection would take such a place, and be read or written as that stream. They can't be read where the stream is
-/// to be read, nor written where it is to be written, so its calls fail, as those of a closed one do.
+/// connection would take such a place, and be read or written as that stream. The one for a stream to read can't be
+/// read, and the one for a stream to write can't be written. So the calls of the stream fail, as those of a closed one
+/// do.
 #[derive(Drop)]
 pub struct StandIns<R: Files> {
     input: Option<R::File>,

@@ -19,7 +19,7 @@ use xdr_codec::Memory;
 #[derive(Drop)]
 pub struct TcpWire<'a, R: Net + Clock> {
     system: &'a R,
-    /// The host that is dialed; None where another dialed.
+    /// The host that is dialed; None if another dialed.
     host: Option<&'a str>,
     stream: Option<R::Stream>,
     /// Whether the last wait on the connection was silent.
@@ -63,8 +63,8 @@ impl<'a, R: Net + Clock> TcpWire<'a, R> {
         }
     }
 
-    /// Notes a silence. True where the wait before was silent too: the connection is given up then, since a server that
-    /// came back without it, or that waits for the rest of a record, never answers on it.
+    /// Notes a silence. True if the wait before was silent too. The connection is given up then: a server that came back
+    /// without it, or that waits for the rest of a record, never answers on it.
     fn is_silent_again(&mut self) -> bool
         ensures { self.new ≡ self.old }
     {
@@ -108,8 +108,9 @@ impl<R: Net + Clock> Wire for TcpWire<'_, R> {
 
     ghost lawful = { λ _ h. absurd h };
 
-    /// Dials the host's addresses in turn, each for at most 15 seconds. Where none of them takes the connection, or the name
-    /// can't be looked up, it does so again after a pause, of 0.1 seconds first and of at most one, until 15 seconds are over.
+    /// Dials the host's addresses in turn, each for at most 15 seconds. If none of them takes the connection, or the name
+    /// can't be looked up, it does so again after a pause. It gives up when 15 seconds are over. The first pause is of 0.1
+    /// seconds, and each of at most one second.
     fn connect(&mut self, port: u16) -> Result<(), LinkFault>
         ensures told { WireTells None None (connected_as port result) }
         ensures cause { HasCause self.old self.new result }
@@ -143,8 +144,8 @@ impl<R: Net + Clock> Wire for TcpWire<'_, R> {
         self.missed(Err(LinkFault::Failed))
     }
 
-    /// Reads what comes within the wait. An end of the stream is a failure, and so are the second silence in a row on one
-    /// connection and a wait without a connection.
+    /// Reads what comes within the wait. An end of the stream is a failure. So are the second silence in a row on one
+    /// connection, and a wait without a connection.
     fn read(&mut self, wait_ms: u32, buf: &mut [u8]) -> WireRead
         requires patient { 15000 ≤ wait_ms }
         requires room { 0 < length buf.old }
@@ -239,14 +240,14 @@ fn open<N: Net>(net: &N, address: SocketAddr) -> io::Result<N::Stream> {
     Ok(stream)
 }
 
-/// Lets what is written go out at once, since a call waits for its reply and a reply is waited for, and bounds how long
-/// a write takes.
+/// Lets what is written go out at once, since a call waits for its reply and a reply is waited for. It bounds how long a write
+/// takes, too.
 pub(crate) fn prepare<S: OpenStream>(stream: &S) -> io::Result<()> {
     stream.set_nodelay(true)?;
     stream.set_write_timeout(Some(Duration::from_secs(LIMIT_SECS)))
 }
 
-/// Reads what comes within so many milliseconds; 0 is the end. Where the system interrupts the wait it begins anew.
+/// Reads what comes within so many milliseconds; 0 is the end. If the system interrupts the wait it begins anew.
 fn read_within<S: Read + OpenStream>(
     stream: &mut S,
     wait_ms: u32,

@@ -22,7 +22,7 @@ use xdr_codec::Memory;
 #[derive(Drop)]
 pub struct UdpDatagrams<'a, R: Net + Clock + AllocGlobal> {
     system: &'a R,
-    /// The host that is aimed at; None where others know the port of this side, and the loopback is aimed at.
+    /// The host that is aimed at; None if others know the port of this side, and the loopback is aimed at.
     host: Option<&'a str>,
     current: Option<PacedSocket>,
     faults: u64,
@@ -49,8 +49,8 @@ impl<'a, R: Net + Clock + AllocGlobal> UdpDatagrams<'a, R> {
         }
     }
 
-    /// Datagrams at that port of 127.0.0.1, not aimed at a port yet; at 0 the system chooses one. `Failed` where the system
-    /// refuses it, as where another program has the port.
+    /// Datagrams at that port of 127.0.0.1, not aimed at a port yet; at 0 the system chooses one. `Failed` if the system
+    /// refuses it, as when another program has the port.
     pub fn bind(system: &'a R, port: u16) -> Result<UdpDatagrams<'a, R>, Failed>
         ensures { IfOk result (λ datagrams. datagrams ≡ 0) }
     {
@@ -75,7 +75,7 @@ impl<'a, R: Net + Clock + AllocGlobal> UdpDatagrams<'a, R> {
         answer
     }
 
-    /// Counts what came of a wait, where it failed or was silent.
+    /// Counts what came of a wait, if it failed or was silent.
     fn counted(&mut self, arrived: Arrived) -> Arrived
         ensures same { result ≡ arrived }
         ensures cause { HasCauseArrived self.old self.new arrived }
@@ -112,7 +112,7 @@ impl<R: Net + Clock + AllocGlobal> Datagrams for UdpDatagrams<'_, R> {
 
     ghost lawful = { λ _ h. absurd h };
 
-    /// Aims at the first of the host's addresses. Where the name can't be looked up, or no datagram could go there, it does so
+    /// Aims at the first of the host's addresses. If the name can't be looked up, or no datagram could go there, it does so
     /// again after a pause, until 15 seconds are over.
     fn aim(&mut self, port: u16) -> Result<(), LinkFault>
         ensures told { DatagramsTell None None (aimed_as port result) }
@@ -221,7 +221,7 @@ fn with_port(current: Option<PacedSocket>, port: u16) -> Option<PacedSocket> {
     Some(current)
 }
 
-/// A socket for that port of the host, if one can be had within the time of a dial: the one that is open, where it is aimed
+/// A socket for that port of the host, if one can be had within the time of a dial: the one that is open, if it is aimed
 /// there already, or a new one.
 fn aim_at<R: Net + Clock + AllocGlobal>(
     system: &R,

@@ -14,8 +14,10 @@ use std::time::Clock;
 /// How many connections are taken at most.
 const MOST_CONNECTIONS: u32 = 65_536;
 
-/// Serves one connection after another. It ends well once the calls were answered, and else where no connection can be taken,
-/// after 65,536 connections or as many records that are no call, or by lack of memory.
+/// Serves one connection after another. It ends well once the calls were answered, and else
+/// - if no connection can be taken;
+/// - after 65,536 connections, or as many records that are no call;
+/// - by lack of memory.
 pub fn serve_connections<R: Net + Clock>(
     alloc: Global,
     serving: &mut Serving,

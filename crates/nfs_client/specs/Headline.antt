@@ -22,8 +22,8 @@ use Rattle.session_setup.specs.Origins.{origin_of, modes_of, terms_by}
 use Rattle.lane_session.specs.Endings.{entries_of}
 use Rattle.script_runs.specs.Ends.{EndsSo, IsClocked}
 
--- Of the history with the server at each of its moments. An honest server executes calls as RFC 1813 says (`Lawful`), none anew once its reply came
--- (`Once`), and gives each change stamps that the object never had (`Fresh`).
+-- Of the history with the server at each of its moments. An honest server executes calls as RFC 1813 says (`Lawful`), and none anew once its reply
+-- came (`Once`). It gives each change stamps that the object never had (`Fresh`).
 pub record Promises (s : Settings) (first : ℕ) (t : History) : Type 0 where
   pub completes : Completes (terms_by s first) t
   pub settled : Lawful t → Once t.entries → Settled (modes_of s) (origin_of s.export) t

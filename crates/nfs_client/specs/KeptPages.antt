@@ -22,7 +22,7 @@ pub record WasPage (t : History) (file : List ℕ) (stamp : Stamp) (index : ℕ)
 abbrev pub WerePages : History → Pages → Type 0
 WerePages t c = (file : List ℕ) (stamp : Stamp) (index : ℕ) (bytes : List ℕ) → known_of file c ≡ Some stamp → page_of file index c ≡ Some bytes → WasPage t file stamp index bytes
 
--- so are the pages that a run hands back, of each history with these entries: where the server is honest and gives each change of a file another stamp, and the
+-- so are the pages that a run hands back, of each history with these entries: if the server is honest and gives each change of a file another stamp, and the
 -- pages that the run began with were true
 abbrev pub TrueBack : Stock → Stock → List Entry → Type 0
 TrueBack stock back h = (t : History) → t.entries ≡ h → Lawful t → Fresh t → GivenTrue stock.pages t → WerePages t back.pages

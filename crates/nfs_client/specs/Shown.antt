@@ -95,22 +95,28 @@ use Rattle.lane_session.specs.Endings.{EndsAs, entries_of}
 
 -- ---- calls
 
--- Each record was sent by the set-up, as MNT or FSINFO, or is a call of an operation that is under way and asks for it, with the session's credential. Each
--- keeps to the session's sizes; each byte of a WRITE may have been pending since the operation began that asks for it: one that an operation writes there, which
--- no later one that succeeded had covered, cut or settled, and no last close given up; MNT and FSINFO have one xid each. The xids are among those that there are, so no more calls are
--- made; all records under one xid are equal, and none is sent after its reply. A put that is the only operation until then makes no room.
+-- What a session shows of its calls:
+-- - Each record was sent by the set-up, as MNT or FSINFO; or it is a call of an operation that is under way and asks for it.
+-- - Each has the session's credential, and keeps to the session's sizes.
+-- - Each byte of a WRITE may have been pending since the operation began that asks for it. An operation writes it there; no later one that succeeded had
+--   covered, cut or settled it, and no last close given it up.
+-- - MNT and FSINFO have one xid each. The xids are among those that there are, so no more calls are made.
+-- - All records under one xid are equal, and none is sent after its reply.
+-- - A put that is the only operation until then makes no room.
 pub record CallsShown (terms : Terms) (setup : Setup) (before h : List Entry) : Type 0 where
   pub asked : CallsAsked terms h
   pub numbered : Numbered h
   pub among : (i xid : ℕ) (bytes : List ℕ) → At h i (Sent bytes) → HasXid bytes xid → (i < length before) ⊎ IsAmong setup.first_xid setup.limit xid
   pub lone_puts : (i : ℕ) (bytes : List ℕ) → At h i (Sent bytes) → (i < length before) ⊎ IsMadeAlone terms terms.cred h i bytes
 
--- Of a session that follows a script no more calls are made than its operations need, by `CallCounts` of `claims`, each at most four times where a busy
--- server puts it off: of equal plain calls, for each operation that asks, as many as its paths have names and three more; of a file as many READs as the pages
--- take that its reads ask for, and one more for each short reply; of WRITEs that cover a place of it, one for each operation that writes it, for each reply
--- that leaves it unwritten, and for each COMMIT of the file; two COMMITs for each sync, close and put of it, and 32 for each writer where these may have no
--- room; of a directory, from a cookie on, as many READDIRPLUS as replies lead there, and from its beginning one for each list; and LOOKUPs of hidden names as
--- removes began, and as such names were found taken.
+-- A session that follows a script makes no more calls than its operations need, by `CallCounts` of `claims`. Each call may be made four times at most if a busy
+-- server puts it off. But for that there are at most as many of these:
+-- - equal plain calls: for each operation that asks, as many as its paths have names, and three more;
+-- - READs of a file: as many as the pages take that its reads ask for, and one more for each short reply;
+-- - WRITEs that cover a place of a file: one for each operation that writes it, for each reply that leaves it unwritten, and for each COMMIT of the file;
+-- - COMMITs of a file: two for each sync, close and put of it, and 32 for each writer, if these may have no room;
+-- - READDIRPLUS of a directory from a cookie on: as many as replies lead there, and from its beginning one for each list;
+-- - LOOKUPs of hidden names: as many as removes began, and as such names were found taken.
 abbrev pub CountsShown : Terms → List Entry → Type 0
 CountsShown terms h = (script : List Entry) → Follows script h → CallCounts terms script h
 
@@ -121,13 +127,15 @@ WritesShown m setup before h = (i xid offset how : ℕ) (file bytes rec : List �
 
 -- ---- answers
 
--- An operation goes well only where it has its row.
+-- An operation succeeds only if it has its row.
 abbrev pub OksShown : Terms → List Entry → Type 0
 OksShown terms h = (lane x y : ℕ) (op : Op) (value : Value) → Ended h lane x op y (Done value) → OkRow terms h lane x y op value
 
--- An operation on a slot goes well only where the slot holds an open as it begins, for reading or writing as it needs. One that finds no such place is
--- refused so, and no other is. Each byte that a read answers is one that an operation gave to its place, or that a kept page or the reply to a READ of its own
--- had, or a zero past the end of these. These pages were kept from the start.
+-- An operation on a slot succeeds only if the slot holds an open as it begins, for reading or writing as it needs. One that finds no such place is refused so,
+-- and no other is. Each byte that a read answers is one of these, with the pages that were kept from the start:
+-- - one that an operation gave to its place;
+-- - one that a kept page had, or the reply to a READ of its own;
+-- - a zero past the end of these.
 pub record SlotsShown (pages : Pages) (terms : Terms) (h : List Entry) : Type 0 where
   pub reads : (lane x slot offset count y : ℕ) (bytes : List ℕ) → Ended h lane x (ops.Read slot offset count) y (Done (Bytes bytes))
       → ReadGivenFrom pages terms.modes (take y h) x (ops.Read slot offset count) offset bytes
@@ -135,7 +143,7 @@ pub record SlotsShown (pages : Pages) (terms : Terms) (h : List Entry) : Type 0 
   pub places : (lane x y : ℕ) (op : Op) (answer : Answer) → Ended h lane x op y answer → IsTried answer → FindsPlace terms h lane x op answer
   pub caused : (lane x y : ℕ) (op : Op) → PlaceRows terms h lane x y op
 
--- A put is refused for a rule that a reply broke only where a record broke it, and never for a slot; and alone only where it has its row.
+-- A put is refused for a rule that a reply broke only if a record broke it, and never for a slot; and alone only if it has its row.
 pub record PutsShown (terms : Terms) (h : List Entry) : Type 0 where
   pub rules : (lane x : ℕ) (path : List (List ℕ)) (offset : ℕ) (bytes : List ℕ) (y n : ℕ) → Ended h lane x (ops.Put path offset bytes) y (Refused (Bad n))
       → IsRefusedSo h x y (Bad n)
@@ -152,10 +160,13 @@ NoneUnderWay h = (lane x : ℕ) (op : Op) → UnderWay h lane x (length h) op �
 abbrev pub AllRowed : Terms → List Entry → Type 0
 AllRowed terms h = (lane x y : ℕ) (op : Op) (fault : Fault) → Ended h lane x op y (Refused fault) → RefusalRow terms h lane x y op fault
 
--- Each operation that is refused has its row, whichever it is and whatever it is refused for. A status and a refusal by RPC come from a record that refused a
--- call of it, and what doesn't let it go on from one that refused so a call that was sent for this very operation. None is refused for the kind of a file that
--- wants none, nor for too many names that lists none. The session is lost, and an operation answered so, only for a cause. An operation is answered that all
--- calls were made only where they were: where none is under way and the session isn't lost, so many were sent.
+-- What a session shows of refusals:
+-- - Each operation that is refused has its row, whichever it is and whatever it is refused for.
+-- - A status and a refusal by RPC come from a record that refused a call of it.
+-- - What doesn't let it go on comes from a record that refused so a call that was sent for this very operation.
+-- - None is refused for the kind of a file that wants none, nor for too many names that lists none.
+-- - The session is lost, and an operation answered so, only for a cause.
+-- - An operation is answered that all calls were made only if they were. If none is under way and the session isn't lost, so many were sent.
 pub record FaultsShown (terms : Terms) (setup : Setup) (h : List Entry) (core : View) : Type 0 where
   pub rows : AllRowed terms h
   pub refusals : (lane x : ℕ) (op : Op) (y : ℕ) (fault : Fault) → Ended h lane x op y (Refused fault) → IsRefusalShown h x y fault
@@ -168,18 +179,21 @@ pub record FaultsShown (terms : Terms) (setup : Setup) (h : List Entry) (core : 
 
 -- ---- operations without an answer
 
--- As long as the session isn't lost, each operation under way waits for something; and where no call waits, none is under way.
+-- As long as the session isn't lost, each operation under way waits for something; and if no call waits, none is under way.
 pub record RestShown (core : View) : Type 0 where
   pub waits : core.lost ≡ false → (at number : ℕ) (machine : Machine) → IsBusyAt core at number machine → WaitsFor core number
   pub answered : core.calls.calls ≡ [] → NoneBusy core
 
 -- ---- what is kept
 
--- Each page that the core keeps is one that was kept from the start or that a READ gave, with what the client wrote and cut since. As long as the session isn't lost, each byte that is pending
--- is one that an operation gave to its place, and the newest of each place is `Pending` by the history, where each answer that is ready was noted: nothing that
--- went well since has covered, cut or settled it, and no last close left it alone; what is in flight is what a WRITE carries that waits, and of each WRITE that
--- waits it is in flight; and a COMMIT waits while nothing of its file does. And each byte of a put that went well, as the only operation until then, was made
--- stable within it: a WRITE carried it, and was answered as stable or followed by a COMMIT of the whole file under the same verifier.
+-- Each page that the core keeps was kept from the start, or a READ gave it; it has what the client wrote and cut since. As long as the session isn't lost:
+-- - Each byte that is pending is one that an operation gave to its place.
+-- - The newest of each place is `Pending` by the history, if each answer that is ready was noted. Nothing that succeeded since has covered, cut or settled it,
+--   and no last close left it alone.
+-- - What is in flight is what a WRITE carries that waits, and what each WRITE that waits carries is in flight.
+-- - While a COMMIT of a file waits, nothing of the file is in flight.
+-- - Each byte of a put that succeeded, as the only operation until then, was made stable within it. A WRITE carried it, and was answered as stable or followed
+--   by a COMMIT of the whole file under the same verifier.
 pub record KeptShown (terms : Terms) (setup : Setup) (h : List Entry) (core : View) : Type 0 where
   pub pages : (file : List ℕ) (index : ℕ) (bytes : List ℕ) → page_of file index core.shelf.pages ≡ Some bytes
       → IsKeptFrom setup.pages h core.shelf.pages file index bytes
@@ -197,7 +211,7 @@ pub record KeptShown (terms : Terms) (setup : Setup) (h : List Entry) (core : Vi
 -- ---- in the words of the model
 
 -- The history of a session that follows a script and ends with a status is `Caused`, by `claims`: each call was asked for, and not too many were made;
--- each answer has its row; a missing place or right is answered so; a session that is lost stays lost; and where an operation was refused since all calls
+-- each answer has its row; a missing place or right is answered so; a session that is lost stays lost; and if an operation was refused since all calls
 -- were made, at status 0 or 1, they were.
 abbrev pub CausedShown : Terms → List Entry → Type 0
 CausedShown terms h = (lines : List ScriptLine) (status : ℕ) → Follows (entries_of lines) h → EndsAs lines h status
@@ -205,13 +219,17 @@ CausedShown terms h = (lines : List ScriptLine) (status : ℕ) → Follows (entr
 
 -- ---- an honest server
 
--- Of a history with the server at each of its moments: a stat's path leads by names that stood in their directories at recent moments, to an object
--- that had the attributes that the stat shows; each byte that a read answers is one that an operation gave to its place, or one that the file had, or
--- past the end of that; what a kept name stands for, it stood for after the time that is kept with its directory; and a kept page is that page of the
--- file at every moment at which the file has the known stamp. The attributes of a stat are as old at most as the lifetimes allow, and an open or put
--- found its file under its name. Where cookies rise too, a list shows what its directory held. What is stable when an open begins, and stays, is in the
--- answers of its reads, where this client gave its place no other byte. And each byte of a read is current, by
--- `claims`: one that may be pending at a moment of the read, one that the file had at a moment of which the read may show bytes, or a zero in a hole.
+-- Of a history with the server at each of its moments:
+-- - A stat's path leads by names that stood in their directories at recent moments. The object there had the attributes that the stat shows.
+-- - These attributes are as old at most as the lifetimes allow.
+-- - An open or put found its file under its name.
+-- - If cookies rise, too, a list shows what its directory held.
+-- - What a kept name stands for, it stood for after the time that is kept with its directory.
+-- - A kept page is that page of the file at every moment at which the file has the known stamp.
+-- - Each byte that a read answers is one that an operation gave to its place; or one that the file had; or past the end of that.
+-- - What is stable when an open begins, and stays, is in the answers of its reads. That is so if this client gave its place no other byte.
+-- - Each byte of a read is current, by `claims`: one that may be pending at a moment of the read; one that the file had at a moment of which the read may show
+--   bytes; or a zero in a hole.
 pub record HonestShown (s : Settings) (root : List ℕ) (core : View) (t : History) : Type 0 where
   pub stats : (lane x y : ℕ) (path : List (List ℕ)) (attr : Attr) → Ended t.entries lane x (ops.Stat path) y (Done (Attrs attr))
       → HadWhereLed t (longest_of s.lives) x y root path attr
@@ -234,13 +252,17 @@ pub record HonestShown (s : Settings) (root : List ℕ) (core : View) (t : Histo
 
 -- ---- stable bytes
 
--- Of an honest server that executes no late copies: each byte of a put that went well, as the only operation until then, is in its file from the answer
--- on, and stable; and so is each byte of a write, fill or put from the answer on that settled it: of a sync, close or put that went well and began after the
--- write was answered, or of the put itself: `claims`'s `Settled`. (`synced` says it without the server's objects: as long as no other operation of this
--- client, and no other client, changes its place; and before it was settled no last close left the file, with a refusal.) Past the size of a truncate that went
--- well there is no byte but a zero, unless the place was touched. Where each change of an object gives it another stamp, too, reads are true, by `claims`:
--- each shows the bytes of the writes, fills and puts that went well before it, settled or not, and zeros past the sizes of truncates, unless these places were
--- touched; and a short answer ends where the file did, and past all that this client wrote.
+-- Of an honest server that executes no late copies:
+-- - Each byte of a put that succeeded, as the only operation until then, is in its file from the answer on, and stable.
+-- - So is each byte of a write, fill or put from the answer on that settled it (`Settled` of `claims`). This is the answer of a sync, close or put that
+--   succeeded and began after the write was answered, or of the put itself.
+-- - `synced` says it without the server's objects. It lasts as long as no other operation of this client, and no other client, changes its place; and if before
+--   it was settled no last close left the file, with a refusal.
+-- - Past the size of a truncate that succeeded there is no byte but a zero, unless the place was touched.
+--
+-- If each change of an object gives it another stamp, too, reads are true, by `claims`. Each shows the bytes of the writes, fills and puts that succeeded
+-- before it, settled or not, unless these places were touched. It shows zeros past the sizes of truncates, unless these were. A short answer ends where the
+-- file did, and past all that this client wrote.
 pub record StableShown (s : Settings) (t : History) : Type 0 where
   pub lone_puts : (lane x y : ℕ) (path : List (List ℕ)) (offset : ℕ) (bytes : List ℕ) (value : Value)
       → Ended t.entries lane x (ops.Put path offset bytes) y (Done value) → IsAlone t.entries x y
@@ -255,8 +277,8 @@ pub record StableShown (s : Settings) (t : History) : Type 0 where
 
 -- ---- complete sessions
 
--- Where the server is honest and executes each call with status 0, RPC refuses none, and the session isn't lost: each operation goes well, or finds its slot
--- taken or free, no right, no file, too many names, no calls left, or no memory. The same where operations go on from other statuses (`Completes`).
+-- If the server is honest and executes each call with status 0, RPC refuses none, and the session isn't lost: each operation succeeds, or finds its slot
+-- taken or free, no right, no file, too many names, no calls left, or no memory. The same if operations go on from other statuses (`Completes`).
 pub record CompleteShown (terms : Terms) (t : History) : Type 0 where
   pub served : IsServed t → (lane x y : ℕ) (op : Op) (answer : Answer) → Ended t.entries lane x op y answer → IsOwn answer
   pub completes : Completes terms t
@@ -264,7 +286,7 @@ pub record CompleteShown (terms : Terms) (t : History) : Type 0 where
 -- ---- all
 
 -- A core goes with the history of a session that was set up so, with the history before, and this is what the history shows: among it that it is `Thrifty`, by
--- `claims`: READs are long, and in one lane kept pages aren't asked for again, and WRITEs end only where they must; and of the server, where
+-- `claims`: READs are long, and in one lane kept pages aren't asked for again, and WRITEs end only where they must; and of the server, if
 -- it is honest and gives each change another stamp.
 pub record RunShows (s : Settings) (first : ℕ) (v : SetUp) (before h : List Entry) : Type 0 where
   pub has : HasCore (mounted_by s (setup_of s v)) (setup_of s v) before h

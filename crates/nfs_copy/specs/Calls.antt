@@ -9,7 +9,7 @@ abbrev pub TellsWrong : Bool → ℕ → Type 0
 TellsWrong false status = status ≡ 0
 TellsWrong true status = status ≡ 1
 
--- One call: the tree gave something, the next script was made of what waited and of that, and if there was none the tree is at its end.
+-- One call: the tree gave something, and the next script was made of what waited and of that. If there was none the tree is at its end.
 pub record AskedOnce {T : Type 0} (given : T → Option (List Given)) (over : T → Type 0) (round : Round) (u : UploadView) (t : T)
     (v : UploadView) (s : T) : Type 0 where
   pub gave : Gave (given t) (given s) (λ more. NextIs round.status round.script more u v)

@@ -25,8 +25,8 @@ abbrev pub IfTold : Option (List Given) → (List Given → Type 0) → Type 0
 IfTold None P = Unit {0}
 IfTold (Some given) P = P given
 
--- Each file that came whole was copied to its place below this path: in one lane and without anything in between it was opened, and made where it wasn't
--- there, cut to no bytes, written from its beginning to its end, and closed; and each of these operations succeeded.
+-- Each file that came whole was copied to its place below this path. In one lane, without anything in between, it was opened, and made if it wasn't
+-- there. It was cut to no bytes, written from its beginning to its end, and closed. Each of these operations succeeded.
 abbrev pub AllCopied : List (List ℕ) → List Given → List Entry → Type 0
 AllCopied to given h = (file : File) → Contains (files_in given) file → Copied h (to ++ file.path) (laid file.pieces)
 
@@ -36,8 +36,8 @@ pub record CameWhole (given : List Given) : Type 0 where
   pub kinds : (path : List (List ℕ)) → Contains given (gives.Item (record { path = path; node = nodes.Other })) → ⊥
   pub cuts : (cut : Cut) → Contains given (gives.Piece (pieces.Cut cut)) → ⊥
 
--- Each byte of these files is in the file to which its path led, on stable storage from the close on, unless something touched it since it was written. The
--- server executes calls as RFC 1813 says, and none anew once its reply came.
+-- Each byte of these files is in the file to which its path led, on stable storage from the close on. That is so unless something touched it since it was
+-- written. The server executes calls as RFC 1813 says, and none anew once its reply came.
 abbrev pub AllStay : Settings → List (List ℕ) → List Given → List Entry → Type 0
 AllStay s to given h = (t : History) → t.entries ≡ h → Lawful t → Once t.entries → (file : File) → Contains (files_in given) file
     → CopyStays (modes_of s) (origin_of s.export) t (to ++ file.path) (laid file.pieces)

@@ -1,5 +1,5 @@
--- What MKNOD makes (RFC 1813, section 3.3.11, mknoddata3): after a kind of 3 or 4 the attributes to set and the two
--- numbers of the device, after 6 or 7 the attributes to set, after another nothing.
+-- What MKNOD makes (RFC 1813, section 3.3.11, mknoddata3). After a kind of 3 or 4 come the attributes to set and
+-- the two numbers of the device. After 6 or 7 come the attributes to set, and after another nothing.
 use Rattle.std.specs.Prelude.{◌≡◌, ℕ, List, ◌++◌, Bool, true, false, ◌||◌, ◌==◌, Result, Ok, if◌then◌else◌}
 use Rattle.xdr_codec.specs.declared.reader.XdrFault.{XdrFault}
 use Rattle.xdr_codec.specs.Reading.{◌>>=◌, u32_at}

@@ -19,7 +19,7 @@ abbrev pub firsts : {A : Type 0} → Result (List A × List ℕ) XdrFault → Li
 firsts (Ok x) = x.0
 firsts (Err e) = []
 
--- the same, and none where they can't be read
+-- the same, and none if they can't be read
 abbrev pub rows_of : {A : Type 0} → (List ℕ → Result (A × List ℕ) XdrFault) → List ℕ → List A
 rows_of read bytes = firsts (page_at read bytes)
 

@@ -146,7 +146,7 @@ pub fn dir_proc(call: &DirCall) -> u32
 
 /// Reads a call of a procedure from all of its arguments.
 ///
-/// `Xdr` is answered exactly where the bytes spell no call of that procedure, with the first fault in order of
+/// `Xdr` is answered exactly if the bytes spell no call of that procedure, with the first fault in order of
 /// spelling.
 pub fn read_dir_call(alloc: Global, proc: u32, args: &[u8]) -> Result<DirCall, CodecFault>
     requires { IsDirProc proc }

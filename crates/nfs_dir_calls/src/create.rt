@@ -22,11 +22,11 @@ use xdr_codec::{Memory, Reader, Writer, XdrFault};
 /// How a file is made (RFC 1813, section 3.3.8, createhow3).
 #[derive(Clone, Copy, Debug, PartialEq, Eq)]
 pub enum Making {
-    /// UNCHECKED, 0: also where the name is there; then what is given is set.
+    /// UNCHECKED, 0: also if the name is there; then what is given is set.
     Unchecked(SetAttr),
-    /// GUARDED, 1: only where the name isn't there.
+    /// GUARDED, 1: only if the name isn't there.
     Guarded(SetAttr),
-    /// EXCLUSIVE, 2: only where the name isn't there, or was made under the same verifier.
+    /// EXCLUSIVE, 2: only if the name isn't there, or was made under the same verifier.
     Exclusive(Verf),
 }
 

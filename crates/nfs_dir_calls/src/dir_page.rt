@@ -124,7 +124,7 @@ impl fmt::Debug for DirPage<'_> {
 impl<'a> DirPage<'a> {
     /// A page of these bytes: entries, each after the word 1, and the word 0 at the end.
     ///
-    /// A fault is answered exactly where the bytes aren't one such list: the first one in order of spelling.
+    /// A fault is answered exactly if the bytes aren't one such list: the first one in order of spelling.
     pub fn over(bytes: &'a [u8]) -> Result<DirPage<'a>, XdrFault>
         ensures exact { Gives (λ p. p) result (whole_at (page_at dir_row_at) bytes.entry.now) }
         ensures spelled { FindsWhole (λ p. p) (SpellsList SpellsDirRow) bytes.entry.now result }

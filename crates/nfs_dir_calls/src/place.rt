@@ -12,7 +12,9 @@ use xdr_codec::{Memory, Reader, Writer, XdrFault};
 /// A name in a directory (RFC 1813, section 2.5, diropargs3).
 #[derive(Clone, Copy, Debug)]
 pub struct Place {
+    /// The directory's file handle.
     pub dir: Handle,
+    /// The name in it.
     pub name: Name,
 }
 

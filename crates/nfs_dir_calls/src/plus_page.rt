@@ -29,9 +29,9 @@ pub struct PlusEntry<'a> {
     pub name: &'a [u8],
     /// Where a listing goes on after this entry.
     pub cookie: u64,
-    /// The attributes of the file, where the server gives them.
+    /// The attributes of the file, if the server gives them.
     pub attr: Option<Attr>,
-    /// The file handle, where the server gives it.
+    /// The file handle, if the server gives it.
     pub found: Option<Handle>,
 }
 
@@ -44,9 +44,9 @@ pub struct PlusRow {
     pub name: Name,
     /// Where a listing goes on after this entry.
     pub cookie: u64,
-    /// The attributes of the file, where the server gives them.
+    /// The attributes of the file, if the server gives them.
     pub attr: Option<Attr>,
-    /// The file handle, where the server gives it.
+    /// The file handle, if the server gives it.
     pub found: Option<Handle>,
 }
 
@@ -147,7 +147,7 @@ impl fmt::Debug for PlusPage<'_> {
 impl<'a> PlusPage<'a> {
     /// A page of these bytes: entries, each after the word 1, and the word 0 at the end.
     ///
-    /// A fault is answered exactly where the bytes aren't one such list: the first one in order of spelling.
+    /// A fault is answered exactly if the bytes aren't one such list: the first one in order of spelling.
     pub fn over(bytes: &'a [u8]) -> Result<PlusPage<'a>, XdrFault>
         ensures exact { Gives (λ p. p) result (whole_at (page_at plus_row_at) bytes.entry.now) }
         ensures spelled { FindsWhole (λ p. p) (SpellsList SpellsPlusRow) bytes.entry.now result }

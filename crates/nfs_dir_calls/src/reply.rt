@@ -162,7 +162,7 @@ pub enum DirReply<'a> {
 
 /// Reads the reply to a procedure from all of its results.
 ///
-/// A fault is answered exactly where the bytes spell no reply of that procedure: the first one in order of spelling.
+/// A fault is answered exactly if the bytes spell no reply of that procedure: the first one in order of spelling.
 pub fn read_dir_reply<'a>(proc: u32, results: &'a [u8]) -> Result<DirReply<'a>, XdrFault>
     requires { IsDirProc proc }
     ensures exact { Gives kept_of result (dir_reply_at proc results.entry.now) }

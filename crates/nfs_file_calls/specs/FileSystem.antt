@@ -58,8 +58,8 @@ unfoldable pub fs_stat_done_bytes : Option Attr → ℕ → ℕ → ℕ → ℕ 
 fs_stat_done_bytes attr tbytes fbytes abytes tfiles ffiles afiles invarsec =
     opt_attr_bytes attr ++ amounts_bytes tbytes fbytes abytes ++ amounts_bytes tfiles ffiles afiles ++ u32_bytes invarsec
 
--- ---- FSINFO: the most, the preferred and the suggested multiple of the bytes of a READ, the same of a WRITE, the
--- preferred bytes of a READDIR, the greatest file, how fine times are, and properties
+-- ---- FSINFO: the most, the preferred and the suggested multiple of the bytes of a READ, and the same of a WRITE;
+-- the preferred bytes of a READDIR, the greatest file, how fine times are, and properties
 
 pub record FsInfoDone : Type 0 where
   pub attr : Option Attr

@@ -31,7 +31,7 @@ pub enum FileCall {
     GetAttr {
         file: Handle,
     },
-    /// Sets attributes, where there is no guard or the ctime is the guard (section 3.3.2).
+    /// Sets attributes, if there is no guard or the ctime is the guard (section 3.3.2).
     SetAttr {
         file: Handle,
         set: SetAttr,

@@ -233,7 +233,7 @@ abbrev pub asked_for : Result Op Cause → Option Op
 asked_for (Ok op) = Some op
 asked_for (Err cause) = None
 
--- the operation of words of which the first is the command, where they ask for one
+-- the operation of words of which the first is the command, if they ask for one
 abbrev pub operation_of : List (List ℕ) → Option Op
 operation_of [] = None
 operation_of (command ∷ words) = asked_for (op_of command words)

@@ -22,7 +22,7 @@ kind_of causes.Slot = 9
 abbrev pub fault_at : ℕ → Cause → ScriptFault
 fault_at line cause = record { line = line; kind = kind_of cause }
 
--- what follows where there was no fault
+-- what follows if there was no fault
 infixl 10 ◌>>=◌
 abbrev pub ◌>>=◌ : {E A B : Type 0} → Result A E → (A → Result B E) → Result B E
 (Ok x) >>= f = f x

@@ -30,7 +30,7 @@ asked_of number words = do
   op ← op_of command.0 command.1
   Ok (record { lane = lane; line = number; op = op })
 
--- a line's number and its text; None where the line is skipped
+-- a line's number and its text; None if the line is skipped
 abbrev pub line_of : ℕ → List ℕ → Result (Option ScriptLine) Cause
 line_of number line = if is_skipped line then Ok None else (asked_of number (words line) >>= λ asked. Ok (Some asked))
 

@@ -12,7 +12,7 @@ use crate::words::{first, lane};
 use script_text::is_skipped;
 use std::alloc::Global;
 
-/// What the line of that number asks for. None exactly where the line is skipped.
+/// What the line of that number asks for. None exactly if the line is skipped.
 pub(crate) fn asked(
     alloc: Global,
     number: u32,

@@ -15,7 +15,7 @@ use std::alloc::Global;
 use world_model::Op;
 use xdr_codec::Memory;
 
-/// The operation that a command and its words ask for, as they stand in a script behind the lane. None exactly where they
+/// The operation that a command and its words ask for, as they stand in a script behind the lane. None exactly if they
 /// ask for none.
 pub fn operation(alloc: Global, line: &[u8]) -> Result<Option<Op>, Memory>
     ensures { IfOk result (λ op. op ≡ operation_of (words line.now)) }

@@ -11,8 +11,16 @@ use xdr_codec::Memory;
 pub struct ScriptFault {
     /// The number of the line, from 1 on; 0 for the script as a whole.
     pub line: u32,
-    /// What is wrong with it: 1 it isn't UTF-8, 2 the script is too long, 3 it has too many lines, 4 the lane, 5 the
-    /// command, its number of words or a mode, 6 a number, 7 hex digits, 8 a path or a target, 9 a slot.
+    /// What is wrong with it:
+    /// - 1: it isn't UTF-8;
+    /// - 2: the script is too long;
+    /// - 3: it has too many lines;
+    /// - 4: the lane;
+    /// - 5: the command, its number of words or a mode;
+    /// - 6: a number;
+    /// - 7: hex digits;
+    /// - 8: a path or a target;
+    /// - 9: a slot.
     pub kind: u8,
 }
 

@@ -21,7 +21,7 @@ const MOST_BYTES: usize = 1_048_576;
 /// The most lines of a script.
 const MOST_LINES: u32 = 16_384;
 
-/// The greatest number of a line, where lines are numbered on from script to script.
+/// The greatest number of a line, if lines are numbered on from script to script.
 const LAST_LINE: u32 = 268_435_455;
 
 /// An operation of a script.
@@ -156,12 +156,13 @@ impl Script {
     }
 }
 
-/// Reads a script of at most 1,048,576 bytes and 16,384 lines. Empty lines and lines that begin with `#` are skipped, and
-/// counted.
+/// Reads a script of at most 1,048,576 bytes and 16,384 lines. Empty lines and lines that begin with `#` are skipped, and counted.
 ///
-/// The fault is that of the text's length, or else the first line that isn't UTF-8, or else that there are too many
-/// lines, or else the first faulty line, in it the lane, then the command and how many words it has, then those words
-/// from left to right.
+/// The fault is the first of these that there is:
+/// - that of the text's length;
+/// - the first line that isn't UTF-8;
+/// - that there are too many lines;
+/// - the first faulty line: in it the lane, then the command and how many words it has, then those words from left to right.
 pub fn parse(alloc: Global, text: &[u8]) -> Result<Script, ParseFault>
     ensures read { IsParsed (script_of text.now) result }
     ensures asked { IfOk result (All IsAskedLine) }

@@ -27,7 +27,7 @@ fn write_name(out: &mut Writer, name: &Name) -> Result<(), Memory>
     write_word(out, name.bytes())
 }
 
-/// Appends a text after a space, and nothing where it is empty.
+/// Appends a text after a space, and nothing if it is empty.
 #[tactic(auto, using(crate::proofs::Shown::spaced_shown, crate::proofs::Shown::shown_none))]
 pub(crate) fn write_text(out: &mut Writer, text: &[u8]) -> Result<(), Memory>
     ensures ok { OnOk result (out.new ≡ out.old ++ spaced (shown text.now)) }

@@ -10,7 +10,7 @@ use crate::shown_text::{write_names, write_text};
 use world_model::Value;
 use xdr_codec::{Memory, Writer};
 
-/// Appends a value after a space, and nothing where it is empty.
+/// Appends a value after a space, and nothing if it is empty.
 pub(crate) fn write_value(out: &mut Writer, value: &Value) -> Result<(), Memory>
     ensures ok { OnOk result (out.new ≡ out.old ++ value_text value.now) }
     ensures err { OnErr result (BeginsWith out.old out.new) }

@@ -32,7 +32,7 @@ const MOST_FILL: u32 = 1_048_576;
 /// The six rights of ACCESS (RFC 1813, section 3.3.4).
 const ALL_RIGHTS: u32 = 63;
 
-/// The first word and what follows it. This is the fault where there is none.
+/// The first word and what follows it. This is the fault if there is none.
 pub(crate) fn first<'a>(cause: Cause, line: &'a [u8]) -> Result<(&'a [u8], &'a [u8]), LineFault>
     ensures { Gives (λ p. (p.0.now, words p.1.now)) result (first_of cause (words line.entry.now)) }
 {

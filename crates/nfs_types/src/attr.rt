@@ -14,8 +14,14 @@ use xdr_codec::{Memory, Reader, Writer, XdrFault, fits_u32, fits_u64};
 /// The attributes of a file (RFC 1813, section 2.5, fattr3).
 #[derive(Clone, Copy, Debug, PartialEq, Eq)]
 pub struct Attr {
-    /// 1 a regular file, 2 a directory, 3 a block device, 4 a character device, 5 a symbolic link, 6 a socket,
-    /// 7 a named pipe. Another number is kept as it is.
+    /// The kind of the file. Another number is kept as it is.
+    /// - 1: a regular file;
+    /// - 2: a directory;
+    /// - 3: a block device;
+    /// - 4: a character device;
+    /// - 5: a symbolic link;
+    /// - 6: a socket;
+    /// - 7: a named pipe.
     pub kind: u32,
     /// The permission bits.
     pub mode: u32,
@@ -60,7 +66,7 @@ impl Attr {
     }
 }
 
-/// Reads attributes. Short where fewer than 84 bytes remain.
+/// Reads attributes. Short if fewer than 84 bytes remain.
 pub fn read_attr(r: &mut Reader<'_>) -> Result<Attr, XdrFault>
     ensures exact { Reads (λ x. x) r.old result r.new (attr_at r.old) }
     ensures spelled { Finds (λ x. x) SpellsAttr r.old result r.new }
@@ -185,8 +191,8 @@ fn write_place(w: &mut Writer, v: &Attr) -> Result<(), Memory>
     Ok(())
 }
 
-/// Reads attributes or none (RFC 1813, section 2.5, post_op_attr). BadBool where the first word is neither 0 nor 1,
-/// Short where bytes are missing.
+/// Reads attributes or none (RFC 1813, section 2.5, post_op_attr). BadBool if the first word is neither 0 nor 1,
+/// Short if bytes are missing.
 pub fn read_opt_attr(r: &mut Reader<'_>) -> Result<Option<Attr>, XdrFault>
     ensures exact { Reads (λ x. x) r.old result r.new (opt_attr_at r.old) }
     ensures spelled { Finds (λ x. x) SpellsOptAttr r.old result r.new }

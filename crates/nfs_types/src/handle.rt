@@ -42,7 +42,7 @@ impl Handle {
     /// The most bytes that a file handle has.
     pub const MAX: usize = 64;
 
-    /// A file handle of these bytes; None exactly where there are more than 64.
+    /// A file handle of these bytes; None exactly if there are more than 64.
     pub fn make(bytes: &[u8]) -> Option<Handle>
         ensures { MatchOption result (¬ IsHandle bytes.now) (λ h. (h ≡ bytes.now) × IsHandle bytes.now) }
     {
@@ -71,7 +71,7 @@ impl Handle {
     }
 }
 
-/// Reads a file handle. TooLong where its length is above 64, Short where bytes are missing.
+/// Reads a file handle. TooLong if its length is above 64, Short if bytes are missing.
 pub fn read_handle(r: &mut Reader<'_>) -> Result<Handle, XdrFault>
     ensures exact { Reads (λ x. x) r.old result r.new (handle_at r.old) }
     ensures spelled { Finds (λ x. x) SpellsHandle r.old result r.new }

@@ -9,7 +9,7 @@ pub enum Mode {
     W,
     /// To read and write.
     RW,
-    /// To read and write; it is made where it isn't there.
+    /// To read and write; it is made if it isn't there.
     C,
     /// To read and write; it is made, and may not be there yet.
     X,

@@ -43,7 +43,7 @@ impl Name {
     /// The most bytes that a name has.
     pub const MAX: usize = 255;
 
-    /// A name of these bytes; None exactly where they break the rule.
+    /// A name of these bytes; None exactly if they break the rule.
     #[tactic(auto, using(crate::proofs::Names::none_of_test))]
     pub fn make(bytes: &[u8]) -> Option<Name>
         ensures { MatchOption result (¬ IsName bytes.now) (λ n. (n ≡ bytes.now) × IsName bytes.now) }
@@ -83,8 +83,10 @@ fn is_no_name(bytes: &[u8]) -> bool
     bytes.is_empty() || bytes.contains(&b'/') || bytes.contains(&0)
 }
 
-/// Reads a name. TooLong where its length is above 255, Short where bytes are missing, and then BadValue where it
-/// is empty or has a `/` or a zero byte.
+/// Reads a name. The errors:
+/// - TooLong: its length is above 255.
+/// - Short: bytes are missing.
+/// - BadValue: else it is empty, or has a `/` or a zero byte.
 pub fn read_name(r: &mut Reader<'_>) -> Result<Name, XdrFault>
     ensures exact { Reads (λ x. x) r.old result r.new (name_at r.old) }
     ensures spelled { Finds (λ x. x) SpellsName r.old result r.new }

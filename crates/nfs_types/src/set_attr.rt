@@ -38,8 +38,10 @@ pub struct SetAttr {
     pub mtime: SetTime,
 }
 
-/// Reads the attributes to set. BadBool where a word that says whether a number follows is neither 0 nor 1, BadValue
-/// where the word of a time is above 2, Short where bytes are missing.
+/// Reads the attributes to set. The errors:
+/// - BadBool: a word that says whether a number follows is neither 0 nor 1.
+/// - BadValue: the word of a time is above 2.
+/// - Short: bytes are missing.
 pub fn read_set_attr(r: &mut Reader<'_>) -> Result<SetAttr, XdrFault>
     ensures exact { Reads (λ x. x) r.old result r.new (set_attr_at r.old) }
     ensures spelled { Finds (λ x. x) SpellsSetAttr r.old result r.new }

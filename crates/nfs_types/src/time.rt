@@ -18,7 +18,7 @@ pub struct Time {
     pub nanos: u32,
 }
 
-/// Reads a time. Short where fewer than 8 bytes remain.
+/// Reads a time. Short if fewer than 8 bytes remain.
 pub fn read_time(r: &mut Reader<'_>) -> Result<Time, XdrFault>
     ensures exact { Reads (λ x. x) r.old result r.new (time_at r.old) }
     ensures spelled { Finds (λ x. x) SpellsTime r.old result r.new }

@@ -15,7 +15,7 @@ use xdr_codec::{Memory, Reader, Writer, XdrFault};
 #[derive(Clone, Copy, Debug, PartialEq, Eq)]
 pub struct Verf(pub [u8; 8]);
 
-/// Reads a verifier. Short where fewer than 8 bytes remain.
+/// Reads a verifier. Short if fewer than 8 bytes remain.
 pub fn read_verf(r: &mut Reader<'_>) -> Result<Verf, XdrFault>
     ensures exact { Reads (λ x. x) r.old result r.new (verf_at r.old) }
     ensures spelled { Finds (λ x. x) SpellsVerf r.old result r.new }

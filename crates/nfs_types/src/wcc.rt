@@ -31,7 +31,7 @@ pub struct Wcc {
     pub after: Option<Attr>,
 }
 
-/// Reads a length and two times. Short where fewer than 24 bytes remain.
+/// Reads a length and two times. Short if fewer than 24 bytes remain.
 pub fn read_stamp(r: &mut Reader<'_>) -> Result<Stamp, XdrFault>
     ensures exact { Reads (λ x. x) r.old result r.new (stamp_at r.old) }
     ensures spelled { Finds (λ x. x) SpellsStamp r.old result r.new }
@@ -90,8 +90,8 @@ fn stamp_into(w: &mut Writer, v: &Stamp) -> Result<(), Memory>
     Ok(())
 }
 
-/// Reads what was before and after a change. BadBool where a word that says whether something follows is neither 0
-/// nor 1, Short where bytes are missing.
+/// Reads what was before and after a change. BadBool if a word that says whether something follows is neither 0
+/// nor 1, Short if bytes are missing.
 pub fn read_wcc(r: &mut Reader<'_>) -> Result<Wcc, XdrFault>
     ensures exact { Reads (λ x. x) r.old result r.new (wcc_at r.old) }
     ensures spelled { Finds (λ x. x) SpellsWcc r.old result r.new }

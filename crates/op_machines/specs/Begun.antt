@@ -30,8 +30,8 @@ use Rattle.op_machines.specs.declared.name_machine.NameMachine.TheVariants as na
 abbrev pub IsNamed : List (List ℕ) → Type 0
 IsNamed path = 1 ≤ length path
 
--- What holds of every operation of a script: a path has a last name where it needs one, the bytes that are to be written end within all
--- places of a file, and the target of a symbolic link isn't too long.
+-- What holds of every operation of a script: a path has a last name if it needs one; the bytes that are to be written end within all
+-- places of a file; and the target of a symbolic link isn't too long.
 abbrev pub IsAsked : Op → Type 0
 IsAsked (ops.OpenFile slot mode path) = IsNamed path
 IsAsked (ops.Write slot offset bytes) = offset + length bytes ≤ 2 ^ 63 - 1

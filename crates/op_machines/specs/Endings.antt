@@ -18,7 +18,7 @@ use Rattle.op_machines.specs.FileEndings as files
 use Rattle.op_machines.specs.Openers.{file_of}
 use Rattle.op_machines.specs.Steps.{Resumes, Takes}
 
--- Where nothing has a name, a removal of an open file goes on to rename it.
+-- If nothing has a name, a removal of an open file goes on to rename it.
 abbrev pub removal_left : Option Deed → ℕ
 removal_left (Some (deeds.Seek file to)) = 1
 removal_left deed = 0

@@ -41,8 +41,8 @@ struct Place {
 }
 
 impl Machine {
-    /// The machine of an operation, which hasn't made a step yet. Of the operation it copies the names that it needs, and shares the bytes. There may be no
-    /// memory for its path.
+    /// The machine of an operation, which hasn't made a step yet. It copies the names that it needs, and shares the bytes. There may be no
+    /// memory for them.
     pub fn new(alloc: Global, mounted: &Mounted, lane: u8, op: &Op) -> Result<Machine, Memory>
         requires { IsAsked op.now }
         ensures of { IfOk result (λ machine. machine ≡ machine_of mounted.now lane op.now) }

@@ -16,7 +16,7 @@ pub fn steps_stay_fit()
     ensures took { TakesFit }
 {}
 
-/// Each step leaves what the next one needs: the next number of a write is above those of all pending bytes, and nothing is in
+/// Each step leaves what the next one needs. The next number of a write is above those of all pending bytes. Nothing is in
 /// flight under the next xid or a later one.
 pub fn steps_stay_ready()
     ensures start { StartsReady }
@@ -50,7 +50,7 @@ pub fn no_room_no_call()
     ensures took { TakesRoomless }
 {}
 
-/// Each call that a step asks for has a spelling, where a WRITE carries at most 65,536 bytes.
+/// Each call that a step asks for has a spelling, if a WRITE carries at most 65,536 bytes.
 pub fn calls_are_spellable()
     ensures start { StartsSpellable }
     ensures resume { ResumesSpellable }
@@ -65,7 +65,7 @@ pub fn unmade_calls_leave_nothing()
     ensures took { TakesUnmade }
 {}
 
-/// An operation that goes on and asks for a call, and takes a refusal in its place, has its answer then or fewer calls that it
+/// Let an operation go on and ask for a call, and take a refusal in its place. Then it has its answer, or fewer calls that it
 /// may ask for in vain: so lanes don't go on without an end.
 pub fn refusals_end()
     ensures less { RefusalsEnd }

@@ -84,7 +84,7 @@ impl OpenFiles {
         Ok(())
     }
 
-    /// The open at a slot of a lane. None exactly where the slot is free.
+    /// The open at a slot of a lane. None exactly if the slot is free.
     pub fn get(&self, lane: u8, slot: u8) -> Option<&Opened>
         ensures { option_copied result ≡ map.get self.now (lane, slot) }
     {
@@ -92,7 +92,7 @@ impl OpenFiles {
         Some(&self.opens[key].of)
     }
 
-    /// Frees a slot of a lane, and tells whether it was the last one that held its file. None exactly where the slot
+    /// Frees a slot of a lane, and tells whether it was the last one that held its file. None exactly if the slot
     /// was free, and then nothing is changed.
     pub fn close(&mut self, lane: u8, slot: u8) -> Option<bool>
         ensures none { IfNone result ((map.get self.old (lane, slot) ≡ None) × (self.new ≡ self.old)) }

@@ -61,7 +61,7 @@ aimed_as port (Ok x) = Some (Aimed port)
 aimed_as port (Err faults.Failed) = Some (Aimed port)
 aimed_as port (Err faults.Memory) = None
 
--- the datagram, where it went out
+-- the datagram, if it went out
 abbrev pub datagram_as : {T : Type 0} → List ℕ → Result T LinkFault → Option DatagramEntry
 datagram_as bytes (Ok x) = Some (Sent bytes)
 datagram_as bytes (Err faults.Failed) = Some Missed
@@ -84,7 +84,7 @@ IfNoneCame arrivals.Silent P = P
 IfNoneCame arrivals.Failed P = P
 IfNoneCame arrivals.Memory P = Unit {0}
 
--- The count of datagrams that are waited for: it never falls, and it rose where the call failed or none came in time.
+-- The count of datagrams that are waited for: it never falls, and it rose if the call failed or none came in time.
 pub record HasCauseArrived (before now : ℕ) (result : Arrived) : Type 0 where
   pub later : before ≤ now
   pub failed : IfNoneCame result (Rose before now)
@@ -118,7 +118,7 @@ hear_calls (c ∷ cs) h = hear_calls cs (hear_call c h)
 abbrev pub heard : DatagramsTold → Heard
 heard t = hear_calls t.calls (record { history = begins_at t.start; aimed = None })
 
--- what is told, where anything is, is what an honest server and network make
+-- what is told, if anything is, is what an honest server and network make
 abbrev pub AreLawful : Option DatagramsTold → Type 0
 AreLawful None = Unit {0}
 AreLawful (Some t) = Lawful (heard t).history

@@ -9,9 +9,9 @@ use Rattle.outside.specs.declared.wire.WireRead.TheVariants as reads
 use Rattle.world_model.specs.History.{no_server}
 use Rattle.outside.specs.Wire.{WireCall, WireTold}
 
--- what a caller sees of it: what its calls did, the pieces that weren't handed out whole, how much of the first of them
--- was handed out, the numbers of the calls that fail, how many were made but for notes, the faults so far, and what a
--- link placed
+-- what a caller sees of it: what its calls did; the pieces that weren't handed out whole, and how much of the first of
+-- them was handed out; the numbers of the calls that fail, and how many were made but for notes; the faults so far, and
+-- what a link placed
 pub record WireView : Type 0 where
   pub told : List WireEntry
   pub pieces : List (List ℕ)
@@ -29,7 +29,7 @@ alone did = record { quiet = []; did = did }
 abbrev pub in_memory : List WireEntry → WireTold
 in_memory entries = record { start = no_server; calls = map alone entries }
 
--- how much was handed out is a part of the first piece, where there is one
+-- how much was handed out is a part of the first piece, if there is one
 abbrev pub IsPartOf : ℕ → List (List ℕ) → Type 0
 IsPartOf at [] = at ≡ 0
 IsPartOf at (p ∷ ps) = at < length p
@@ -42,7 +42,7 @@ pub record HandsOutNothing (old new : WireView) : Type 0 where
   pub pieces : new.pieces ≡ old.pieces
   pub at : new.at ≡ old.at
 
--- As many bytes as there is room for were handed out from what is left of the first piece; where they were its last,
+-- As many bytes as there is room for were handed out from what is left of the first piece; if they were its last,
 -- the next piece is the first.
 pub record HandsOutPart (old new : WireView) (buf : List ℕ) (n : ℕ) : Type 0 where
   pub first : List ℕ
@@ -53,14 +53,14 @@ pub record HandsOutPart (old new : WireView) (buf : List ℕ) (n : ℕ) : Type 0
   pub left : new.pieces ≡ (if old.at + n == length first then others else first ∷ others)
   pub at : new.at ≡ (if old.at + n == length first then 0 else old.at + n)
 
--- It is silent exactly where no piece is left.
+-- It is silent exactly if no piece is left.
 abbrev pub HandsOutPiece : WireView → WireView → List ℕ → WireRead → Type 0
 HandsOutPiece old new buf (reads.Got n) = HandsOutPart old new buf n
 HandsOutPiece old new buf reads.Silent = (old.pieces ≡ []) × HandsOutNothing old new
 HandsOutPiece old new buf reads.Failed = HandsOutNothing old new
 HandsOutPiece old new buf reads.Memory = HandsOutNothing old new
 
--- A failure comes exactly where the call is one that is to fail; a failure is told too, so memory may run out for it.
+-- A failure comes exactly if the call is one that is to fail; a failure is told too, so memory may run out for it.
 abbrev pub FailsListed : {T : Type 0} → Result T LinkFault → Bool → Type 0
 FailsListed (Ok x) listed = listed ≡ false
 FailsListed (Err faults.Failed) listed = listed ≡ true

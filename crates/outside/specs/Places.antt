@@ -1,7 +1,7 @@
--- What a link places behind the calls of its wire or of its datagrams, which keep it where they tell their calls.
+-- What a link places behind the calls of its wire or of its datagrams, which keep it if they tell their calls.
 use Rattle.std.specs.Prelude.{◌≡◌, List, [], ◌∷◌, ◌++◌, Option, Some, None}
 
--- A place was kept behind all others, where the calls are told; where they aren't, nothing is kept.
+-- A place was kept behind all others, if the calls are told; if they aren't, nothing is kept.
 abbrev pub KeepsPlace : {T P : Type 0} → Option T → List P → List P → P → Type 0
 KeepsPlace None old new place = new ≡ old
 KeepsPlace (Some told) old new place = new ≡ old ++ place ∷ []

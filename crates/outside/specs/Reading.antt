@@ -71,7 +71,7 @@ read_calls (c ∷ cs) r = read_calls cs (read_call c r)
 abbrev pub reading : WireTold → Reading
 reading t = read_calls t.calls (record { history = begins_at t.start; unread = []; unsent = [] })
 
--- what is told, where anything is, is what an honest server and network make
+-- what is told, if anything is, is what an honest server and network make
 abbrev pub IsLawfulWire : Option WireTold → Type 0
 IsLawfulWire None = Unit {0}
 IsLawfulWire (Some t) = Lawful (reading t).history

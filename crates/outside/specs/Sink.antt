@@ -3,7 +3,7 @@ use Rattle.std.specs.Prelude.{◌≡◌, ◌≤◌, ℕ, List, [], ◌++◌, tak
 use Rattle.outside.specs.declared.link.LinkFault.{LinkFault}
 use Rattle.outside.specs.declared.link.LinkFault.TheVariants as faults
 
--- how many bytes of a piece were taken: none only where the piece is empty
+-- how many bytes of a piece were taken: none only if the piece is empty
 pub record TakesSome (piece : List ℕ) (n : ℕ) : Type 0 where
   pub fits : n ≤ length piece
   pub some : n ≡ 0 → piece ≡ []
@@ -15,7 +15,7 @@ WritesTo (Some old) None piece result = ⊥
 WritesTo (Some old) (Some new) piece (Ok n) = new ≡ old ++ take n piece
 WritesTo (Some old) (Some new) piece (Err e) = new ≡ old
 
--- a failure comes exactly where the call is one that is to fail
+-- a failure comes exactly if the call is one that is to fail
 abbrev pub FailsWhere : {T : Type 0} → Result T LinkFault → Bool → Type 0
 FailsWhere (Ok x) listed = listed ≡ false
 FailsWhere (Err faults.Failed) listed = listed ≡ true

@@ -82,7 +82,7 @@ abbrev pub marked_as : {T E : Type 0} → Mark → Result T E → Option WireEnt
 marked_as mark (Ok x) = Some (Noted mark)
 marked_as mark (Err e) = None
 
--- what holds of the count where bytes came
+-- what holds of the count if bytes came
 abbrev pub IfGot : WireRead → (ℕ → Type 0) → Type 0
 IfGot (reads.Got n) P = P n
 IfGot reads.Silent P = Unit {0}
@@ -100,7 +100,7 @@ IfMissed reads.Silent P = P
 IfMissed reads.Failed P = P
 IfMissed reads.Memory P = Unit {0}
 
--- The count of a wire that waits: it never falls, and it rose where the call failed or no bytes came in time.
+-- The count of a wire that waits: it never falls, and it rose if the call failed or no bytes came in time.
 pub record HasCauseRead (before now : ℕ) (result : WireRead) : Type 0 where
   pub later : before ≤ now
   pub failed : IfMissed result (Rose before now)

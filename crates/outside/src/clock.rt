@@ -7,7 +7,7 @@ use std::marker::Model;
 
 /// A clock that counts milliseconds.
 pub trait Clock {
-    /// The readings that it gave, in order, where the clock tells them.
+    /// The readings that it gave, in order, if the clock tells them.
     ghost readings: { Self → Option (List ℕ) };
 
     /// Reads the clock: milliseconds from a moment of its own. It never fails.
@@ -31,7 +31,7 @@ impl Model for TickClock {
 }
 
 impl TickClock {
-    /// A clock whose n-th reading is (n - 1) times tick milliseconds, or the greatest u64 where that is less.
+    /// A clock whose n-th reading is (n - 1) times tick milliseconds, or the greatest u64 if that is less.
     pub fn new(tick: u64) -> TickClock
         ensures { result ≡ record { tick = tick; count = 0 } }
     {

@@ -44,10 +44,10 @@ pub enum Arrived {
 /// Datagrams to a server and those that come, from it or from others. Each call tells one entry of its own, and nothing
 /// when out of memory; what the server did since the call before stands before that entry, but not before a mark.
 pub trait Datagrams {
-    /// The calls so far with the server at each moment, where they are told.
+    /// The calls so far with the server at each moment, if they are told.
     ghost told: { Self → Option DatagramsTold };
 
-    /// What a link over them placed behind each of the calls, where they are told.
+    /// What a link over them placed behind each of the calls, if they are told.
     ghost placed: { Self → List DatagramAdds };
 
     /// How often the outside failed. It never falls.
@@ -97,7 +97,7 @@ pub trait Datagrams {
         ensures honest { honest self.old → honest self.new }
         ensures cause { faults self.new ≡ faults self.old };
 
-    /// Keeps a place behind all others, where the calls are told; where they aren't, it does nothing. When out of memory
+    /// Keeps a place behind all others, if the calls are told; if they aren't, it does nothing. When out of memory
     /// nothing is changed, and the answer is false.
     fn keep_place(&mut self, place: DatagramAdds) -> bool
         ensures yes { OnTrue result (KeepsPlace (told self.old) (placed self.old) (placed self.new) place) }
@@ -106,7 +106,7 @@ pub trait Datagrams {
         ensures honest { honest self.old → honest self.new }
         ensures cause { faults self.new ≡ faults self.old };
 
-    /// The same for a record that is to go out, as one that didn't. The record is copied only where the calls are told.
+    /// The same for a record that is to go out, as one that didn't. The record is copied only if the calls are told.
     fn keep_unsent(&mut self, rec: &[u8]) -> bool
         ensures yes { OnTrue result (KeepsPlace (told self.old) (placed self.old) (placed self.new) (added.Unsent rec.now)) }
         ensures no { OnFalse result (placed self.new ≡ placed self.old) }

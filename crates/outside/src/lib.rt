@@ -1,7 +1,11 @@
-//! What lies outside the client, as traits: where a script comes from, where answers go to, the clock, the link to
-//! the server, and the wire or the datagrams that carry its bytes. Each trait says what a call adds to what is told, and
-//! that a failure comes only where the count of faults rose. Beside them stand forms in memory, for tests and for the
-//! simulated world.
+//! What lies outside the client, as traits:
+//! - where a script comes from, and where answers go to;
+//! - the clock;
+//! - the link to the server;
+//! - the wire or the datagrams that carry its bytes.
+//!
+//! Each trait says what a call adds to what is told, and that a failure comes only if the count of faults rose. Beside
+//! them stand forms in memory, for tests and for the simulated world.
 #![tactic(auto)]
 
 mod clock;

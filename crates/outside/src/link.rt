@@ -32,10 +32,10 @@ pub enum Received {
     Memory,
 }
 
-/// A way to a server. Before, between and after the entries that a call adds, the server may add any number of its own,
-/// but none where a mark is noted.
+/// A way to a server. Before, between and after the entries that a call adds, the server may add any number of its own.
+/// It adds none when a mark is noted.
 pub trait Link {
-    /// The history, where the link tells it.
+    /// The history, if the link tells it.
     ghost told: { Self → Option History };
 
     /// How often the outside failed. It never falls.

@@ -1,5 +1,5 @@
 //! What a link places behind the calls of its wire or of its datagrams. A wire and datagrams that tell their calls keep
-//! it, and the others drop it, so that one code of a link runs over all of them.
+//! it, and the others drop it. So one code of a link runs over all of them.
 
 ghost use Rattle.outside.specs.Places.{PutsLast, TakesLast};
 

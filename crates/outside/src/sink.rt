@@ -11,7 +11,7 @@ use xdr_codec::Memory;
 
 /// A place that takes bytes one after another.
 pub trait Sink {
-    /// What was written, where the sink tells it.
+    /// What was written, if the sink tells it.
     ghost written: { Self → Option (List ℕ) };
 
     /// How often the outside failed. It never falls.

@@ -15,7 +15,7 @@ pub struct Failed;
 
 /// A stream of bytes that is read to its end.
 pub trait Source {
-    /// What is left to be read, where the source tells it.
+    /// What is left to be read, if the source tells it.
     ghost left: { Self → Option (List ℕ) };
 
     /// How often the outside failed. It never falls.

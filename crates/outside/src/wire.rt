@@ -45,10 +45,10 @@ pub enum WireRead {
 /// A stream of bytes to a server and one back. Each call tells one entry of its own, and nothing when out of memory;
 /// what the server did since the call before stands before that entry, but not before a mark.
 pub trait Wire {
-    /// The calls so far with the server at each moment, where the wire tells them.
+    /// The calls so far with the server at each moment, if the wire tells them.
     ghost told: { Self → Option WireTold };
 
-    /// What a link over it placed behind its calls, where it tells them.
+    /// What a link over it placed behind its calls, if it tells them.
     ghost placed: { Self → List WirePlace };
 
     /// How often the outside failed. It never falls.
@@ -101,7 +101,7 @@ pub trait Wire {
         ensures honest { honest self.old → honest self.new }
         ensures cause { faults self.new ≡ faults self.old };
 
-    /// Keeps a place behind all others, where it tells its calls; where it doesn't, it does nothing. When out of memory
+    /// Keeps a place behind all others, if it tells its calls; if it doesn't, it does nothing. When out of memory
     /// nothing is changed, and the answer is false.
     fn keep_place(&mut self, place: WirePlace) -> bool
         ensures yes { OnTrue result (KeepsPlace (told self.old) (placed self.old) (placed self.new) place) }

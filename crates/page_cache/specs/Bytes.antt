@@ -18,7 +18,7 @@ put_at offset (b ∷ bytes) old = over offset (b ∷ bytes) old
 abbrev pub start_of : ℕ → ℕ
 start_of index = index * 4096
 
--- a page of a file: it is shorter where the file ends in it, and empty past the end
+-- a page of a file: it is shorter if the file ends in it, and empty past the end
 abbrev pub page_at : ℕ → List ℕ → List ℕ
 page_at index bytes = take 4096 (drop (start_of index) bytes)
 

@@ -15,7 +15,7 @@ use Rattle.page_cache.specs.declared.state.Keep.TheVariants.{Stale, Differs, Kep
 use Rattle.page_cache.specs.declared.place.PagePlace.{PagePlace}
 use Rattle.page_cache.specs.Bytes.{put_page, cut_page}
 
--- for how many pages there is room, the files that were opened, in the order of their first opens, and the kept pages, the one that was used last in front
+-- for how many pages there is room; the files that were opened, in the order of their first opens; and the kept pages, the one that was used last in front
 pub record Pages : Type 0 where
   pub room : ℕ
   pub files : List (List ℕ × FileState)
@@ -132,7 +132,7 @@ changed_page file change p = if is_of_other file p then p else (p.0, change p.0.
 abbrev pub led_to : Wcc → Option Stamp → Option Stamp
 led_to wcc known = if both_same wcc.before known then option_map stamp_of wcc.after else None
 
--- after the client's own change of a file: its pages follow it where the state that it led to is known, and else are dropped
+-- after the client's own change of a file: its pages follow it if the state that it led to is known, and else are dropped
 abbrev pub led_on : Option Stamp → List ℕ → (ℕ → List ℕ → List ℕ) → ℕ → Pages → Pages
 led_on (Some stamp) file change moment c =
     with_state file (Some stamp) moment (record c { pages = map (changed_page file change) c.pages })
@@ -161,7 +161,7 @@ pub record Handed : Type 0 where
 abbrev pub shows_page : KeptPage → Handed
 shows_page p = record { file = p.file; stamp = p.stamp; index = p.index; bytes = p.bytes.now }
 
--- a kept page is handed out where its file's stamp is known
+-- a kept page is handed out if its file's stamp is known
 abbrev pub handed : Pages → PagePlace × List ℕ → Option Handed
 handed c p = option_map (λ stamp. record { file = p.0.file; stamp = stamp; index = p.0.index; bytes = p.1 }) (known_of p.0.file c)
 

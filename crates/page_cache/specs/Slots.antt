@@ -23,7 +23,7 @@ holds_page file index held = option_map_or (is_place file index) held false
 abbrev pub index_in : List ℕ → Option PagePlace → Option ℕ
 index_in file held = option_and_then (λ place. if pointwise nat_eq place.file file then Some place.index else None) held
 
--- what a slot's bytes become where each page of this file is changed
+-- what a slot's bytes become if each page of this file is changed
 abbrev pub changed_bytes : List ℕ → (ℕ → List ℕ → List ℕ) → Option PagePlace → List ℕ → List ℕ
 changed_bytes file change held bytes = option_map_or (λ index. change index bytes) (index_in file held) bytes
 

@@ -13,7 +13,7 @@ same_place p q = is_place p.file p.index q
 abbrev pub AreKnown : Pages → Type 0
 AreKnown c = All (λ p. IsSome (known_of p.0.file c)) c.pages
 
--- Each kept page has at most 4,096 bytes and is kept once, there are at most so many as there is room for, and the state of each one's file is known.
+-- Each kept page has at most 4,096 bytes and is kept once. There are at most so many as there is room for. The state of each one's file is known.
 pub record IsSound (c : Pages) : Type 0 where
   pub fits : All (λ p. length p.1 ≤ 4096) c.pages
   pub few : length c.pages ≤ c.room

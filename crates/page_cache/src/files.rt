@@ -47,7 +47,7 @@ impl Files {
         }
     }
 
-    /// What is kept of a file; None exactly where it was never opened.
+    /// What is kept of a file; None exactly if it was never opened.
     #[tactic(auto, using(crate::proofs::Bounds::states_lookup))]
     pub(crate) fn look_up(&self, file: &Handle) -> Option<FileRecord>
         ensures found { result ≡ lookup (pointwise nat_eq file.now) self.now }
@@ -56,7 +56,7 @@ impl Files {
         Some(*self.table.get(file)?)
     }
 
-    /// What is known of a file; None exactly where it was never opened.
+    /// What is known of a file; None exactly if it was never opened.
     #[tactic(auto, using(crate::proofs::Bounds::states_lookup))]
     pub(crate) fn state(&self, file: &Handle) -> Option<FileState>
         ensures { result ≡ lookup (pointwise nat_eq file.now) (states_of self.now) }
@@ -64,7 +64,7 @@ impl Files {
         Some(self.table.get(file)?.state)
     }
 
-    /// Below which number its pages are whole; 0 where it was never opened.
+    /// Below which number its pages are whole; 0 if it was never opened.
     pub(crate) fn full_below(&self, file: &Handle) -> u64
         ensures { result ≡ full_below_of self.now file.now }
     {
@@ -100,7 +100,7 @@ impl Files {
         let _ = self.put(file, state, full_below);
     }
 
-    /// This stamp is known of a file from now on, of which this record is kept. Where that says the same the file isn't
+    /// This stamp is known of a file from now on, of which this record is kept. If that says the same the file isn't
     /// looked up.
     pub(crate) fn learn(&mut self, file: &Handle, was: &FileRecord, stamp: &Stamp, full_below: u64)
         requires { lookup (pointwise nat_eq file.now) self.old ≡ Some was.now }

@@ -117,7 +117,7 @@ impl Page {
         u128::from(index) * Page::SIZE as u128
     }
 
-    /// The same where it is a page of the file at all, and has this number.
+    /// The same if it is a page of the file at all, and has this number.
     pub(crate) fn write_at(&mut self, index: Option<u64>, offset: u64, bytes: &[u8])
         ensures { self.new ≡ option_map_or (λ i. put_page i offset bytes.now self.old) index self.old }
     {
@@ -141,7 +141,7 @@ impl Page {
         self.put_over(at, &bytes[skipped..skipped + count]);
     }
 
-    /// The same where it is a page of the file at all, and has this number.
+    /// The same if it is a page of the file at all, and has this number.
     pub(crate) fn cut_at(&mut self, index: Option<u64>, size: u64)
         ensures { self.new ≡ option_map_or (λ i. cut_page i size self.old) index self.old }
     {

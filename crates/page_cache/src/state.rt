@@ -8,7 +8,7 @@ use nfs_types::{Stamp, Wcc};
 /// What is known of a file that was opened.
 #[derive(Clone, Copy, Debug, PartialEq, Eq)]
 pub struct FileState {
-    /// The file's length and the times of its last changes while its pages are believed; None where they aren't known.
+    /// The file's length and the times of its last changes while its pages are believed; None if they aren't known.
     pub known: Option<Stamp>,
     /// Calls that were made up to this moment are too old to tell of the file.
     pub mark: u64,
@@ -46,7 +46,7 @@ impl FileState {
         }
     }
 
-    /// The state that the client's own change of the file led to; None where it didn't begin in the known one, or its end
+    /// The state that the client's own change of the file led to; None if it didn't begin in the known one, or its end
     /// isn't told.
     pub(crate) fn after(&self, wcc: &Wcc) -> Option<Stamp>
         ensures { result ≡ led_to wcc.now self.now.known }

@@ -1,4 +1,4 @@
--- When a store may fail: only where the disk's count of faults rose, or for lack of memory.
+-- When a store may fail: only if the disk's count of faults rose, or for lack of memory.
 use Rattle.std.specs.Prelude.{◌≤◌, ℕ, Result, Ok, Err}
 use Rattle.outside.specs.Causes.{Rose}
 use Rattle.outside.specs.declared.link.LinkFault.{LinkFault}
@@ -23,7 +23,7 @@ abbrev pub IfStoreFault : {T : Type 0} → Result T StoreFault → Type 0 → Ty
 IfStoreFault (Ok x) P = Unit {0}
 IfStoreFault (Err why) P = IfFault why P
 
--- The count never falls, and it rose where the disk failed. Out of memory has no cause.
+-- The count never falls, and it rose if the disk failed. Out of memory has no cause.
 pub record HasStoreCause {T : Type 0} (before now : ℕ) (result : Result T StoreFault) : Type 0 where
   pub later : before ≤ now
   pub failed : IfStoreFault result (Rose before now)

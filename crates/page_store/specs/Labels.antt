@@ -27,7 +27,7 @@ IsLabelled image n (Some page) = HasPage image n page × IsLabel n page
 abbrev pub AreNone : List (Option StoredPage) → Type 0
 AreNone pages = (k : ℕ) (page : StoredPage) → slice_get pages k ≡ Some (Some page) → ⊥
 
--- While a label is put behind n slots: pages stay or go, and an image that has it, where none had it before, has no page.
+-- While a label is put behind n slots: pages stay or go, and an image that has it, if none had it before, has no page.
 pub record Relabels (n : ℕ) (label : StoredPage) (old : List ℕ → Type 0) (image : List ℕ) : Type 0 where
   pub pages : KeepsAll n old image
   pub labels : (l : StoredPage) → HasPage image n l → WasKept old n l ⊎ ((l ≡ label) × ((k : ℕ) (page : StoredPage) → k < n → HasPage image k page → ⊥))

@@ -48,7 +48,7 @@ abbrev pub found : Result (StoredPage × List ℕ) XdrFault → Option StoredPag
 found (Ok p) = Some p.0
 found (Err f) = None
 
--- the page of a body; None where it breaks a rule
+-- the page of a body; None if it breaks a rule
 abbrev pub page_of : List ℕ → Option StoredPage
 page_of body = found (page_at body)
 

@@ -77,12 +77,12 @@ pub record AreEnded (round : Round) (old new : List (Option StoredPage)) : Type 
   pub all : length new ≡ length old
   pub each : (k : ℕ) → shown_at k new ≡ shown_after (entry_at k round) (shown_at k old)
 
--- the same where it was to be ended: after an error its slots count as closed
+-- the same if it was to be ended: after an error its slots count as closed
 abbrev pub ArePagesAfter : {T : Type 0} → Round → Result T StoreFault → List (Option StoredPage) → List (Option StoredPage) → Type 0
 ArePagesAfter round (Ok _) old new = AreEnded round old new
 ArePagesAfter round (Err _) old new = new ≡ old
 
--- The round once a page was to be written into a slot. It stays where the slot isn't in it, and none is left after an error.
+-- The round once a page was to be written into a slot. It stays if the slot isn't in it, and none is left after an error.
 abbrev pub round_after : ℕ → StoredPage → Result Bool StoreFault → Round → Round
 round_after slot page (Ok true) old = set old slot (Some (Some page))
 round_after slot page (Ok false) old = old

@@ -1,4 +1,4 @@
--- Slots of 4,224 bytes: a gate of four bytes, open where it is the number 1, and a body of 4,220 bytes.
+-- Slots of 4,224 bytes: a gate of four bytes, open if it is the number 1, and a body of 4,220 bytes.
 use Rattle.std.specs.Prelude.{◌<◌, ◌≡◌, ◌⊎◌, ℕ, ◌+◌, ◌*◌, ◌≤◌, List, [], ◌∷◌, length}
 use Rattle.page_store.specs.Disk.{byte_at}
 
@@ -25,7 +25,7 @@ HasBody image k body = (i : ℕ) → i < 4220 → byte_at image (gate_at k + 4 +
 abbrev pub AreLong : ℕ → (List ℕ → Type 0) → Type 0
 AreLong n may_leave = (c : List ℕ) → may_leave c → 4224 * n ≤ length c
 
--- Each image that a crash may leave has the first n slots; and where one of these is open in an image, all have its body.
+-- Each image that a crash may leave has the first n slots; and if one of these is open in an image, all have its body.
 pub record IsSound (n : ℕ) (may_leave : List ℕ → Type 0) : Type 0 where
   pub long : AreLong n may_leave
   pub same : (k : ℕ) (d c : List ℕ) → k < n → may_leave d → IsOpen d k → may_leave c → SameBody k c d

@@ -6,7 +6,7 @@ use Rattle.page_store.specs.Slots.{IsSound, AreLong}
 use Rattle.page_store.specs.Pages.{StoredPage, HasPage}
 use Rattle.page_store.specs.declared.fault.StoreFault.{StoreFault}
 
--- a store: its disk; the page of each slot in memory, None where the slot counts as closed; the round that is under way; and the label,
+-- a store: its disk; the page of each slot in memory, None if the slot counts as closed; the round that is under way; and the label,
 -- as a page
 pub record StoreView (D : Type 0) : Type 0 where
   pub disk : D

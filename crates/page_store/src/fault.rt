@@ -9,7 +9,7 @@ use xdr_codec::Memory;
 /// Why a store did not do what it was asked.
 #[derive(Clone, Copy, Debug, PartialEq, Eq)]
 pub enum StoreFault {
-    /// The disk failed. It comes only where the disk's count of faults rose.
+    /// The disk failed. It comes only if the disk's count of faults rose.
     Fault,
     /// Out of memory.
     Memory,

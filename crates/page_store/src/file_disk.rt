@@ -15,7 +15,7 @@ use std::rt::Files;
 const OWNER_ONLY: u32 = 0o600;
 
 /// An open file as a disk. It tells nothing of what it holds; a contract sees how often the system failed. Each call is made
-/// again where the system interrupts it.
+/// again if the system interrupts it.
 #[derive(Drop)]
 pub struct FileDisk<F: FileExt + OpenFile + Drop> {
     file: F,
@@ -31,7 +31,7 @@ impl<F: FileExt + OpenFile + Drop> Model for FileDisk<F> {
 }
 
 impl FileDisk<File> {
-    /// Opens a file that is there, and locks it until it is dropped. `Failed` where the system refuses that, or another
+    /// Opens a file that is there, and locks it until it is dropped. `Failed` if the system refuses that, or another
     /// program holds the lock.
     pub fn open<R: Files<File = File>>(files: &R, path: &str) -> Result<FileDisk<File>, Failed>
         ensures { IfOk result (λ d. d ≡ 0) }
@@ -44,8 +44,8 @@ impl FileDisk<File> {
         }
     }
 
-    /// Opens a file, locks it and takes its bytes away, or makes it where it isn't there, so that only its owner may read or
-    /// write it. Its name is on stable storage then. `Failed` where the system refuses that, or another program holds the lock.
+    /// Opens a file, locks it and takes its bytes away, or makes it if it isn't there. Only its owner may read or write it. Its
+    /// name is on stable storage then. `Failed` if the system refuses that, or another program holds the lock.
     pub fn make<R: Files<File = File>>(files: &R, path: &str) -> Result<FileDisk<File>, Failed>
         ensures { IfOk result (λ d. d ≡ 0) }
     {

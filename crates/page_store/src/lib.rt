@@ -1,5 +1,5 @@
-//! Pages of files that outlast the program: slots on a disk, each with a gate that is open over a whole page and closed while the
-//! page is written, so that a crash at any moment leaves pages that were stored.
+//! Pages of files that outlast the program: slots on a disk, each with a gate. The gate is open over a whole page, and closed
+//! while the page is written. So a crash at any moment leaves pages that were stored.
 #![tactic(auto)]
 
 mod disk;

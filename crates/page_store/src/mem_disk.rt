@@ -148,7 +148,7 @@ fn lay(bytes: &mut Vec<u8>, at: u64, piece: &[u8]) -> Result<(), Memory>
     lay_within(bytes, at as usize, piece)
 }
 
-/// The same where the place isn't beyond all memory.
+/// The same if the place isn't beyond all memory.
 fn lay_within(bytes: &mut Vec<u8>, at: usize, piece: &[u8]) -> Result<(), Memory>
     requires { at + length piece.now < 2 ^ 63 }
     ensures ok { OnOk result (bytes.new.items ≡ written at piece.now bytes.old.items) }
@@ -242,7 +242,7 @@ impl Disk for MemDisk {
 
     ghost only_now = { λ d tells c left. now_only d.calls c left };
 
-    /// It fails exactly where the list says so.
+    /// It fails exactly if the list says so.
     fn read(&mut self, at: u64, buf: &mut [u8]) -> Result<usize, Failed>
         ensures len { length buf.new ≡ length buf.old }
         ensures gives { Unit {0} → IfOk result (Gives (seen_by self.old.calls) at buf.old buf.new) }
@@ -264,7 +264,7 @@ impl Disk for MemDisk {
         Ok(count)
     }
 
-    /// The disk fails exactly where the list says so. When out of memory nothing is written.
+    /// The disk fails exactly if the list says so. When out of memory nothing is written.
     fn write(&mut self, at: u64, bytes: &[u8]) -> Result<(), LinkFault>
         ensures written { Unit {0} → OnOk result (Holds at bytes.now (seen_by self.old.calls) (seen_by self.new.calls)) }
         ensures crash { Unit {0} → Follows (Torn at (length bytes.now)) (λ c. left_by self.old.calls c) (λ c. left_by self.new.calls c) }
@@ -284,7 +284,7 @@ impl Disk for MemDisk {
         Ok(())
     }
 
-    /// The disk fails exactly where the list says so.
+    /// The disk fails exactly if the list says so.
     fn sync(&mut self) -> Result<(), LinkFault>
         ensures durable { Unit {0} → OnOk result (Only (seen_by self.old.calls) (λ c. left_by self.new.calls c)) }
         ensures seen { Unit {0} → seen_by self.new.calls ≡ seen_by self.old.calls }

@@ -85,7 +85,7 @@ fn read_slots<D: Disk>(
     Ok(slots)
 }
 
-/// The page of a slot, where it is open.
+/// The page of a slot, if it is open.
 pub(crate) fn read_slot<D: Disk>(
     alloc: Global,
     disk: &mut D,
@@ -109,7 +109,7 @@ pub(crate) fn read_slot<D: Disk>(
     }
 }
 
-/// A copy of the page in a body; None where it breaks a rule.
+/// A copy of the page in a body; None if it breaks a rule.
 fn stored_in(alloc: Global, body: &[u8]) -> Result<Option<Stored>, StoreFault>
     ensures page { IfOk result (λ page. page ≡ page_of body.now) }
     ensures fault { IfErr result (λ fault. fault ≡ faults.Memory) }

@@ -180,7 +180,7 @@ fn zeros_into(w: &mut Writer, count: usize) -> Result<(), Memory>
     w.raw(&zeros[..count])
 }
 
-/// Reads a page from the front of a body; None where it breaks a rule.
+/// Reads a page from the front of a body; None if it breaks a rule.
 pub(crate) fn read_page(body: &[u8]) -> Option<KeptPage<'_>>
     ensures { option_map shows_page result ≡ page_of body.now }
 {

@@ -22,7 +22,7 @@ use std::alloc::Global;
 use std::marker::Model;
 use xdr_codec::{Blob, Memory};
 
-/// How many slots there are where no other number is given.
+/// How many slots there are if no other number is given.
 const SLOTS: u32 = 1024;
 
 /// A disk that wasn't opened, and why.
@@ -136,14 +136,14 @@ impl<D: Disk + Drop> PageStore<D> {
         self.slots.len() as u32
     }
 
-    /// The words of the label; None exactly where there is no label.
+    /// The words of the label; None exactly if there is no label.
     pub fn words(&self) -> Option<&[u8]>
         ensures { option_map (λ words. words.now) result ≡ option_map (λ (page : StoredPage). page.bytes) self.now.label }
     {
         bytes_in(&self.label)
     }
 
-    /// The handle of the root in the label; None exactly where there is no label.
+    /// The handle of the root in the label; None exactly if there is no label.
     pub fn root(&self) -> Option<Handle>
         ensures { result ≡ option_map (λ (page : StoredPage). page.file) self.now.label }
     {
@@ -199,7 +199,7 @@ impl<D: Disk + Drop> PageStore<D> {
         }
     }
 
-    /// The page of a slot; None exactly where the slot counts as closed, or isn't below the number of slots.
+    /// The page of a slot; None exactly if the slot counts as closed, or isn't below the number of slots.
     pub fn slot_page(&self, slot: u32) -> Option<KeptPage<'_>>
         ensures { option_map shows_page result ≡ shown_at slot self.now.pages }
     {
@@ -209,7 +209,7 @@ impl<D: Disk + Drop> PageStore<D> {
         }
     }
 
-    /// The bytes of a file's page under that stamp; None exactly where no slot has it.
+    /// The bytes of a file's page under that stamp; None exactly if no slot has it.
     pub fn find(&self, file: &Handle, stamp: &Stamp, index: u64) -> Option<&[u8]>
         ensures { MatchOption result ((k : ℕ) (page : Option StoredPage) → slice_get self.now.pages k ≡ Some page → IsOf file.now stamp.now index page → ⊥)
             (λ bytes. (k : ℕ) × (slice_get self.now.pages k ≡ Some (Some (stored_page file.now stamp.now index bytes.now)))) }
@@ -223,7 +223,7 @@ impl<D: Disk + Drop> PageStore<D> {
     }
 
     /// Stores a page of at most 4,096 bytes in a slot below the number of slots. A crash at any moment leaves pages that stood there before, or there
-    /// this one. After an error the slot counts as closed. `Memory` where memory ran out here, or in the disk. A round that is under way
+    /// this one. After an error the slot counts as closed. `Memory` if memory ran out here, or in the disk. A round that is under way
     /// is dropped: its slots stay closed.
     pub fn store(
         &mut self,
@@ -300,7 +300,7 @@ impl<D: Disk + Drop> PageStore<D> {
         }
     }
 
-    /// Writes a page of at most 4,096 bytes into a slot of the round, without a sync. False, with nothing done, exactly where
+    /// Writes a page of at most 4,096 bytes into a slot of the round, without a sync. False, with nothing done, exactly if
     /// the slot isn't in the round. After an error there is no round, and its slots stay closed.
     pub fn fill(
         &mut self,

@@ -130,7 +130,7 @@ TurnsBy end script old new (Err halt) given text h k =
     AddsAlone end h k × PairBreaks halt given text h k
     × ((first : ℕ) → StateGoes first script (seen_by end h.steps) old → ClientRan first script (seen_by end k.steps) (of_halt halt))
 
--- the same where the state is yet to move
+-- the same if the state is yet to move
 abbrev pub AdvancesBy : ℕ → List ScriptLine → State → State → Result (Option ℕ) Halt → List ℕ → List ℕ → PairTold → PairTold → Type 0
 AdvancesBy end script old new (Ok done) = TurnsBy end script old (moved new done) (Ok done)
 AdvancesBy end script old new (Err halt) = TurnsBy {T = Option ℕ} end script old new (Err halt)
@@ -162,7 +162,7 @@ pub data PairEnds (p : Pair) (status : ℕ) (given text : List ℕ) (h k : PairT
       → PairEnds p status given text h k
   turns_cut : (q : Pair) (halt : Halt) → status ≡ of_halt halt → PairBy {T = Unit {0}} p q (Err halt) given text h k → PairEnds p status given text h k
 
--- both were set up, in turn, where nothing was told before; or memory ran out
+-- both were set up, in turn, if nothing was told before; or memory ran out
 abbrev pub PairOpens : List ScriptLine → List ScriptLine → Result Pair Memory → PairTold → PairTold → Type 0
 PairOpens first second (Ok p) h k = PairAdds [] [] h k × BothGo p k
 PairOpens first second (Err e) h k = PairAdds [] [] h k × ClientRan 1 first (seen_by 0 k.steps) 7 × ClientRan 1073741825 second (seen_by 1 k.steps) 7

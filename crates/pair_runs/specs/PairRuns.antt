@@ -110,7 +110,7 @@ pub data PairLeaves (given : List ℕ) (left_a left_b : Option (List ℕ)) (h : 
   both_ran : (first second : List ScriptLine) → IsReadAs left_a (Ok first) → IsReadAs left_b (Ok second) → BothRan first second given h status text
       → PairLeaves given left_a left_b h status text
 
--- what a link with two ends told and tells are related so, where it tells anything
+-- what a link with two ends told and tells are related so, if it tells anything
 abbrev pub PairRelates : Option PairTold → Option PairTold → (PairTold → PairTold → Type 0) → Type 0
 PairRelates None new R = Unit {0}
 PairRelates (Some old) None R = ⊥

@@ -34,7 +34,7 @@ pub(crate) fn text_of<S: Source>(alloc: Global, source: &mut S) -> Result<Vec<u8
     }
 }
 
-/// The script of a client. Where the text is none, why is written, and the run ends with this status.
+/// The script of a client. If the text is none, why is written, and the run ends with this status.
 pub(crate) fn script_of<K: Sink>(
     alloc: Global,
     side: Side,

@@ -7,7 +7,7 @@ ghost use Rattle.std.specs.Prelude.{◌≡◌, max};
 use lane_session::Halt;
 use nfs_script::Script;
 
-/// Each operation went well.
+/// Each operation succeeded.
 pub(crate) const WELL: u8 = 0;
 /// A script is refused.
 pub(crate) const SCRIPT_REFUSED: u8 = 3;

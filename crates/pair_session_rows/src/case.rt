@@ -38,7 +38,7 @@ fn add_line(text: &mut Vec<u8>, line: &str) -> Result<(), AllocError> {
     Ok(())
 }
 
-/// The number that digits spell; 0 where it is none.
+/// The number that digits spell; 0 if it is none.
 fn number_of(text: &str) -> u32 {
     text.parse::<u32>().unwrap_or(0)
 }

@@ -11,7 +11,7 @@ abbrev pub HasFailed : List Entry → Type 0
 HasFailed [] = ⊥
 HasFailed (e ∷ es) = (e ≡ Failed) ⊎ HasFailed es
 
--- These entries were added, with none but the server's between them; P is true of them; and the count of faults rose where
+-- These entries were added, with none but the server's between them; P is true of them; and the count of faults rose if
 -- one of them is a failure.
 pub record Does (old new : Option History) (before now : ℕ) (P : List Entry → Type 0) : Type 0 where
   pub entries : List Entry

@@ -143,8 +143,8 @@ FoundSo xid prot (Err (faults.Bad prog n)) es = Replied xid prot prog (Err (refu
 FoundSo xid prot (Err faults.Lost) es = Loses es (length es)
 FoundSo xid prot (Err faults.Memory) es = Unit {0}
 
--- Nothing but the port was dialed, at most four times in a row, and nothing was sent but the two calls of GETPORT and their
--- repeats, the one for MOUNT first; and why the result is what it is.
+-- Nothing but the port was dialed, at most four times in a row. Nothing was sent but the two calls of GETPORT and their
+-- repeats, the one for MOUNT first. And why the result is what it is.
 pub record Ported (port xid prot : ℕ) (result : Result Ports PortFault) (es : List Entry) : Type 0 where
   pub first : List Entry
   pub second : List Entry

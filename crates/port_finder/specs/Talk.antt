@@ -24,7 +24,7 @@ abbrev pub AreOthers : ℕ → List (List ℕ) → Type 0
 AreOthers xid [] = Unit {0}
 AreOthers xid (rec ∷ recs) = (HasXid rec xid → ⊥) × AreOthers xid recs
 
--- A dial: at most four, the last of which went well or none.
+-- A dial: at most four, the last of which succeeded or none.
 pub record Connects (port : ℕ) (es : List Entry) : Type 0 where
   pub failed : ℕ
   pub few : failed < 4
@@ -77,11 +77,11 @@ Attempts xid call (Err misses.Silent) es = After call (Listens xid (Err misses.F
 Attempts xid call (Err misses.Flooded) es = After call (Listens xid (Err misses.Flooded)) es
 Attempts xid call (Err misses.Memory) es = (es ≡ []) ⊎ After call (Listens xid (Err misses.Memory)) es
 
--- no dial, as after silence, or one that went well
+-- no dial, as after silence, or one that succeeded
 abbrev pub Redials : ℕ → List Entry → Type 0
 Redials port es = (es ≡ []) ⊎ Connects port es
 
--- An attempt that failed, and then a dial that went well, or none.
+-- An attempt that failed, and then a dial that succeeded, or none.
 pub record Retries (port xid : ℕ) (call : List ℕ) (es : List Entry) : Type 0 where
   pub first : List Entry
   pub second : List Entry

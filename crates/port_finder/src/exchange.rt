@@ -31,7 +31,7 @@ pub fn dial<L: Link>(port: u16, link: &mut L) -> Result<(), Halt>
 }
 
 /// Makes a call, and waits for the record under its xid: at most four attempts with the same bytes, each on a new
-/// connection where the link failed in the one before.
+/// connection if the link failed in the one before.
 pub fn exchange<L: Link>(
     alloc: Global,
     link: &mut L,
@@ -60,7 +60,7 @@ pub fn exchange<L: Link>(
     }
 }
 
-/// An attempt that isn't the last. None where nothing came in time, or where it failed and a new connection was made.
+/// An attempt that isn't the last. None if nothing came in time, or if it failed and a new connection was made.
 fn retry<L: Link>(
     alloc: Global,
     link: &mut L,

@@ -9,7 +9,7 @@ pub enum Halt {
     Memory,
 }
 
-/// What came of one attempt, where no reply did.
+/// What came of one attempt, if no reply did.
 #[derive(Clone, Copy)]
 pub enum Miss {
     /// The link failed.

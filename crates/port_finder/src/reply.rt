@@ -52,7 +52,7 @@ fn registered(port: u32) -> Result<u16, Refusal>
     }
 }
 
-/// The results in the record, where the call was accepted.
+/// The results in the record, if the call was accepted.
 fn results_of<'a>(rec: &'a [u8]) -> Result<&'a [u8], Refusal>
     ensures { (x : ℕ) → HasXid rec.entry.now x → ResultsIn x rec.entry.now (result_map_both (λ r. r.now) (λ e. e) result) }
 {

@@ -46,7 +46,7 @@ pub fn empty(alloc: Global) -> Case {
     }
 }
 
-/// Takes what a line adds to the description; false where it adds nothing.
+/// Takes what a line adds to the description; false if it adds nothing.
 pub fn takes(alloc: Global, case: &mut Case, word: &str, rest: &str) -> Result<bool, AllocError> {
     match word {
         "words" => case.words = words_of(alloc, rest)?,

@@ -21,7 +21,7 @@ pub record NamesOne (words : List (List ℕ)) (port : ℕ) (others : List (List 
   pub rest : others ≡ before_first is_portmap words ++ after
   pub free : gives_port others ≡ false
 
--- the port mapper that the words name, or none where no word is `--portmap`
+-- the port mapper that the words name, or none if no word is `--portmap`
 abbrev pub Names : List (List ℕ) → Option Portmap → Type 0
 Names words None = list_any is_portmap words ≡ false
 Names words (Some p) = NamesOne words p.port (map string_bytes p.others.items)

@@ -10,7 +10,7 @@ use xdr_codec::Memory;
 /// The most calls that a session can make.
 const CALLS: &str = "2147483647";
 
-/// The words of a session of batches: with `--calls 2147483647` after the first word where none is or begins with `--calls`. A number
+/// The words of a session of batches: with `--calls 2147483647` after the first word if none is or begins with `--calls`. A number
 /// that is given stays.
 pub fn batch_words(alloc: Global, words: &[String]) -> Result<Vec<String>, Memory>
     ensures { IfOk result (λ all. map string_bytes all.items ≡ with_calls (map string_bytes words.now)) }
@@ -24,7 +24,7 @@ pub fn batch_words(alloc: Global, words: &[String]) -> Result<Vec<String>, Memor
     Ok(all)
 }
 
-/// Adds the most calls that there can be, where no word is or begins with the option.
+/// Adds the most calls that there can be, if no word is or begins with the option.
 fn add_calls(alloc: Global, all: &mut Vec<String>, words: &[String]) -> Result<(), AllocError>
     ensures { IfOk result (λ _. map string_bytes all.new.items ≡ map string_bytes all.old.items ++ missing_calls (map string_bytes words.now)) }
 {

@@ -29,9 +29,10 @@ pub enum PortmapFault {
     Memory,
 }
 
-/// The port mapper that the first word `--portmap` and the word after it name, if there is one. Refused exactly where that
-/// word is missing or isn't 1 to 65,535 in decimal digits, or where another word is or begins with `--mount-port` or
-/// `--nfs-port`.
+/// The port mapper that the first word `--portmap` and the word after it name, if there is one. Refused exactly in these
+/// cases:
+/// - that word is missing, or isn't 1 to 65,535 in decimal digits;
+/// - another word is or begins with `--mount-port` or `--nfs-port`.
 pub fn take_portmap(alloc: Global, words: &[String]) -> Result<Option<Portmap>, PortmapFault>
     ensures found { IfOk result (Names (map string_bytes words.now)) }
     ensures refused { result ≡ Err PortmapFault.Refused → (p : Option Named) → ¬ Names (map string_bytes words.now) p }

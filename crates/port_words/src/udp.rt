@@ -7,10 +7,10 @@ use crate::texts::{add, add_all, are_named};
 use std::alloc::{AllocError, Global};
 use xdr_codec::Memory;
 
-/// The most bytes of a READ or a WRITE where the words give none: a record with them fits in a datagram.
+/// The most bytes of a READ or a WRITE if the words give none: a record with them fits in a datagram.
 const SIZE: &str = "8192";
 
-/// The words of a session over UDP: with `--rsize 8192` after the first word where none is or begins with `--rsize`, and
+/// The words of a session over UDP: with `--rsize 8192` after the first word if none is or begins with `--rsize`, and
 /// with `--wsize 8192` likewise. A greater size that is given stays.
 pub fn udp_words(alloc: Global, words: &[String]) -> Result<Vec<String>, Memory>
     ensures { IfOk result (λ all. map string_bytes all.items ≡ with_sizes (map string_bytes words.now)) }
@@ -25,7 +25,7 @@ pub fn udp_words(alloc: Global, words: &[String]) -> Result<Vec<String>, Memory>
     Ok(all)
 }
 
-/// Adds an option with its size, where no word is or begins with the option.
+/// Adds an option with its size, if no word is or begins with the option.
 fn add_size(
     alloc: Global,
     all: &mut Vec<String>,

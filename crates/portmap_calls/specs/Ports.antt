@@ -22,7 +22,7 @@ is_get_port head = (head.prog == PORTMAP_PROGRAM) && (head.vers == PORTMAP_VERSI
 abbrev pub port_of : ℕ → Mapping → ℕ
 port_of port m = if ((m.prog == NFS_PROGRAM) || (m.prog == MOUNT_PROGRAM)) && (m.vers == PROGRAM_VERSION) then port else 0
 
--- the reply under the xid, where the arguments are a mapping
+-- the reply under the xid, if the arguments are a mapping
 abbrev pub told : ℕ → ℕ → Result Mapping XdrFault → Option (List ℕ)
 told port xid (Ok m) = Some (accepted_bytes xid ++ u32_bytes (port_of port m))
 told port xid (Err f) = None

@@ -11,7 +11,7 @@ use rpc_message::{CallHead, read_call, write_accepted};
 use std::alloc::Global;
 use xdr_codec::{Blob, Memory, Writer};
 
-/// Answers a call of GETPORT: `port` for NFS and MOUNT, version 3, over any protocol, and 0 for all else. None exactly where
+/// Answers a call of GETPORT: `port` for NFS and MOUNT, version 3, over any protocol, and 0 for all else. None exactly if
 /// the record is no call of GETPORT, or its arguments aren't spelled.
 pub fn answer(alloc: Global, rec: &[u8], port: u16) -> Result<Option<Blob>, Memory>
     ensures exact { IfOk result (λ reply. reply ≡ answered port (call_at rec.now)) }

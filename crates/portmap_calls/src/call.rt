@@ -43,7 +43,7 @@ pub fn get_port_call(alloc: Global, xid: u32, wanted: &Mapping) -> Result<Record
     w.finish_record(alloc)
 }
 
-/// Reads the port from all of the results of a GETPORT; 0 is one where none is registered.
+/// Reads the port from all of the results of a GETPORT; it is 0 if none is registered.
 pub fn read_port(results: &[u8]) -> Result<u32, XdrFault>
     ensures exact { Gives (λ n. n) result (whole_at u32_at results.now) }
     ensures spelled { FindsWhole (λ n. n) SpellsU32 results.now result }

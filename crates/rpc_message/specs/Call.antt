@@ -11,12 +11,12 @@ use Rattle.rpc_message.specs.declared.cred.Cred.{Cred}
 use Rattle.rpc_message.specs.Auth.{auth_at, SpellsAuth}
 use Rattle.rpc_message.specs.Cred.{none_bytes, cred_bytes}
 
--- the value that was read, where one was
+-- the value that was read, if one was
 abbrev pub value_read : Result (ℕ × List ℕ) XdrFault → Option ℕ
 value_read (Ok x) = Some x.0
 value_read (Err f) = None
 
--- the first word, where 4 bytes are there
+-- the first word, if 4 bytes are there
 abbrev pub xid_at : List ℕ → Option ℕ
 xid_at bytes = value_read (u32_at bytes)
 

@@ -95,10 +95,10 @@ impl From<XdrFault> for ReplyFault {
     }
 }
 
-/// A reply, whose results are the rest of the record (RFC 5531, section 9). NotReply comes exactly where the second
-/// word is there and isn't 1. Xdr comes exactly where the second word is missing, or is 1 and no reply is spelled:
-/// BadValue at a reply status above 1, a reject status above 1 or an accept status above 5, and Trailing where bytes
-/// follow a refusal or denial.
+/// A reply, whose results are the rest of the record (RFC 5531, section 9). NotReply comes exactly if the second word
+/// is there and isn't 1. Xdr comes exactly if the second word is missing, or is 1 and no reply is spelled:
+/// - BadValue at a reply status above 1, a reject status above 1 or an accept status above 5;
+/// - Trailing if bytes follow a refusal or denial.
 pub fn read_reply<'a>(rec: &'a [u8]) -> Result<Reply<'a>, ReplyFault>
     ensures exact { GivesReply reply_of result (reply_at rec.entry.now) }
     ensures spelled { FindsReply reply_of result rec.entry.now }

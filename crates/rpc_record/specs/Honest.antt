@@ -18,7 +18,7 @@ IsCited (entries.Sent bytes) = Unit {0}
 IsCited (entries.Executed xid call reply) = Unit {0}
 IsCited e = ⊥
 
--- What was sent and executed in h before its moment n was so in k before its moment j, and k had no verifier that h hadn't.
+-- What was sent and executed in h before its moment n was so in k before its moment j. And k had no verifier that h hadn't.
 pub record Covers (h : History) (n : ℕ) (k : History) (j : ℕ) : Type 0 where
   pub has : (m : ℕ) (e : Entry) → m < n → At h.entries m e → IsCited e → (i : ℕ) × (i < j) × At k.entries i e
   pub verfs : (i : ℕ) → i ≤ j → (m : ℕ) × (m ≤ n) × ((k.at i).verf ≡ (h.at m).verf)
@@ -34,8 +34,8 @@ pub data Queued (es : List Entry) : List ℕ → List ℕ → Type 0 where
   more : (bytes unread : List ℕ) (r : List ℕ × List ℕ) (at : ℕ) → record_at bytes ≡ Some r → At es at (entries.Delivered r.0) → Queued es r.1 unread
       → Queued es bytes unread
 
--- What the link tells goes along with what is read from the wire. The records that the link has still to deliver are
--- told by the wire as delivered, and the records that the wire tells as sent are sent by the link.
+-- What the link tells goes along with what is read from the wire. The records that the link has still to deliver are told
+-- by the wire as delivered. The records that the wire tells as sent are sent by the link.
 pub record Mirrors (r : Reading) (s : Stream) : Type 0 where
   pub goes : GoesWith r.history s.history
   pub pending : List ℕ

@@ -23,8 +23,8 @@ use Rattle.outside.specs.declared.places.WirePlace.{WirePlace}
 use Rattle.world_model.specs.History.{History}
 use Rattle.rpc_record.specs.Stream.{Stream, Along, now_of, Goes, Did, told_of}
 
--- What a caller sees: what is known of its streams, the faults of its wire and its own, what became of the records that
--- were sent since the latest connection, and where in a record the bytes that came end
+-- What a caller sees: what is known of its streams, and the faults of its wire and its own; what became of the records
+-- that were sent since the latest connection; and where in a record the bytes that came end.
 pub record Shown : Type 0 where
   pub now : Option Stream
   pub wire : ℕ
@@ -61,7 +61,7 @@ IsLeft None n bytes = Unit {0}
 IsLeft (Some rest) n bytes = left n bytes ≡ Some rest
 
 -- What is kept is what the stream makes of the bytes: those after the delivered records make the same record, whatever
--- follows; and after the records that were sent nothing is left, where none went out in part.
+-- follows; and after the records that were sent nothing is left, if none went out in part.
 pub record Keeps (s : Stream) (w : Waiting) (unsent : Option (List ℕ)) : Type 0 where
   pub pending : List ℕ
   pub came : left s.taken s.came ≡ Some pending
@@ -78,7 +78,7 @@ partly sendings.Fine = Some []
 partly sendings.Broken = None
 partly sendings.Starved = None
 
--- After a wait the bytes that came are those to be read; where none came, the failure was placed.
+-- After a wait the bytes that came are those to be read; if none came, the failure was placed.
 abbrev pub Fills : Option Stream → Option Stream → List ℕ → Option Received → Type 0
 Fills r q unread None = Goes r q (Did (Some (Read unread)) added.Nothing)
 Fills r q unread (Some received.Whole) = ⊥
@@ -93,7 +93,7 @@ IfMissed (Some received.Silent) P = P
 IfMissed (Some received.Failed) P = P
 IfMissed (Some received.Memory) P = Unit {0}
 
--- the wire's count never falls, and it rose where no byte came
+-- the wire's count never falls, and it rose if no byte came
 pub record HasCauseFilled (before now : ℕ) (result : Option Received) : Type 0 where
   pub later : before ≤ now
   pub failed : IfMissed result (Rose before now)
@@ -197,13 +197,13 @@ pub record TookPart (fault : LinkFault) (sending : SendState) (text : List ℕ) 
   pub went : t.went ≡ s.went ++ take at text
   pub leaves : sending ≡ left_by at fault
 
--- What a transmission wrote where all before it went out whole or not at all: the record as one fragment, or a part of
+-- What a transmission wrote if all before it went out whole or not at all: the record as one fragment, or a part of
 -- that.
 abbrev pub Writes : {T : Type 0} → List ℕ → Result T LinkFault → SendState → Stream → Stream → Type 0
 Writes rec (Ok x) sending s t = (sending ≡ sendings.Fine) × (t.went ≡ s.went ++ one_fragment rec)
 Writes rec (Err fault) sending s t = TookPart fault sending (one_fragment rec) s t
 
--- why a transmission failed: the wire's fault, or an earlier record that went out in part on the same connection, which
+-- why a transmission failed: the wire's fault; or an earlier record that went out in part on the same connection, which
 -- the link counts as a fault of its own
 abbrev pub FailedSend : SendState → Shown → Shown → Type 0
 FailedSend sendings.Fine old new = Rose old.wire new.wire
@@ -233,7 +233,7 @@ pub record Sends {T : Type 0} (old new : Shown) (rec : List ℕ) (result : Resul
   pub wrote : SendsIn old.sending old new rec result
   pub because : IfSendFailed result (FailedSend old.sending old new)
 
--- a connection makes a new beginning, where it came about or was tried
+-- a connection makes a new beginning, if it came about or was tried
 abbrev pub BeginsAnew : {T : Type 0} → Shown → Shown → Result T LinkFault → Type 0
 BeginsAnew old new (Ok x) = (new.sending ≡ sendings.Fine) × (new.phase ≡ phases.Header)
 BeginsAnew old new (Err faults.Failed) = (new.sending ≡ sendings.Fine) × (new.phase ≡ phases.Header)

@@ -19,9 +19,9 @@ use Rattle.outside.specs.declared.places.WireAdds.{WireAdds}
 use Rattle.outside.specs.declared.places.WireAdds.TheVariants as added
 use Rattle.outside.specs.Records.{◌>>=◌, nth_record}
 
--- What is known at a moment: the calls of the wire that have no place yet, the history so far, and since the latest
--- connection the bytes that were read, how many of their records were delivered, the bytes that were written, and how
--- many of their records were sent.
+-- What is known at a moment: the calls of the wire that have no place yet, and the history so far. And since the latest
+-- connection: the bytes that were read, how many of their records were delivered, the bytes that were written, and how many
+-- of their records were sent.
 pub record Stream : Type 0 where
   pub calls : List WireCall
   pub history : History
@@ -52,8 +52,8 @@ abbrev pub sends : Option (List ℕ) → Stream → Stream
 sends None s = s
 sends (Some rec) s = record s { history = adds s.history (entries.Sent rec); sent = suc s.sent }
 
--- What the link placed. A record that is delivered is the next one of the bytes that were read since the latest
--- connection, and a record that was sent whole is the next one of those that were written.
+-- What the link placed. A record that is delivered is the next one of the bytes that were read since the latest connection.
+-- A record that was sent whole is the next one of those that were written.
 abbrev pub places : WireAdds → Stream → Stream
 places added.Nothing s = s
 places added.Failed s = record s { history = adds s.history entries.Failed }
@@ -119,7 +119,7 @@ abbrev pub AllPlaced : Option WireTold → List WirePlace → Type 0
 AllPlaced None ks = ks ≡ []
 AllPlaced (Some t) ks = Placed t ks
 
--- nothing is kept where the wire doesn't tell its calls
+-- nothing is kept if the wire doesn't tell its calls
 abbrev pub KeepsNone : Option WireTold → List WirePlace → Type 0
 KeepsNone None ks = ks ≡ []
 KeepsNone (Some t) ks = Unit {0}
@@ -134,7 +134,7 @@ pub record Along (W : Type 0) : Type 0 where
 abbrev pub now_in : {W : Type 0} → (W → Option WireTold) → Along W → Option Stream
 now_in told a = now_of (told a.over) a.kept
 
--- a relation of two streams, where they are told
+-- a relation of two streams, if they are told
 abbrev pub Goes : Option Stream → Option Stream → (Stream → Stream → Type 0) → Type 0
 Goes None new R = new ≡ None
 Goes (Some s) None R = ⊥
@@ -156,7 +156,7 @@ abbrev pub Marked : {T E : Type 0} → Mark → Result T E → Stream → Stream
 Marked mark (Ok x) s t = t ≡ shows (Noted mark) s
 Marked mark (Err e) s t = t ≡ s
 
--- after a write: the record where its last bytes were taken, and the part of it where the wire failed
+-- after a write: the record if its last bytes were taken, and the part of it if the wire failed
 abbrev pub if_wrote : ℕ → List ℕ → Result ℕ LinkFault → WireAdds
 if_wrote len part (Ok n) = if n == len then added.Whole else added.Nothing
 if_wrote len part (Err faults.Failed) = added.Part part

@@ -39,7 +39,7 @@ impl Model for Inbox {
     ghost invariant = { λ i. (i.at ≤ i.end) × (i.end ≤ length i.buffer.items) };
 }
 
-/// Makes the buffer where there is none yet. When out of memory there is none, and the answer is false.
+/// Makes the buffer if there is none yet. When out of memory there is none, and the answer is false.
 fn open(buffer: &mut Vec<u8>) -> bool
     ensures { OnTrue result (0 < length buffer.new.items) }
 {
@@ -105,7 +105,7 @@ impl Inbox {
         Ok(())
     }
 
-    /// Waits for bytes, where all that came before were taken, and answers why none came.
+    /// Waits for bytes, if all that came before were taken, and answers why none came.
     pub(crate) fn fill<W: Wire + Drop>(
         &mut self,
         line: &mut Line<W>,

@@ -86,7 +86,7 @@ impl<W: Wire + Drop> Line<W> {
         true
     }
 
-    /// Waits for bytes; where none came, that it failed is placed.
+    /// Waits for bytes; if none came, that it failed is placed.
     pub(crate) fn read(&mut self, wait_ms: u32, buf: &mut [u8]) -> WireRead
         requires patient { 15000 ≤ wait_ms }
         requires room { 0 < length buf.old }
@@ -148,7 +148,7 @@ impl<W: Wire + Drop> Line<W> {
         }
     }
 
-    /// Makes a connection in place of the one before; where that fails, it is placed.
+    /// Makes a connection in place of the one before; if that fails, it is placed.
     pub(crate) fn connect(&mut self, port: u16) -> Result<(), LinkFault>
         ensures now { Goes (now_in W.told self.old) (now_in W.told self.new) (Did (connected_as port result) (if_dialed result)) }
         ensures honest { HonestOver W.told W.honest self.old → HonestOver W.told W.honest self.new }

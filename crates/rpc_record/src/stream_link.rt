@@ -118,7 +118,7 @@ impl<W: Wire + Drop> StreamLink<W> {
         Received::Failed
     }
 
-    /// One turn of a wait: it works what came into the record, and ends with it or waits for bytes. None where bytes
+    /// One turn of a wait: it works what came into the record, and ends with it or waits for bytes. None if bytes
     /// came.
     fn turn(&mut self, wait_ms: u32, rec: &mut Vec<u8>) -> Option<Received>
         requires { 15000 ≤ wait_ms }

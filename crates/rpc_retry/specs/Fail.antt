@@ -11,7 +11,7 @@ answer_after None = Resend
 answer_after (Some xid) = GivenUp xid
 
 module _ {P : Type 0} where
-  -- where none is given up all are due, and else none becomes due
+  -- if none is given up all are due, and else none becomes due
   abbrev pub failed_after : Option ℕ → List (ℕ × Waiting P) → List (ℕ × Waiting P)
   failed_after None calls = failed true calls
   failed_after (Some xid) calls = failed false calls

@@ -3,8 +3,8 @@ use Rattle.std.specs.Prelude.{◌≡◌, ℕ, List, ◌+◌}
 use Rattle.rpc_message.specs.declared.cred.Cred.{Cred}
 use Rattle.rpc_retry.specs.declared.waiting.Waiting.{Waiting}
 
--- The first xid, how many calls may be made, as whom they are made, how many were made, and those that wait by xid, in
--- order of making.
+-- The first xid, how many calls may be made, and as whom they are made; how many were made, and those that wait by
+-- xid, in order of making.
 pub record Held (P : Type 0) : Type 0 where
   pub first_xid : ℕ
   pub limit : ℕ

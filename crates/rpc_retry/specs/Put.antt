@@ -23,7 +23,7 @@ module _ {P : Type 0} where
   abbrev pub check_of : Held P → Result (Unit {0}) PutRefusal
   check_of h = if h.made == h.limit then Err refusals.Spent else (if length h.calls == 32 then Err refusals.Crowded else Ok tt)
 
-  -- what making a call answers where it may be made: the next xid, or out of memory
+  -- what making a call answers if it may be made: the next xid, or out of memory
   abbrev pub MakesCall : Held P → Result ℕ PutFault → Type 0
   MakesCall h (Ok xid) = xid ≡ next_xid h
   MakesCall h (Err faults.Spent) = ⊥

@@ -109,8 +109,8 @@ FailsBetween xid (Sending other bytes ∷ ds) = (other ≡ xid → sent_since xi
 FailsBetween xid (Taking other ∷ ds) = FailsBetween xid ds
 FailsBetween xid (Failing ∷ ds) = FailsBetween xid ds
 
--- A call is sent again only after a failure, and an attempt of one that waits runs exactly where it was sent since the
--- last failure.
+-- A call is sent again only after a failure. An attempt of one that waits runs exactly if it was sent since the last
+-- failure.
 pub record SentApart {P : Type 0} (ds : List Done) (h : Held P) (xid : ℕ) : Type 0 where
   pub apart : FailsBetween xid ds
   pub runs : (call : Waiting P) → waiting_at xid h.calls ≡ Some call → call.running ≡ sent_since xid ds
@@ -122,8 +122,10 @@ pub record Went (ds : List Done) (xid : ℕ) (bytes : List ℕ) (attempts replie
   pub sent : length (sent_records xid ds) ≡ attempts
   pub taken : times_taken xid ds ≡ replies
 
--- What became of an xid: it was never made; or it waits, was sent as often as its attempts count, always with the
--- record with which it was made, and no reply to it was taken; or one reply was taken and it waits no more.
+-- What became of an xid:
+-- - it was never made; or
+-- - it waits, was sent as often as its attempts count, always with the same record, and no reply to it was taken; or
+-- - one reply was taken and it waits no more.
 pub data Story {P : Type 0} (ds : List Done) (h : Held P) (xid : ℕ) : Type 0 where
   unmade : (xid < h.first_xid) ⊎ (next_xid h ≤ xid) → made_records xid ds ≡ [] → sent_records xid ds ≡ [] → times_taken xid ds ≡ 0 → Story ds h xid
   waits : (call : Waiting P) → waiting_at xid h.calls ≡ Some call → Went ds xid call.bytes call.attempts 0 → Story ds h xid

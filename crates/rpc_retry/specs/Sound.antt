@@ -14,7 +14,7 @@ pub record IsRecord (cred : Cred) (xid : ℕ) (bytes : List ℕ) : Type 0 where
   pub is : bytes ≡ call_bytes cred xid prog proc args
   pub spells : SpellsCallHead (call_head xid prog proc) args bytes
 
--- at most four attempts were made of a call, it is due only before the fourth and while none runs, and one that isn't due was sent
+-- At most four attempts were made of a call. It is due only before the fourth and while none runs. One that isn't due was sent.
 pub record IsSoundCall {P : Type 0} (cred : Cred) (xid : ℕ) (call : Waiting P) : Type 0 where
   pub spelled : IsRecord cred xid call.bytes
   pub tried : call.attempts ≤ 4

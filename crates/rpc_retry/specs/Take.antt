@@ -27,7 +27,7 @@ module _ {P : Type 0} where
     pub waits : waiting_at xid calls ≡ Some call
     pub is : purpose ≡ call.purpose
 
-  -- a record is dropped where no call waits for it, and else its reply is taken
+  -- a record is dropped if no call waits for it, and else its reply is taken
   abbrev pub Takes : List (ℕ × Waiting P) → List ℕ → Taken P → Type 0
   Takes calls rec Dropped = awaited (xid_at rec) calls ≡ None
   Takes calls rec (Took xid purpose body) = TakesReply calls rec xid purpose × ReadsBody rec body

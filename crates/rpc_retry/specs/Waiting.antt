@@ -33,7 +33,7 @@ module _ {P : Type 0} where
   abbrev pub waiting_at : ℕ → List (ℕ × Waiting P) → Option (Waiting P)
   waiting_at xid calls = lookup (nat_eq xid) calls
 
-  -- the others, where a call waits under an xid
+  -- the others, if a call waits under an xid
   abbrev pub without : ℕ → List (ℕ × Waiting P) → List (ℕ × Waiting P)
   without xid calls = remove_entry (nat_eq xid) calls
 
@@ -52,7 +52,7 @@ module _ {P : Type 0} where
   first_given_up [] = None
   first_given_up (e ∷ es) = if is_given_up e.1 then Some e.0 else first_given_up es
 
-  -- no attempt runs, and all are due where they are tried again
+  -- no attempt runs, and all are due if they are tried again
   abbrev pub failed : Bool → List (ℕ × Waiting P) → List (ℕ × Waiting P)
   failed again calls = map (λ e. (e.0, failed_call again e.1)) calls
 

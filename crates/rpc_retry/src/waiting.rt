@@ -5,7 +5,7 @@ ghost use Rattle.rpc_retry.specs.Waiting.{made_call, sent_call, failed_call};
 
 use xdr_codec::Record;
 
-/// A call that waits for its reply, as contracts show it; no call hands one out.
+/// A call that waits for its reply. `Calls::next_send` lends the one whose record is to be sent.
 #[derive(Debug, Drop)]
 pub struct Waiting<P> {
     /// Its record, which never changes.

@@ -33,8 +33,8 @@ pub record IsUnmounted (s : Settings) (h : List Entry) : Type 0 where
   pub refused : WasRefused h 0 (length h) (mount_call path) fault
   pub none : NoneBegan h
 
--- The lines of its scripts were run. Each was begun and answered, and the status is what was asked for by the answers, 0 or 1, or 6 if an answer is that the
--- session is lost; or the session was cut off.
+-- The lines of its scripts were run. Each was begun and answered, and the status is what was asked for by the answers, 0 or 1. It is 6 if an answer is that
+-- the session is lost. Or the session was cut off.
 pub data RanTo (lines : List ScriptLine) (h : List Entry) (status : ℕ) : Type 0 where
   kept : status ≤ 1 → Finishes (entries_of lines) h → (IsAnswered h (Refused faults.Lost) → ⊥) → RanTo lines h status
   lost : status ≡ 6 → Finishes (entries_of lines) h → IsAnswered h (Refused faults.Lost) → RanTo lines h status

@@ -10,7 +10,7 @@ use Rattle.script_runs.specs.Run.{IsCutOff, RunOf}
 use Rattle.nfs_client.specs.Run.{Shows}
 use Rattle.world_model.specs.Follows.{IsFront}
 
--- each operation went well, one was refused, or the link was lost
+-- each operation succeeded, one was refused, or the link was lost
 abbrev pub is_summed : ℕ → Bool
 is_summed ran = (ran == 0) || (ran == 1) || (ran == 6)
 
@@ -18,13 +18,13 @@ is_summed ran = (ran == 0) || (ran == 1) || (ran == 6)
 abbrev pub said_of : ℕ → List ℕ → List ℕ
 said_of ran text = if is_summed ran then summary_text text else text
 
--- All of it was written, and the status is that of the run; or a front of it was, where the sink failed or memory ran out. A run
+-- All of it was written, and the status is that of the run; or a front of it was, if the sink failed or memory ran out. A run
 -- that memory ended stays one.
 pub data Tells (whole : List ℕ) (ran status : ℕ) (said : List ℕ) : Type 0 where
   told : status ≡ ran → said ≡ whole → Tells whole ran status said
   cut : IsCutOff status → (ran ≡ 7 → status ≡ 7) → IsFront said whole → Tells whole ran status said
 
--- The run of the script that was made wrote a text and ended in a status, both by the history h, with a session that is so; and of these it was told. So
+-- The run of the script that was made wrote a text and ended in a status. Both are by the history h, with a session that is so; of these it was told. So
 -- the history is one of a run that ends in the status here.
 pub record MadeRunOf (Is : Settings → List ScriptLine → List ℕ → List Entry → ℕ → List ℕ → Type 0) (given : List ℕ) (words : List (List ℕ)) (n : ℕ)
     (h : List Entry) (status : ℕ) (said : List ℕ) : Type 0 where

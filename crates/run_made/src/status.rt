@@ -1,6 +1,6 @@
 //! The statuses of a run that are looked at here.
 
-/// Each operation went well.
+/// Each operation succeeded.
 pub const WELL: u8 = 0;
 /// An operation was refused.
 pub const REFUSED: u8 = 1;

@@ -23,8 +23,8 @@ use std::alloc::Global;
 use xdr_codec::{Blob, Memory, Writer};
 
 /// Runs the script that is made of this size, as `nfs_client::run` does, and writes one line on its answers: how many lines they
-/// have, in how many the operation went well, and how many bytes these show. Where no session was run to its end, what `run`
-/// writes is written instead. The status is that of `run`, or 5 where the sink failed, or 7 for lack of memory.
+/// have, in how many the operation succeeded, and how many bytes these show. If no session was run to its end, what `run`
+/// writes is written instead. The status is that of `run`, or 5 if the sink failed, or 7 for lack of memory.
 pub fn run_made<L: Link, C: Clock, K: Sink>(
     alloc: Global,
     n: u32,
@@ -39,11 +39,11 @@ pub fn run_made<L: Link, C: Clock, K: Sink>(
     // Its script isn't read from anywhere, so no source fails.
     ensures sourceless { result ≢ 4 }
 
-    // 2 comes only where the words aren't of their form, and where they aren't only out of memory comes in its place.
+    // 2 comes only if the words aren't of their form, and if they aren't, only out of memory comes in its place.
     ensures words { result ≡ 2 → (s : SettingsOf) → IsCommand (map string_bytes words.now) s → ⊥ }
     ensures no_words { ((s : SettingsOf) → IsCommand (map string_bytes words.now) s → ⊥) → (result ≡ 2) ⊎ (result ≡ 7) }
 
-    // 3 comes only where what is made spells no script.
+    // 3 comes only if what is made spells no script.
     ensures script { result ≡ 3 → IsScript (take script_limit (made_text n)) → ⊥ }
     ensures unspelled { (IsScript (take script_limit (made_text n)) → ⊥) → Refuses result }
 
@@ -51,7 +51,7 @@ pub fn run_made<L: Link, C: Clock, K: Sink>(
     ensures unread { result ≡ 2 → Says (K.written out.old) (K.written out.new) (λ text. text ≡ []) }
     ensures refused { result ≡ 3 → Says (K.written out.old) (K.written out.new) (RefusalIs (Some (made_text n))) }
 
-    // 5 comes only where the sink failed.
+    // 5 comes only if the sink failed.
     ensures sink { result ≡ 5 → Rose (K.faults out.old) (K.faults out.new) }
 
     // What the link's own calls keep stays, and a link that is honest stays so: what it tells is lawful.

@@ -1,4 +1,4 @@
--- What is written where a port mapper told no port (RFC 1833, section 3), and the status then.
+-- What is written if a port mapper told no port (RFC 1833, section 3), and the status then.
 use Rattle.std.specs.Prelude.{◌≡◌, ◌≤◌, ◌⊎◌, ℕ, List, [], ◌++◌, codes, decimal}
 use Rattle.port_finder.specs.declared.finder.PortFault.{PortFault}
 use Rattle.port_finder.specs.declared.finder.PortFault.TheVariants as faults
@@ -7,7 +7,7 @@ use Rattle.world_model.specs.Follows.{IsFront}
 use Rattle.run_ports.specs.declared.reason.Reason.{Reason}
 use Rattle.run_ports.specs.declared.reason.Reason.TheVariants as reasons
 
--- one of a run, or 10, where no port was told
+-- one of a run, or 10, if no port was told
 abbrev pub IsStatus : ℕ → Type 0
 IsStatus status = (status ≤ 8) ⊎ (status ≡ 10)
 
@@ -25,7 +25,7 @@ pub data Tells (prog : ℕ) (reason : Reason) (status : ℕ) (text : List ℕ) :
   whole : status ≡ 10 → text ≡ refusal_text prog reason → Tells prog reason status text
   front : IsCutOff status → IsFront text (refusal_text prog reason) → Tells prog reason status text
 
--- how a session without ports ends: in 6 where the link to the port mapper is lost, in 7 where memory ran out
+-- how a session without ports ends: in 6 if the link to the port mapper is lost, in 7 if memory ran out
 abbrev pub Ends : PortFault → ℕ → List ℕ → Type 0
 Ends (faults.None prog) status text = Tells prog reasons.None status text
 Ends (faults.Rpc prog n) status text = Tells prog (reasons.Rpc n) status text

@@ -49,7 +49,7 @@ outside_at told faults readings written sink_faults source_faults = record {
 
 -- ---- a run with such words
 
--- What `nfs_client::run` promises of these words, clause by clause, where the source had this left.
+-- What `nfs_client::run` promises of these words, clause by clause, if the source had this left.
 pub record RunsBy (words : List (List ℕ)) (left : Option (List ℕ)) (a b : Outside) (status : ℕ) : Type 0 where
   pub statuses : status ≤ 8
   pub untaken : status ≡ 2 → (s : Settings) → IsCommand words s → ⊥
@@ -65,7 +65,7 @@ pub record RunsBy (words : List (List ℕ)) (left : Option (List ℕ)) (a b : Ou
   pub shown : Says a.written b.written (λ text. Reads a.readings b.readings (λ given. Relates a.told b.told (λ before h. before ≡ []
       → RunIs given words left h status text)))
 
--- The other words with the ports that were told are a command line, whose ports are these, and a run with them keeps all its promises.
+-- The other words with the ports that were told are a command line, whose ports are these. A run with them keeps all its promises.
 pub record RunsAt (others : List (List ℕ)) (ports : Ports) (left : Option (List ℕ)) (a b : Outside) (status : ℕ) : Type 0 where
   pub settings : Settings
   pub is : IsCommand (with_ports others ports.mount ports.nfs) settings

@@ -1,4 +1,4 @@
-//! What is written where no port is told.
+//! What is written if no port is told.
 
 ghost use Rattle.std.specs.Prelude.{◌≡◌, ◌≤◌, OnOk, OnErr};
 ghost use Rattle.outside.specs.Causes.{HasCause};

@@ -22,17 +22,17 @@ use std::alloc::Global;
 const FIRST_XID: u32 = 1;
 /// The number of TCP among the protocols.
 const TCP: u32 = 6;
-/// The port of MOUNT where the words name none.
+/// The port of MOUNT if the words name none.
 const USUAL_MOUNT_PORT: u16 = 20_048;
-/// The port of NFS where the words name none.
+/// The port of NFS if the words name none.
 const USUAL_NFS_PORT: u16 = 2_049;
 
 /// Runs the client with the ports that a port mapper tells. The word `--portmap` and the one after it name its port; it is asked
 /// over the finder, and the client runs as `nfs_client::run` does by the other words, but with the ports that were told. Without that
 /// word it is `run` with the words as they are.
 ///
-/// The words are read before anything is dialed, and once. The status is that of `run`, but 10 where the port mapper told no port, and
-/// then a line says why; 6 also where the link to the port mapper is lost.
+/// The words are read before anything is dialed, and once. The status is that of `run`, but 10 if the port mapper told no port, and
+/// then a line says why; 6 also if the link to the port mapper is lost.
 pub fn run_found<S: Source, F: Link, L: Link, C: Clock, K: Sink>(
     alloc: Global,
     words: &[String],

@@ -34,7 +34,7 @@ abbrev pub StartsAs : Result ReadView ℕ → History → Type 0
 StartsAs (Ok view) t = t.at 0 ≡ server_of view.export
 StartsAs (Err n) t = ⊥
 
--- The simulated server is honest, gives each change a fresh stamp, and its cookies rise. It remembers no calls: where a late copy of one may be executed,
+-- The simulated server is honest, gives each change a fresh stamp, and its cookies rise. It remembers no calls: if a late copy of one may be executed,
 -- `Once` is asked for.
 pub record Keeps (s : Settings) (first : ℕ) (t : History) : Type 0 where
   pub lawful : Lawful t

@@ -14,9 +14,9 @@ use run_batches::run;
 use std::alloc::Global;
 use world_link::{ScheduleFault, World, parse_schedule};
 
-/// Runs the batches that the source gives, as `run_batches::run` does, over the world that the schedule begins, with a clock
-/// that goes on by the schedule's step. It answers the world as it is then, which tells what happened, and the status of
-/// the session. A text that is no schedule is refused with its fault, and then nothing is read or written.
+/// Runs the batches that the source gives, as `run_batches::run` does, over the world that the schedule begins. The clock
+/// goes on by the schedule's step. It answers the world as it is then, which tells what happened, and the status of the
+/// session. A text that is no schedule is refused with its fault, and then nothing is read or written.
 pub fn replay_batches<S: Source, K: Sink>(
     alloc: Global,
     schedule: &[u8],

@@ -1,5 +1,5 @@
-//! The client over a simulated server: `replay` runs a script over the world that a schedule begins, `replay_batches` runs batches over
-//! it, and `replay_made` runs a script that is made by a rule over a server without a file.
+//! The client over a simulated server. `replay` runs a script over the world that a schedule begins, and `replay_batches` runs batches
+//! over it. `replay_made` runs a script that is made by a rule over a server without a file.
 #![tactic(auto)]
 
 mod batches;

@@ -15,7 +15,7 @@ use std::alloc::Global;
 use world_link::{ScheduleFault, World, parse_schedule};
 
 /// Runs the script that is made of this size, as `run_made::run_made` does, over the simulated server of an empty
-/// schedule, with a clock that stands still. It answers the world as it is then and the status of the session; or a fault, for
+/// schedule. The clock stands still. It answers the world as it is then and the status of the session; or a fault, for
 /// lack of memory.
 pub fn replay_made<K: Sink>(
     alloc: Global,

@@ -13,9 +13,9 @@ use outside::{Sink, Source, TickClock};
 use std::alloc::Global;
 use world_link::{ScheduleFault, World, parse_schedule};
 
-/// Runs the script that the source gives, as `nfs_client::run` does, over the world that the schedule begins, with a clock
-/// that goes on by the schedule's step. It answers the world as it is then, which tells what happened, and the status of
-/// the session. A text that is no schedule is refused with its fault, and then nothing is read or written.
+/// Runs the script that the source gives, as `nfs_client::run` does, over the world that the schedule begins. The clock
+/// goes on by the schedule's step. It answers the world as it is then, which tells what happened, and the status of the
+/// session. A text that is no schedule is refused with its fault, and then nothing is read or written.
 pub fn replay<S: Source, K: Sink>(
     alloc: Global,
     schedule: &[u8],

@@ -138,7 +138,7 @@ impl Held {
         }
     }
 
-    /// Reads a piece from the source where nothing is held. Whether anything is held now: nothing is at the end of the input.
+    /// Reads a piece from the source if nothing is held. Whether anything is held now: nothing is at the end of the input.
     fn fill<S: Source>(&mut self, alloc: Global, source: &mut S) -> Result<bool, ReadFault>
         ensures filled { IfOk result (Fills (S.left source.old) (S.left source.new) self.old.bytes self.new.bytes) }
         ensures holds { IfOk result (HoldsSome self.old self.new) }

@@ -22,15 +22,15 @@ pub data TellsMount (fault : Fault) (status : ℕ) (text : List ℕ) : Type 0 wh
   all_told : status ≡ 8 → text ≡ mount_text fault → TellsMount fault status text
   front_told : IsCutOff status → IsFront text (mount_text fault) → TellsMount fault status text
 
--- The status is that of the answers, and they were written with the counts; or a front of that was, where the session was cut off. Or no line began, the
+-- The status is that of the answers, and they were written with the counts; or a front of that was, if the session was cut off. Or no line began, the
 -- server refused the mount (RFC 1813, section 5.2.1), and the line that says so was written.
 pub data EndsSo (s : Settings) (lines : List ScriptLine) (h : List Entry) (status : ℕ) (text : List ℕ) : Type 0 where
   ran : EndsAs lines h status → TextOf s.count (tally_of h) h status text → EndsSo s lines h status text
   unmounted : (path : List ℕ) (fault : Fault) → s.export ≡ exports.Path path → Refused h 0 (length h) (mount_call path) fault
       → ((i lane line : ℕ) (op : Op) → At h i (Began lane line op) → ⊥) → TellsMount fault status text → EndsSo s lines h status text
 
--- The readings that the clock gave were noted, in order, but for the first, which the first xid goes by, and at status 7 perhaps the last. Each operation
--- began right after a reading.
+-- The readings that the clock gave were noted, in order, but for the first, which the first xid goes by. At status 7 perhaps the last wasn't noted
+-- either. Each operation began right after a reading.
 pub record IsClocked (status : ℕ) (given : List ℕ) (h : List Entry) : Type 0 where
   pub first : List ℕ
   pub last : List ℕ

@@ -28,15 +28,15 @@ use Rattle.script_runs.specs.Stock.{nothing_stored, setup_with}
 abbrev pub setup_of : Settings → SetUp → Setup
 setup_of s v = setup_with nothing_stored s v
 
--- Of a session that was set up with the history before: a core goes with the whole history, which was so set up, and began with the pages of the stock that fit its
--- root; each line of its script may be run; and after the set-up only the port of NFS is dialed.
+-- Of a session that was set up with the history before: a core goes with the whole history, which was so set up, and began with the pages of the stock that fit
+-- its root; each line of its script may be run; and after the set-up only the port of NFS is dialed.
 pub record LeavesOver (stock : Stock) (s : Settings) (lines : List ScriptLine) (first : ℕ) (v : SetUp) (before h : List Entry) : Type 0 where
   pub fits : FitsSession s first v
   pub asked : All IsAskedLine lines
   pub core : HasCore (mounted_by s (setup_with stock s v)) (setup_with stock s v) before h
   pub dials : Dials s.nfs_port before h
 
--- the same where no pages are kept
+-- the same if no pages are kept
 abbrev pub Leaves : Settings → List ScriptLine → ℕ → SetUp → List Entry → List Entry → Type 0
 Leaves s lines first v before h = LeavesOver nothing_stored s lines first v before h
 
@@ -69,7 +69,7 @@ pub data SessionFrom (R : Settings → List ScriptLine → ℕ → SetUp → Lis
 abbrev pub SessionBy : (Settings → List ScriptLine → ℕ → SetUp → List Entry → List Entry → Type 0) → Settings → List ScriptLine → List ℕ → List Entry → ℕ → List ℕ → Type 0
 SessionBy R s lines given h status text = SessionFrom R s lines given [] h status text
 
--- a session ends with one of these: each operation went well, or one was refused, the link was lost, the mount was refused, or it was cut off
+-- a session ends with one of these: each operation succeeded, or one was refused, the link was lost, the mount was refused, or it was cut off
 abbrev pub IsEnding : ℕ → Type 0
 IsEnding status = (status ≡ 0) ⊎ (status ≡ 1) ⊎ (status ≡ 6) ⊎ (status ≡ 8) ⊎ IsCutOff status
 

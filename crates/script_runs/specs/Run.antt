@@ -36,7 +36,7 @@ pub record IsScript (text : List ℕ) : Type 0 where
   pub lines : List ScriptLine
   pub parsed : script_of text ≡ Ok lines
 
--- the script's text is read so; where the source doesn't tell its bytes, some text is
+-- the script's text is read so; if the source doesn't tell its bytes, some text is
 abbrev pub IsReadAs : Option (List ℕ) → Result (List ScriptLine) ScriptFault → Type 0
 IsReadAs None read = (text : List ℕ) × (script_of text ≡ read)
 IsReadAs (Some left) read = script_of (take script_limit left) ≡ read
@@ -90,7 +90,7 @@ Refuses status = (status ≡ 2) ⊎ (status ≡ 3) ⊎ (status ≡ 4) ⊎ IsCutO
 abbrev pub RefusalIs : Option (List ℕ) → List ℕ → Type 0
 RefusalIs left text = (fault : ScriptFault) × IsFaultOf left fault × (text ≡ refusal_text fault)
 
--- a text was added, where the sink tells what was written, and it is so
+-- a text was added, if the sink tells what was written, and it is so
 pub record Says (old new : Option (List ℕ)) (P : List ℕ → Type 0) : Type 0 where
   pub text : List ℕ
   pub added : Appends old new text

@@ -8,7 +8,7 @@ use Rattle.script_runs.specs.declared.input.ReadFault.TheVariants as faults
 unfoldable pub script_limit : ℕ
 script_limit = 1048577
 
--- the text is what was left, up to so many bytes, where the source tells it
+-- the text is what was left, up to so many bytes, if the source tells it
 abbrev pub TakesUpTo : ℕ → Option (List ℕ) → List ℕ → Type 0
 TakesUpTo limit None text = Unit {0}
 TakesUpTo limit (Some left) text = text ≡ take limit left
@@ -17,7 +17,7 @@ TakesUpTo limit (Some left) text = text ≡ take limit left
 abbrev pub TakesAll : Option (List ℕ) → List ℕ → Type 0
 TakesAll left text = TakesUpTo script_limit left text
 
--- nothing was left, where the source tells it
+-- nothing was left, if the source tells it
 abbrev pub IfSomeEmpty : Option (List ℕ) → Type 0
 IfSomeEmpty None = Unit {0}
 IfSomeEmpty (Some left) = left ≡ []
@@ -41,7 +41,7 @@ HasFault (Ok x) P = Unit {0}
 HasFault (Err faults.Failed) P = P
 HasFault (Err faults.Memory) P = Unit {0}
 
--- the bytes were added, where the sink tells what was written
+-- the bytes were added, if the sink tells what was written
 abbrev pub Appends : Option (List ℕ) → Option (List ℕ) → List ℕ → Type 0
 Appends None new bytes = Unit {0}
 Appends (Some old) None bytes = ⊥

@@ -40,8 +40,8 @@ const NO_CALLS: Tally = Tally {
     commit: 0,
 };
 
-/// Sets a session up and runs each line of the script in its lane. A script without lines makes no call. The session begins with the pages of the stock, if they
-/// are of its root. Where they were, and each line had its answer, the pages that are kept at the end are handed back.
+/// Sets a session up and runs each line of the script in its lane. A script without lines makes no call. The session begins with the pages of the stock, if
+/// they are of its root. If they were, and each line had its answer, the pages that are kept at the end are handed back.
 pub fn run_lanes<L: Link, C: Clock, K: Sink>(
     alloc: Global,
     settings: &Settings,
@@ -151,7 +151,7 @@ fn handed_back(own: bool, root: &Handle, pages: Option<PageCache>) -> Option<Sto
     }
 }
 
-/// Ends a session that can't be set up: where it is lost each line is answered so, and else none begins.
+/// Ends a session that can't be set up: if it is lost each line is answered so, and else none begins.
 fn end_early<L: Link, C: Clock, K: Sink>(
     alloc: Global,
     settings: &Settings,

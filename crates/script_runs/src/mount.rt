@@ -1,4 +1,4 @@
-//! What a run says where the mount is refused.
+//! What a run says if the mount is refused.
 
 ghost use Rattle.std.specs.Prelude.{◌≡◌, ◌⊎◌, IfOk};
 ghost use Rattle.outside.specs.Causes.{Rose};

@@ -1,4 +1,4 @@
-//! The statuses with which a run ends where no line of its script begins.
+//! The statuses with which a run ends if no line of its script begins.
 
 /// The words of the command line are refused.
 pub const WORDS_REFUSED: u8 = 2;

@@ -13,7 +13,7 @@ use xdr_codec::Memory;
 /// begins with them only if its root is this one.
 #[derive(Drop)]
 pub struct Stock {
-    /// The root of the session that kept them. None where none has kept any.
+    /// The root of the session that kept them. None if none has kept any.
     pub root: Option<Handle>,
     /// The pages, each under a stamp of its file.
     pub pages: PageCache,
@@ -45,7 +45,7 @@ impl Stock {
         }
     }
 
-    /// The pages with which a session over this root begins: none where these are another root's.
+    /// The pages with which a session over this root begins: none if these are another root's.
     pub(crate) fn into_pages(self, alloc: Global, root: &Handle) -> Result<PageCache, Memory>
         ensures { IfOk result (λ pages. pages ≡ pages_for self root.now) }
     {

@@ -26,10 +26,17 @@ use session_words::{Settings, WordsFault, read_words};
 use std::alloc::Global;
 use xdr_codec::{Blob, Memory, Writer};
 
-/// Runs the script that the source gives, and writes an answer line for each operation. The words say where the files
-/// are and how they are asked for. It answers the status of the session: 0 where each operation went well, 1 where one
-/// was refused, 2 where the words are refused, 3 where the script is, 4 where the source failed, 5 where the sink
-/// failed, 6 where the link is lost, 7 for lack of memory outside an operation, 8 where the mount is refused.
+/// Runs the script that the source gives, and writes an answer line for each operation. The words say where the files are and how they are asked for. It
+/// answers the status of the session:
+/// - 0: each operation succeeded;
+/// - 1: one was refused;
+/// - 2: the words are refused;
+/// - 3: the script is refused;
+/// - 4: the source failed;
+/// - 5: the sink failed;
+/// - 6: the link is lost;
+/// - 7: there was no memory outside an operation;
+/// - 8: the mount is refused.
 pub fn run<S: Source, L: Link, C: Clock, K: Sink>(
     alloc: Global,
     words: &[String],
@@ -40,11 +47,11 @@ pub fn run<S: Source, L: Link, C: Clock, K: Sink>(
 ) -> u8
     ensures statuses { result ≤ 8 }
 
-    // 2 comes only where the words aren't of their form, and where they aren't only out of memory comes in its place.
+    // 2 comes only if the words aren't of their form, and if they aren't, only out of memory comes in its place.
     ensures words { result ≡ 2 → (s : SettingsOf) → IsCommand (map string_bytes words.now) s → ⊥ }
     ensures no_words { ((s : SettingsOf) → IsCommand (map string_bytes words.now) s → ⊥) → (result ≡ 2) ⊎ (result ≡ 7) }
 
-    // 3 comes only where the script's bytes spell none, and where they don't no operation is answered.
+    // 3 comes only if the script's bytes spell none, and if they don't, no operation is answered.
     ensures script { IfSome (S.left script.old) (λ left. result ≡ 3 → IsScript (take script_limit left) → ⊥) }
     ensures unspelled { IfSome (S.left script.old) (λ left. (IsScript (take script_limit left) → ⊥) → Refuses result) }
 
@@ -52,7 +59,7 @@ pub fn run<S: Source, L: Link, C: Clock, K: Sink>(
     ensures unread { (result ≡ 2) ⊎ (result ≡ 4) → Says (K.written out.old) (K.written out.new) (λ text. text ≡ []) }
     ensures refused { result ≡ 3 → Says (K.written out.old) (K.written out.new) (RefusalIs (S.left script.old)) }
 
-    // 4 and 5 come only where the outside failed.
+    // 4 and 5 come only if the outside failed.
     ensures source { result ≡ 4 → Rose (S.faults script.old) (S.faults script.new) }
     ensures sink { result ≡ 5 → Rose (K.faults out.old) (K.faults out.new) }
 
@@ -107,7 +114,7 @@ pub fn run_with<S: Source, L: Link, C: Clock, K: Sink>(
     status
 }
 
-/// Runs the script that the source gives as `run_with` does. The session begins with the pages of the stock, if they are of its root; then, where each line had
+/// Runs the script that the source gives as `run_with` does. The session begins with the pages of the stock, if they are of its root; then, if each line had
 /// its answer, the pages that are kept at the end come with the status.
 pub fn run_stocked<S: Source, L: Link, C: Clock, K: Sink>(
     alloc: Global,

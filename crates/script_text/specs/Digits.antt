@@ -24,7 +24,7 @@ Tells hex false bytes = (others : List ℕ) → decode_of hex ≡ Ok others → 
 abbrev pub AreRead : List ℕ → List ℕ → ℕ → ℕ → Type 0
 AreRead hex bytes from to = (i : ℕ) → from ≤ i → i < to → escaped (get_or hex (2 * i) 0) (get_or hex (2 * i + 1) 0) ≡ Some (get_or bytes i 0)
 
--- What was seen of the digits of the bytes before a place: where all values are below sixteen the bytes are theirs, and they are where all are digits.
+-- What was seen of the digits of the bytes before a place: if all values are below sixteen the bytes are theirs, and they are if all are digits.
 pub record IsSeen (hex bytes seen : List ℕ) (to : ℕ) : Type 0 where
   pub many : length seen ≡ 32
   pub found : Each1 (λ value. value < 16) seen → AreRead hex bytes 0 to

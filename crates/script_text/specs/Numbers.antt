@@ -11,7 +11,7 @@ is_numeral digits = not (length digits == 0) && list_all is_ascii_digit digits
 abbrev pub is_within : ℕ → ℕ → ℕ → Bool
 is_within least most n = nat_le least n && nat_le n most
 
--- the number that a word writes, where it is a number from `least` to `most`
+-- the number that a word writes, if it is a number from `least` to `most`
 abbrev pub number_of : ℕ → ℕ → List ℕ → Option ℕ
 number_of least most digits =
     if is_numeral digits && is_within least most (digits_value 10 digits) then Some (digits_value 10 digits) else None

@@ -15,7 +15,7 @@ abbrev pub before : Option ℕ → Option (List ℕ) → Option (List ℕ)
 before None bytes = None
 before (Some b) bytes = option_map (λ more. b ∷ more) bytes
 
--- the bytes of a text: `%` and two hex digits stand for one, each other byte for itself; None where a `%` isn't
+-- the bytes of a text: `%` and two hex digits stand for one, each other byte for itself; None if a `%` isn't
 -- followed by two digits
 unfoldable pub decoded : List ℕ → Option (List ℕ)
 decoded [] = Some []
@@ -42,7 +42,7 @@ is_path_name bytes = nat_le (length bytes) 255 && not (is_no_name bytes) && not 
 abbrev pub name_of : List ℕ → Option (List ℕ)
 name_of piece = option_and_then (λ bytes. if is_path_name bytes then Some bytes else None) (decoded piece)
 
--- the names that the pieces stand for, where each stands for one
+-- the names that the pieces stand for, if each stands for one
 abbrev pub names_of : List (List ℕ) → Option (List (List ℕ))
 names_of [] = Some []
 names_of (piece ∷ pieces) = option_and_then (λ name. option_map (λ names. name ∷ names) (names_of pieces)) (name_of piece)
@@ -51,7 +51,7 @@ names_of (piece ∷ pieces) = option_and_then (λ name. option_map (λ names. na
 abbrev pub path_bytes : List (List ℕ) → ℕ
 path_bytes names = sum_by (λ name. length name + 1) names
 
--- a path's names, where they have 1,024 bytes at most
+-- a path's names, if they have 1,024 bytes at most
 abbrev pub within_path : List (List ℕ) → Option (List (List ℕ))
 within_path names = if nat_le (path_bytes names) 1024 then Some names else None
 
@@ -62,7 +62,7 @@ is_slash b = b == 47
 abbrev pub names_between : List ℕ → Option (List (List ℕ))
 names_between text = option_and_then within_path (names_of (slice_split is_slash text))
 
--- the names along a path, which begins with `/`; none where it is `/` alone
+-- the names along a path, which begins with `/`; none if it is `/` alone
 abbrev pub path_of : List ℕ → Option (List (List ℕ))
 path_of [] = None
 path_of (b ∷ []) = if b == 47 then Some [] else None

@@ -7,7 +7,7 @@ use Rattle.hex.specs.declared.error.FromHexError.{FromHexError}
 abbrev pub is_payload_length : ℕ → Bool
 is_payload_length n = not (n == 0) && nat_le n 65536
 
--- the bytes, where there are 1 to 65,536
+-- the bytes, if there are 1 to 65,536
 abbrev pub some_bytes : Result (List ℕ) FromHexError → Option (List ℕ)
 some_bytes (Ok bytes) = if is_payload_length (length bytes) then Some bytes else None
 some_bytes (Err e) = None
@@ -16,7 +16,7 @@ some_bytes (Err e) = None
 abbrev pub payload_of : List ℕ → Option (List ℕ)
 payload_of hex = some_bytes (decode_of hex)
 
--- 1 to 65,536 bytes, or none where the word is `-`
+-- 1 to 65,536 bytes, or none if the word is `-`
 abbrev pub contents_of : List ℕ → Option (List ℕ)
 contents_of hex = if bytes_eq hex (codes "-") then Some [] else payload_of hex
 

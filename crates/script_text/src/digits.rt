@@ -13,7 +13,7 @@ pub(crate) const BLOCK: usize = 16;
 /// How many bytes are read in a turn.
 const GROUP: usize = 4 * BLOCK;
 
-/// Reads two digits for each byte, by vectors. False exactly where one of them isn't a hex digit; then the bytes are
+/// Reads two digits for each byte, by vectors. False exactly if one of them isn't a hex digit; then the bytes are
 /// none in particular.
 pub(crate) fn read(hex: &[u8], bytes: &mut [u8]) -> bool
     requires some { 16 ≤ length bytes.old }
@@ -61,7 +61,7 @@ fn read_rest(hex: &[u8], from: usize, bytes: &mut [u8], before: u8x32) -> bool
     seen.reduce_or() < 16
 }
 
-/// Reads the digits of the sixteen bytes from a place on, and answers their values. Where each of them is a digit, the bytes are theirs.
+/// Reads the digits of the sixteen bytes from a place on, and answers their values. If each of them is a digit, the bytes are theirs.
 #[inline(always)]
 fn read_block(hex: &[u8], at: usize, bytes: &mut [u8]) -> u8x32
     requires fits { at + 16 ≤ length bytes.old }

@@ -1,6 +1,6 @@
 //! What the texts of scripts and of schedules have in common: lines, words, and the forms of numbers, bytes and paths.
 //!
-//! Each reader says exactly which words it takes and what they stand for, so a caller that names a fault in a text can
+//! Each reader says exactly which words it takes and what they stand for. So a caller that names a fault in a text can
 //! say that it is one.
 #![tactic(auto)]
 

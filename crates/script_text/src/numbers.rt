@@ -6,7 +6,7 @@ ghost use Rattle.std.specs.Char.{is_ascii_digit};
 ghost use Rattle.std.specs.Str.Parse.{digits_value};
 ghost use Rattle.script_text.specs.Numbers.{number_of, is_decimal};
 
-/// A number of one or more decimal digits, leading zeros allowed, from `least` to `most`. None exactly where the word is
+/// A number of one or more decimal digits, leading zeros allowed, from `least` to `most`. None exactly if the word is
 /// no such number.
 pub fn long_number(digits: &[u8], least: u64, most: u64) -> Option<u64>
     ensures value { result ≡ number_of least most digits.now }

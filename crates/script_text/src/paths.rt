@@ -14,7 +14,7 @@ use xdr_codec::{Blob, Memory};
 /// The most bytes of a path, and of what a link leads to.
 const MOST_BYTES: usize = 1024;
 
-/// The path that a word stands for. None exactly where it isn't `/` alone or `/` and names parted by single slashes,
+/// The path that a word stands for. None exactly if it isn't `/` alone or `/` and names parted by single slashes,
 /// with 1,024 bytes at most after decoding; a name is a file name other than `.` and `..`.
 pub fn path(alloc: Global, text: &[u8]) -> Result<Option<Path>, Memory>
     ensures { IfOk result (λ path. path ≡ path_of text.now) }
@@ -94,7 +94,7 @@ fn path_name(bytes: &[u8]) -> Option<Name>
     Name::make(bytes)
 }
 
-/// What a link is to lead to. None exactly where the word doesn't stand for 1 to 1,024 bytes without a zero byte.
+/// What a link is to lead to. None exactly if the word doesn't stand for 1 to 1,024 bytes without a zero byte.
 pub fn target(alloc: Global, text: &[u8]) -> Result<Option<Blob>, Memory>
     ensures { IfOk result (λ target. target ≡ target_of text.now) }
 {
@@ -114,7 +114,7 @@ fn is_target(bytes: &[u8]) -> bool
     !bytes.is_empty() && bytes.len() <= MOST_BYTES && !bytes.contains(&0)
 }
 
-/// The bytes of a text in which `%` and two hex digits stand for one. None exactly where a `%` isn't followed by two hex
+/// The bytes of a text in which `%` and two hex digits stand for one. None exactly if a `%` isn't followed by two hex
 /// digits.
 pub fn decoded(alloc: Global, text: &[u8]) -> Result<Option<Vec<u8>>, Memory>
     ensures { IfOk result (λ bytes. option_map (λ b. b.items) bytes ≡ decoded text.now) }

@@ -11,7 +11,7 @@ use xdr_codec::{Blob, Memory};
 /// The most bytes of a payload.
 const MOST_BYTES: usize = 65_536;
 
-/// The 1 to 65,536 bytes that hex digits of either case stand for. None exactly where the word stands for none.
+/// The 1 to 65,536 bytes that hex digits of either case stand for. None exactly if the word stands for none.
 pub fn payload(alloc: Global, hex: &[u8]) -> Result<Option<Blob>, Memory>
     ensures { IfOk result (λ bytes. bytes ≡ payload_of hex.now) }
 {
@@ -56,7 +56,7 @@ fn long_payload(alloc: Global, hex: &[u8]) -> Result<Option<Blob>, Memory>
     Ok(Some(Blob::shared(alloc, bytes)?))
 }
 
-/// What a file holds: a payload, or no bytes where the word is `-`. None exactly where it is neither.
+/// What a file holds: a payload, or no bytes if the word is `-`. None exactly if it is neither.
 pub fn contents(alloc: Global, hex: &[u8]) -> Result<Option<Blob>, Memory>
     ensures { IfOk result (λ bytes. bytes ≡ contents_of hex.now) }
 {
@@ -66,7 +66,7 @@ pub fn contents(alloc: Global, hex: &[u8]) -> Result<Option<Blob>, Memory>
     payload(alloc, hex)
 }
 
-/// The byte that two hex digits stand for. None exactly where the word isn't two hex digits.
+/// The byte that two hex digits stand for. None exactly if the word isn't two hex digits.
 pub fn byte(hex: &[u8]) -> Option<u8>
     ensures { result ≡ byte_of hex.now }
 {

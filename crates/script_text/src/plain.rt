@@ -43,7 +43,7 @@ fn lowest(text: &[u8], at: usize) -> u8x32
     least(front, back)
 }
 
-/// Thirty-two bytes from a place on, each as a number above 128 exactly where it is ASCII and no line feed.
+/// Thirty-two bytes from a place on, each as a number above 128 exactly if it is ASCII and no line feed.
 #[inline(always)]
 fn marked(text: &[u8], at: usize) -> u8x32
     requires { at + 32 ≤ length text.now }

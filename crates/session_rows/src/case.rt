@@ -12,7 +12,7 @@ pub struct Case {
     pub script: Vec<u8>,
     /// The text of a schedule.
     pub schedule: Vec<u8>,
-    /// The readings of the clock, in milliseconds; none where it goes on by the schedule's tick.
+    /// The readings of the clock, in milliseconds; none if it goes on by the schedule's tick.
     pub clock: Vec<u32>,
     /// The calls of the source that fail, counted from 1.
     pub reads: Vec<u32>,
@@ -81,7 +81,7 @@ fn add_pieces(
     Ok(())
 }
 
-/// Takes what a line adds to the description; false where it adds nothing.
+/// Takes what a line adds to the description; false if it adds nothing.
 pub fn takes(alloc: Global, case: &mut Case, word: &str, rest: &str) -> Result<bool, AllocError> {
     match word {
         "words" => case.words = words_of(alloc, rest)?,

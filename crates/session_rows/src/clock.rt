@@ -11,7 +11,7 @@ pub struct GivenClock<'a> {
 }
 
 impl<'a> GivenClock<'a> {
-    /// A clock that gives 0 where there are no readings.
+    /// A clock that gives 0 if there are no readings.
     pub fn new(readings: &'a [u32]) -> GivenClock<'a> {
         GivenClock {
             left: readings,

@@ -41,7 +41,7 @@ IfLost (Ok v) F = Unit {0}
 IfLost (Err stops.Lost) F = F
 IfLost (Err stops.Memory) F = Unit {0}
 
--- Connecting sends and brings nothing. Where the session is lost the history shows why.
+-- Connecting sends and brings nothing. If the session is lost the history shows why.
 pub record Connects (result : Result (Unit {0}) Stop) (h k : List Entry) : Type 0 where
   pub more : List Entry
   pub is : k ≡ h ++ more
@@ -147,7 +147,7 @@ pub record IsLostCall (origin : Origin) (x : ℕ) (c : Held (Unit {0})) (h : Lis
   pub unanswered : (g : ℕ) (reply : List ℕ) → Answers h g x reply → ⊥
   pub was_sent : WasSent h x (length h)
 
--- ---- what each function leads to, where the call is due before
+-- ---- what each function leads to, if the call is due before
 
 -- making the calls goes on so
 pub record KeepsCalls (old new : Held (Unit {0})) : Type 0 where

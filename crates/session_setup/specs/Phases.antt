@@ -42,7 +42,7 @@ pub record IsLostBy (origin : Origin) (tally : Tally) (c : Held (Unit {0})) (h :
   pub loses : Loses h (length h)
   pub counts : tally ≡ tally_of h
 
--- the numbers where so many calls of FSINFO were made, and no others of NFS
+-- the numbers if so many calls of FSINFO were made, and no others of NFS
 abbrev pub tally_after : ℕ → Tally
 tally_after calls = record { calls = calls; getattr = 0; lookup = 0; read = 0; write = 0; commit = 0 }
 

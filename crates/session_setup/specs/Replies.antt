@@ -88,7 +88,7 @@ InformedBy results (Err fault) = ⊥
 
 -- ---- the sizes
 
--- by what the server names; where it names nothing, as if it named 0
+-- by what the server names; if it names nothing, as if it named 0
 abbrev pub SizedBy : ℕ → ℕ → Result Greatest Fault → Sizes → Type 0
 SizedBy rsize wsize (Ok g) v = (v.rsize ≡ whole_pages (lesser_size rsize g.rtmax)) × (v.wsize ≡ lesser_size wsize g.wtmax)
 SizedBy rsize wsize (Err fault) v = (v.rsize ≡ min rsize 4096) × (v.wsize ≡ min wsize 4096)

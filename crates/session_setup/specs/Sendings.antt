@@ -13,7 +13,7 @@ use Rattle.world_model.specs.Messages.{HasXid, SpellsCall, SpellsCallBy}
 use Rattle.world_model.specs.Mounts.{Origin, Mounting, Given, Rooted, mount_call, info_call}
 use Rattle.world_model.specs.Waiting.{Answers}
 
--- MNT is the first call, where there is one, and FSINFO the next.
+-- MNT is the first call, if there is one, and FSINFO the next.
 abbrev pub info_xid : Origin → ℕ → ℕ
 info_xid (Mounting path) first = first + 1
 info_xid (Given root) first = first
@@ -49,7 +49,7 @@ times_sent xid (e ∷ es) = (if is_number xid (xid_sent e) then 1 else 0) + time
 abbrev pub most_attempts : ℕ
 most_attempts = 4
 
--- Each record that was sent is such a call, its xid from the first on and below the next. Records of one xid are equal, none is sent
+-- Each record that was sent is such a call, its xid from the first on and below the next. Records of one xid are equal. None is sent
 -- after a reply under its xid came while it waited, and none is sent more than four times.
 pub record SentSo (origin : Origin) (cred : Cred) (first next : ℕ) (h : List Entry) : Type 0 where
   pub caused : (i : ℕ) (bytes : List ℕ) → At h i (Sent bytes) → IsSetUpRecord origin cred first h i bytes

@@ -27,7 +27,7 @@ use xdr_codec::Blob;
 pub struct SetUp {
     /// The file handle of the export's root.
     pub root: Handle,
-    /// The most bytes of a READ: whole pages, where it is more than one.
+    /// The most bytes of a READ: whole pages, if it is more than one.
     pub rsize: u32,
     /// The most bytes of a WRITE.
     pub wsize: u32,
@@ -50,10 +50,12 @@ pub enum SetUpFault {
     Memory,
 }
 
-/// Sets up a session whose calls have xids from this one on: connects to the port of MOUNT and mounts the export, unless its root is
-/// given; then connects to the port of NFS and asks for the server's sizes. A call that isn't answered is sent again under its xid, after
-/// a failure of the link over a new connection. The session is lost after four attempts of a call, four failed connects in a row, or
-/// 65,536 records in a row that answer no call.
+/// Sets up a session whose calls have xids from this one on. It connects to the port of MOUNT and mounts the export, unless its root is
+/// given. Then it connects to the port of NFS and asks for the server's sizes. A call that isn't answered is sent again under its xid,
+/// after a failure of the link over a new connection. The session is lost after
+/// - four attempts of a call;
+/// - four failed connects in a row;
+/// - 65,536 records in a row that answer no call.
 pub fn set_up<L: Link>(
     alloc: Global,
     settings: &Settings,
@@ -177,7 +179,7 @@ fn fault_after(stop: Stop, calls: u32) -> SetUpFault
     }
 }
 
-/// The calls of NFS that were made, where so many of FSINFO were.
+/// The calls of NFS that were made, if so many of FSINFO were.
 fn tally_after(calls: u32) -> Tally
     ensures { result ≡ tally_after calls }
 {

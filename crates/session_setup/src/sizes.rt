@@ -49,7 +49,7 @@ pub(crate) fn sizes_by(rsize: u32, wsize: u32, named: Result<Greatest, Fault>) -
     }
 }
 
-/// The lesser of the size that is wanted and the server's greatest; where that is 0, of the size and a page.
+/// The lesser of the size that is wanted and the server's greatest; if that is 0, of the size and a page.
 fn lesser(wanted: u32, greatest: u32) -> u32
     ensures { result ≡ lesser_size wanted greatest }
 {

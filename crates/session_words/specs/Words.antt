@@ -15,7 +15,7 @@ use Rattle.session_words.specs.declared.settings.Export.TheVariants as exports
 use Rattle.session_words.specs.declared.settings.Settings.{Settings}
 use Rattle.session_words.specs.Command.{client_app}
 
--- what is found is such, and where none is found nothing is
+-- what is found is such, and if none is found nothing is
 abbrev pub FindsOne : {A : Type 0} → (A → Type 0) → Option A → Type 0
 FindsOne {A = A} Is found = MatchOption found ((x : A) → ¬ Is x) Is
 
@@ -30,7 +30,7 @@ pub record IsNumberIn (low high : ℕ) (digits : Text) (number : ℕ) : Type 0 w
   pub least : low ≤ number
   pub most : number ≤ high
 
--- a number of the range where a text is given, and else the number without it
+-- a number of the range if a text is given, and else the number without it
 abbrev pub IsNumberOr : ℕ → ℕ → ℕ → Option Text → ℕ → Type 0
 IsNumberOr without low high None number = number ≡ without
 IsNumberOr without low high (Some digits) number = IsNumberIn low high digits number
@@ -39,19 +39,19 @@ IsNumberOr without low high (Some digits) number = IsNumberIn low high digits nu
 abbrev pub IsPort : ℕ → Option Text → ℕ → Type 0
 IsPort without = IsNumberOr without 1 65535
 
--- a user or group is 0 to 4,294,967,295, and 65,534 where none is given
+-- a user or group is 0 to 4,294,967,295, and 65,534 if none is given
 abbrev pub IsId : Option Text → ℕ → Type 0
 IsId = IsNumberOr 65534 0 4294967295
 
--- the most bytes of a READ or WRITE are 512 to 65,536, and 65,536 where none are given
+-- the most bytes of a READ or WRITE are 512 to 65,536, and 65,536 if none are given
 abbrev pub IsSize : Option Text → ℕ → Type 0
 IsSize = IsNumberOr 65536 512 65536
 
--- the most calls are 2 to 2,147,483,647, and 1,000,000 where none are given
+-- the most calls are 2 to 2,147,483,647, and 1,000,000 if none are given
 abbrev pub IsCalls : Option Text → ℕ → Type 0
 IsCalls = IsNumberOr 1000000 2 2147483647
 
--- the first xid is 1 to 2,147,483,648, and none where none is given
+-- the first xid is 1 to 2,147,483,648, and none if none is given
 abbrev pub IsXid : Option Text → Option ℕ → Type 0
 IsXid None xid = xid ≡ None
 IsXid (Some digits) None = ⊥
@@ -88,7 +88,7 @@ IsExport (Some path) None export = IsPath path × (export ≡ exports.Path path)
 IsExport None (Some hex) (exports.Root root) = IsRootWord hex root
 IsExport _ _ _ = ⊥
 
--- a flag is set exactly where it stands among the words: `clap` then gives it the text `true`, and else `false`
+-- a flag is set exactly if it stands among the words: `clap` then gives it the text `true`, and else `false`
 abbrev pub IsFlag : Option Text → Bool → Type 0
 IsFlag text flag = IsTrue flag ↔ (text ≡ Some (codes "true"))
 
@@ -102,7 +102,7 @@ pub record IsActimeo (digits : Text) (lives : Lives) : Type 0 where
   pub given : IsNumberIn 0 3600 digits seconds
   pub are : lives ≡ lives_of seconds
 
--- How long attributes are believed: not at all with `--noac` (nfs(5), noac), else by `--actimeo`, and as usual where neither is given. The two don't go
+-- How long attributes are believed: not at all with `--noac` (nfs(5), noac), else by `--actimeo`, and as usual if neither is given. The two don't go
 -- together.
 abbrev pub IsLives : Bool → Option Text → Lives → Type 0
 IsLives true None lives = lives ≡ lives_of 0

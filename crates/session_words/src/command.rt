@@ -9,7 +9,7 @@ use clap::error::ErrorKind;
 use clap::{Arg, ArgAction, ArgMatches, Command};
 use std::alloc::{AllocError, Global};
 
-/// The matches of the words. Refused exactly where `clap` faults them, unless memory runs out.
+/// The matches of the words. Refused exactly if `clap` faults them, unless memory runs out.
 pub(crate) fn match_words<'a>(
     alloc: Global,
     words: &'a [String],

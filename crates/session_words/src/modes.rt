@@ -12,7 +12,7 @@ use clap::ArgMatches;
 /// The most seconds of `--actimeo`.
 const MAX_SECONDS: u32 = 3_600;
 
-/// For how long attributes are believed. None exactly where the words give another text, or any beside `noac`.
+/// For how long attributes are believed. None exactly if the words give another text, or any beside `noac`.
 pub(crate) fn lives(matches: &ArgMatches<'_>, noac: bool) -> Option<Lives>
     ensures { FindsOne (IsLives noac (given_in matches.now (codes "actimeo"))) result }
 {
@@ -22,14 +22,14 @@ pub(crate) fn lives(matches: &ArgMatches<'_>, noac: bool) -> Option<Lives>
     }
 }
 
-/// For how long attributes are believed where the words give no time.
+/// For how long attributes are believed if the words give no time.
 fn lives_without(noac: bool) -> Lives
     ensures { IsLives noac None result }
 {
     if noac { lives_of(0) } else { usual_lives() }
 }
 
-/// For how long attributes are believed where the words give this text. None exactly where it isn't of the form, or
+/// For how long attributes are believed if the words give this text. None exactly if it isn't of the form, or
 /// stands beside `noac`.
 fn lives_by(digits: &str, noac: bool) -> Option<Lives>
     ensures { FindsOne (IsLives noac (Some digits.now)) result }

@@ -5,7 +5,7 @@ ghost use Rattle.std.specs.List.{list_all};
 ghost use Rattle.std.specs.Char.{is_ascii_digit};
 ghost use Rattle.session_words.specs.Words.{FindsOne, SpellsNumber, IsNumberIn};
 
-/// The number that the digits spell. None exactly where they spell none from `least` to `most`.
+/// The number that the digits spell. None exactly if they spell none from `least` to `most`.
 pub(crate) fn number_in(digits: &str, least: u32, most: u32) -> Option<u32>
     ensures { FindsOne (IsNumberIn least most digits.now) result }
 {
@@ -16,7 +16,7 @@ pub(crate) fn number_in(digits: &str, least: u32, most: u32) -> Option<u32>
     Some(number)
 }
 
-/// A number of one decimal digit or more. None exactly where the text spells no number below 2^32.
+/// A number of one decimal digit or more. None exactly if the text spells no number below 2^32.
 fn number(digits: &str) -> Option<u32>
     ensures { MatchOption result ((n : ℕ) → n < 2 ^ 32 → ¬ SpellsNumber n digits.now) (λ n. SpellsNumber n digits.now) }
 {

@@ -16,7 +16,7 @@ use xdr_codec::Blob;
 /// The most bytes of an export's path.
 const MAX_PATH: usize = 1_024;
 
-/// The user and the group where the words give none.
+/// The user and the group if the words give none.
 const NOBODY: u32 = 65_534;
 
 /// The fewest and the most bytes that a READ or a WRITE may be bounded by.
@@ -31,7 +31,7 @@ pub(crate) fn given<'a>(matches: &ArgMatches<'a>, name: &str) -> Option<&'a str>
     matches.get_str(name)
 }
 
-/// A number from `least` to `most`, and `without` where the words give none. None exactly where they give another text.
+/// A number from `least` to `most`, and `without` if the words give none. None exactly if they give another text.
 fn number_or(
     matches: &ArgMatches<'_>,
     name: &str,
@@ -47,7 +47,7 @@ fn number_or(
     }
 }
 
-/// A port, and `without` where the words give none. None exactly where they give another text.
+/// A port, and `without` if the words give none. None exactly if they give another text.
 pub(crate) fn port(matches: &ArgMatches<'_>, name: &str, without: u16) -> Option<u16>
     ensures { FindsOne (IsPort without (given_in matches.now name.now)) result }
 {
@@ -55,28 +55,28 @@ pub(crate) fn port(matches: &ArgMatches<'_>, name: &str, without: u16) -> Option
     Some(port as u16)
 }
 
-/// The number of a user or group. None exactly where the words give another text.
+/// The number of a user or group. None exactly if the words give another text.
 fn id(matches: &ArgMatches<'_>, name: &str) -> Option<u32>
     ensures { FindsOne (IsId (given_in matches.now name.now)) result }
 {
     number_or(matches, name, NOBODY, 0, u32::MAX)
 }
 
-/// The most bytes of a READ or WRITE. None exactly where the words give another text.
+/// The most bytes of a READ or WRITE. None exactly if the words give another text.
 pub(crate) fn size(matches: &ArgMatches<'_>, name: &str) -> Option<u32>
     ensures { FindsOne (IsSize (given_in matches.now name.now)) result }
 {
     number_or(matches, name, MAX_SIZE, MIN_SIZE, MAX_SIZE)
 }
 
-/// The most calls. None exactly where the words give another text.
+/// The most calls. None exactly if the words give another text.
 pub(crate) fn calls(matches: &ArgMatches<'_>) -> Option<u32>
     ensures { FindsOne (IsCalls (given_in matches.now (codes "calls"))) result }
 {
     number_or(matches, "calls", 1_000_000, 2, 2_147_483_647)
 }
 
-/// The first xid, if the words give one. None exactly where they give another text.
+/// The first xid, if the words give one. None exactly if they give another text.
 pub(crate) fn xid(matches: &ArgMatches<'_>) -> Option<Option<u32>>
     ensures { FindsOne (IsXid (given_in matches.now (codes "xid"))) result }
 {
@@ -96,7 +96,7 @@ pub(crate) fn flag(matches: &ArgMatches<'_>, name: &str) -> bool
     }
 }
 
-/// As whom calls are made. None exactly where the words name nobody.
+/// As whom calls are made. None exactly if the words name nobody.
 pub(crate) fn cred(matches: &ArgMatches<'_>) -> Option<Cred>
     ensures { FindsOne (GivesCred (rows_in matches.now)) result }
 {
@@ -120,7 +120,7 @@ fn machine() -> Option<Name>
     Name::make(b"nfs3")
 }
 
-/// What the client works on. Refused exactly where the words give no path or root, or both, unless memory runs out.
+/// What the client works on. Refused exactly if the words give no path or root, or both, unless memory runs out.
 pub(crate) fn export(alloc: Global, matches: &ArgMatches<'_>) -> Result<Export, WordsFault>
     ensures found { IfOk result (IsExport (given_in matches.now (codes "export")) (given_in matches.now (codes "root"))) }
     ensures refused { result ≡ Err WordsFault.Refused
@@ -138,7 +138,7 @@ pub(crate) fn export(alloc: Global, matches: &ArgMatches<'_>) -> Result<Export, 
     }
 }
 
-/// The export of a path. Refused exactly where it is empty or has more than 1,024 bytes, unless memory runs out.
+/// The export of a path. Refused exactly if it is empty or has more than 1,024 bytes, unless memory runs out.
 fn path(alloc: Global, path: &str) -> Result<Export, WordsFault>
     ensures found { IfOk result (λ e. IsPath path.now × (e ≡ exports.Path path.now)) }
     ensures refused { result ≡ Err WordsFault.Refused → ¬ IsPath path.now }
@@ -152,7 +152,7 @@ fn path(alloc: Global, path: &str) -> Result<Export, WordsFault>
     }
 }
 
-/// The root of a handle in hex digits. Refused exactly where they don't spell 1 to 64 bytes.
+/// The root of a handle in hex digits. Refused exactly if they don't spell 1 to 64 bytes.
 fn root(hex: &str) -> Result<Export, WordsFault>
     ensures found { IfOk result (IsExport None (Some hex.now)) }
     ensures refused { result ≡ Err WordsFault.Refused → (e : Exported) → ¬ IsExport None (Some hex.now) e }
@@ -163,7 +163,7 @@ fn root(hex: &str) -> Result<Export, WordsFault>
     }
 }
 
-/// The handle in hex digits. None exactly where they don't spell 1 to 64 bytes.
+/// The handle in hex digits. None exactly if they don't spell 1 to 64 bytes.
 #[tactic(auto, using(crate::proofs::Roots::digits_of_root))]
 fn handle(hex: &[u8]) -> Option<Handle>
     ensures { FindsOne (IsRootWord hex.now) result }

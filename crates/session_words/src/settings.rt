@@ -31,7 +31,7 @@ pub struct Settings {
     pub wsize: u32,
     /// The most calls that are made.
     pub calls: u32,
-    /// The first xid. Where it is None the caller takes one from a clock.
+    /// The first xid. If it is None the caller takes one from a clock.
     pub xid: Option<u32>,
     /// For how long attributes are believed.
     pub lives: Lives,

@@ -12,7 +12,7 @@ use clap::ArgMatches;
 use std::alloc::Global;
 
 /// The settings that the words of a command line ask for, of which the first is the program's name. Refused exactly
-/// where the words aren't of the form, unless memory runs out; where they are, no other settings are theirs.
+/// if the words aren't of the form, unless memory runs out; if they are, no other settings are theirs.
 pub fn read_words(alloc: Global, words: &[String]) -> Result<Settings, WordsFault>
     ensures found { IfOk result (IsCommand (map string_bytes words.now)) }
     ensures refused { result ≡ Err WordsFault.Refused → (s : Setting) → ¬ IsCommand (map string_bytes words.now) s }
@@ -24,7 +24,7 @@ pub fn read_words(alloc: Global, words: &[String]) -> Result<Settings, WordsFaul
     }
 }
 
-/// The settings that the matches give. Refused exactly where they give none, unless memory runs out.
+/// The settings that the matches give. Refused exactly if they give none, unless memory runs out.
 fn settings_in(alloc: Global, matches: &ArgMatches<'_>) -> Result<Settings, WordsFault>
     ensures found { IfOk result (GivesSettings (rows_in matches.now)) }
     ensures refused { result ≡ Err WordsFault.Refused → (s : Setting) → ¬ GivesSettings (rows_in matches.now) s }
@@ -38,7 +38,7 @@ fn settings_in(alloc: Global, matches: &ArgMatches<'_>) -> Result<Settings, Word
     }
 }
 
-/// The settings that the matches give, of what the client works on. None exactly where they give none.
+/// The settings that the matches give, of what the client works on. None exactly if they give none.
 fn settings_of(matches: &ArgMatches<'_>, export: Export) -> Option<Settings>
     requires { IsExport (given_in matches.now (codes "export")) (given_in matches.now (codes "root")) export }
     ensures { FindsOne (GivesSettings (rows_in matches.now)) result }

@@ -50,7 +50,7 @@ impl Silly {
         Ok(())
     }
 
-    /// At the last close of a file: the directory and the name that are to be removed. None exactly where nothing is
+    /// At the last close of a file: the directory and the name that are to be removed. None exactly if nothing is
     /// kept of the file. From then on nothing is.
     pub fn on_last_close(&mut self, file: &Handle) -> Option<(Handle, Name)>
         ensures told { result ≡ map.get self.old file.now }

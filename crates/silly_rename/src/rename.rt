@@ -6,7 +6,7 @@ ghost use Rattle.silly_rename.specs.Plans.{plan_of, silly_name};
 use crate::removal::Plan;
 use nfs_types::Name;
 
-/// The plan for a file: Direct where this client doesn't hold it open, and else a renaming to `.nfs` and the counter
+/// The plan for a file: Direct if this client doesn't hold it open, and else a renaming to `.nfs` and the counter
 /// as eight hex digits in lower case. It takes no memory.
 pub fn plan(is_open: bool, counter: u32) -> Plan
     ensures { result ≡ plan_of is_open counter }

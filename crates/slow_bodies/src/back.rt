@@ -99,8 +99,8 @@ impl SlowBack {
         first
     }
 
-    /// Puts a piece in flight: from the lowest offset of a segment that may go, through segments that touch it, may go
-    /// and are to be sent alike, until it has `wsize` bytes.
+    /// Puts a piece in flight. It begins at the lowest offset of a segment that may go. It goes on through segments that
+    /// touch it, may go and are to be sent alike, until it has `wsize` bytes.
     pub fn next_to_send(
         &mut self,
         file: &Handle,

@@ -14,7 +14,7 @@ impl Made {
         Made { state: seed }
     }
 
-    /// The next number below a bound, or 0 where the bound is 0.
+    /// The next number below a bound, or 0 if the bound is 0.
     pub fn below(&mut self, bound: u64) -> u64
         ensures { 0 < bound → result < bound }
     {
@@ -26,7 +26,7 @@ impl Made {
     }
 }
 
-/// A number below a bound, or 0 where the bound is 0.
+/// A number below a bound, or 0 if the bound is 0.
 fn below(number: u64, bound: u64) -> u64
     ensures { 0 < bound → result < bound }
 {

@@ -58,7 +58,7 @@ fn by_one(alike: bool) -> Told {
     if alike { Told::Alike } else { Told::Differ }
 }
 
-/// Makes the comparison that a line asks for. None where it asks for none.
+/// Makes the comparison that a line asks for. None if it asks for none.
 fn compare(alloc: Global, word: &str, rest: &str) -> Result<Option<Told>, Fault> {
     let [first, last, count, room] = numbers(rest);
     Ok(match word {

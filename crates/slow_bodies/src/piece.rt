@@ -10,7 +10,7 @@ pub struct OwnPiece {
     pub offset: u64,
     /// The bytes.
     pub bytes: Vec<u8>,
-    /// 2 where the server has to make them stable at once, else 0.
+    /// 2 if the server has to make them stable at once, else 0.
     pub how: u32,
 }
 

@@ -99,7 +99,7 @@ impl Segment {
     }
 }
 
-/// Puts what a segment has between two places at the end of a list, with that fate; nothing where it has no byte there.
+/// Puts what a segment has between two places at the end of a list, with that fate; nothing if it has no byte there.
 pub(crate) fn push_part(
     alloc: Global,
     list: &mut Vec<Segment>,

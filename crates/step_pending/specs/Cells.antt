@@ -46,8 +46,7 @@ pub record Shows (pending : Pending) (c : View) : Type 0 where
   pub rest : (i : Spot) → IsRest (rest_at (of_file i.file pending) i.at) (c.rest i)
   pub fly : (i : Spot) → c.fly i ≡ option_map flight_of (fly_at (of_file i.file pending) i.at)
 
--- After a call there are pending bytes and bytes in flight, by place, such that each view that has them shows what is pending, and this is the step
--- to it.
+-- After a call there are pending bytes and bytes in flight, by place. Each view that has them shows what is pending, and this is the step to it.
 pub record Leads (new : Pending) (Step : View → View → Type 0) (c : View) : Type 0 where
   pub rest : Spot → Option Cell
   pub fly : Spot → Option Flight

@@ -1,7 +1,7 @@
 //! What each call of `write_back` makes of the places of files, in the words of the law of written bytes: it is one step of the machine of
 //! `model_writes`, and leaves what is pending sound. Nothing here runs: each function has an empty body, and its contract is the theorem.
 //!
-//! A view shows what is pending (`Shows`) where it has, of each place, the same byte with the same number, and a mark that fits its state.
+//! A view shows what is pending (`Shows`) if it has, of each place, the same byte with the same number. Its mark fits the byte's state.
 #![tactic(auto)]
 
 ghost use Rattle.std.specs.Prelude.{◌≡◌, ◌+◌, ◌-◌, ◌<◌, ◌≤◌, ◌^◌, ℕ, List, [], ◌∷◌, length, Some, None};
@@ -55,7 +55,7 @@ pub fn a_write_is_acked()
         → Leads new (PlacesAfter xid (write file piece.offset piece.bytes how) (wrote 0 count committed verf.0)) c }
 {}
 
-/// A WRITE that came to nothing, by any reply: each byte of its piece is to be sent again, where no newer one lies over it.
+/// A WRITE that came to nothing, by any reply: each byte of its piece is to be sent again, if no newer one lies over it.
 pub fn a_write_returns()
     ensures sound { (old new : Pending) (file : File) (xid : ℕ) → EachSound old
         → OnFile old new file (at_xid (landed by.Return) xid (of_file file old)) → EachSound new }
@@ -83,8 +83,10 @@ pub fn a_write_is_renumbered()
         → OnFile old new file (with_xid xid to (of_file file old)) → (c : View) → Shows old c → Leads new (Renames xid to) c }
 {}
 
-/// A reply of success to a COMMIT is heard at each place of its file: what was acknowledged under its verifier goes, what was under another one
-/// is to be sent again, and what wasn't acknowledged, or came in later, stays.
+/// A reply of success to a COMMIT is heard at each place of its file:
+/// - what was acknowledged under its verifier goes;
+/// - what was acknowledged under another one is to be sent again;
+/// - what wasn't acknowledged, or came in later, stays.
 pub fn a_commit_is_heard()
     ensures sound { (old new : Pending) (file : File) (upto : ℕ) (verf : Verf) → EachSound old
         → OnFile old new file (decided upto verf (of_file file old)) → EachSound new }
@@ -116,8 +118,7 @@ pub fn numbers_are_below()
         → c.fly i ≡ Some f → f.number < number }
 {}
 
-/// What is in flight at a place under an xid is the byte that the piece under that xid has there, and each place of a piece has its byte in
-/// flight.
+/// What is in flight at a place under an xid is the byte that the piece under that xid has there. Each place of a piece has its byte in flight.
 pub fn flights_are_pieces()
     ensures piece { (pending : Pending) → EachSound pending → (c : View) → Shows pending c → (i : Spot) (f : Flight) → c.fly i ≡ Some f
         → IsPieceOf pending i f }

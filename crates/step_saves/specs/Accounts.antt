@@ -12,8 +12,8 @@ use Rattle.write_back.specs.Files.{Pending, of_file}
 use Rattle.write_back.specs.Pieces.{Sent, FilePending, Flown, rest_at, fly_at, piece_under}
 use Rattle.write_back.specs.Segments.{covers}
 
--- The byte at a place that came with a write's number waits to be sent, is in flight, is held by the server under a write verifier of which Wrote holds,
--- or is pending no more and Done holds.
+-- The byte at a place that came with a write's number is in one of these states: it waits to be sent; it is in flight; the server holds it under a write
+-- verifier of which Wrote holds; or it is pending no more and Done holds.
 pub data Account (place byte number : ℕ) (Wrote : List ℕ → Type 0) (Done : Type 0) (of : FilePending) : Type 0 where
   it_waits : (ready : Ready) → rest_at of place ≡ Some (record { byte = byte; number = number; state = Waiting ready }) → Account place byte number Wrote Done of
   it_flies : (flown : Flown) → fly_at of place ≡ Some flown → flown.byte ≡ byte → flown.number ≡ number → rest_at of place ≡ None

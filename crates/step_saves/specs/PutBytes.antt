@@ -27,7 +27,7 @@ module _ (offset : ℕ) (bytes : List ℕ) (Wrote : List ℕ → ℕ → List �
   PutAt (putting.Adds file) back = ⊥
   PutAt (putting.Saves saving) back = PutSaves saving back
 
-  -- it ends well only where each of its bytes left what is pending of its file for a reason
+  -- it ends well only if each of its bytes left what is pending of its file for a reason
   abbrev pub PutLeaves : Step → Putting → Pending → Type 0
   PutLeaves (Send call) state back = PutAt state back
   PutLeaves Wait state back = PutAt state back

@@ -1,4 +1,4 @@
--- What holds of a save under way and of what is pending of its file, and what it leaves where it ends (RFC 1813, sections 3.3.7, 3.3.21 and 4.8).
+-- What holds of a save under way and of what is pending of its file (RFC 1813, sections 3.3.7, 3.3.21 and 4.8). What a save leaves when it ends.
 use Rattle.std.specs.Prelude.{◌≡◌, ◌<◌, ◌≤◌, ℕ, true, List, [], ◌∷◌, length, Option, Some, None, IsSome, ⊤}
 use Rattle.world_model.specs.declared.answer.Answer.TheVariants as answers
 use Rattle.world_model.specs.declared.answer.Fault.{Fault}
@@ -82,6 +82,6 @@ Leaves Wait s new after = GoesOn s new after
 Leaves (Done (answers.Done value)) s new after = IsSaved s after
 Leaves (Done (answers.Refused fault)) s new after = HasNoPiece s.file after
 
--- what came is that of a WRITE in flight, where it was one
+-- what came is that of a WRITE in flight, if it was one
 abbrev pub IsAwaited : Saving → ℕ → Pending → Type 0
 IsAwaited s xid back = is_sending s.phase ≡ true → IsSome (piece_under xid (of_file s.file back).pieces)

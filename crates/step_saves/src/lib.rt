@@ -1,5 +1,5 @@
-//! What a save leaves: a sync, close or put whose save ends well has nothing pending of its file up to its number, whatever its replies were and
-//! whenever the server restarted. Nothing here runs: each function has an empty body, and its contract is the theorem.
+//! What a save leaves. If the save of a sync, close or put ends well, nothing is pending of its file up to its number. That is so whatever its
+//! replies were and whenever the server restarted. Nothing here runs: each function has an empty body, and its contract is the theorem.
 #![tactic(auto)]
 
 ghost use Rattle.std.specs.Prelude.{◌≡◌, ◌<◌, ◌≤◌, ◌-◌, ℕ, Bool, true, List, Result, length, slice_index};
@@ -33,7 +33,7 @@ pub fn a_save_goes_on()
         → 1 ≤ wsize → EachSound back → IsUnderWay s back → Goes wsize turn.xid turn.room by_reply s back next new after → Leaves (sync_next next) s new after }
 {}
 
-/// So does a step with what came of its call: any reply to a WRITE or a COMMIT of its own, or that the call failed. It ends well only where
+/// So does a step with what came of its call: any reply to a WRITE or a COMMIT of its own, or that the call failed. It ends well only if
 /// nothing of its file up to its number is pending.
 pub fn a_save_takes_what_came()
     ensures sound { (wsize : ℕ) (sent turn : Turn) (came : Result Reply Fault) (repeats : List Repeat) (s : Saving) (back : Pending) (next : _)
@@ -56,16 +56,19 @@ pub fn a_saved_file_is_clear()
     ensures { (file : File) (upto : ℕ) (back : Pending) → IsClearUpTo upto (of_file file back) → (c : View) → Shows back c → Clear file upto c }
 {}
 
-/// A byte that was written is accounted for from then on: it waits, is in flight, is held by the server under a verifier that a reply to its WRITE
-/// gave, or is pending no more for a reason. It waits as it comes in.
+/// A byte that was written is accounted for from then on. It waits as it comes in. Accounted for means that
+/// - it waits, or is in flight; or
+/// - the server holds it under a verifier that a reply to its WRITE gave; or
+/// - it is pending no more for a reason.
 pub fn a_byte_comes_in()
     ensures { (file : List ℕ) (place byte number : ℕ) (wrote : List ℕ → Bool) (done : Bool) (offset : ℕ) (bytes : List ℕ) (old new : Pending)
         → EachSound old → OnFile old new file (with_bytes offset bytes number (of_file file old)) → covers offset (length bytes) place ≡ true
         → slice_index bytes (place - offset) ≡ byte → Account place byte number (Told wrote) (done ≡ true) (of_file file new) }
 {}
 
-/// Each step of any save keeps it accounted for. It leaves what is pending only by a reply to its own WRITE that says it is stable, or by one to a
-/// COMMIT under the verifier of its WRITE's reply.
+/// Each step of any save keeps it accounted for. It leaves what is pending only by one of these replies:
+/// - one to its own WRITE that says it is stable;
+/// - one to a COMMIT under the verifier of its WRITE's reply.
 pub fn a_save_accounts_for_it()
     ensures goes { (file : List ℕ) (place byte number : ℕ) (wrote : List ℕ → Bool) (done : Bool) (wsize : ℕ) (turn : Turn) (by_reply : Bool)
         (s : Saving) (back : Pending) (next : _) (new : Saving) (after : Pending) → EachSound back
@@ -92,7 +95,7 @@ pub fn others_account_for_it()
         → Account place byte number (Told wrote) (done ≡ true) (of_file file new) }
 {}
 
-/// Where nothing up to its number is pending any more, it left for a reason.
+/// If nothing up to its number is pending any more, it left for a reason.
 pub fn a_saved_byte_is_done()
     ensures { (file : List ℕ) (place byte number : ℕ) (wrote : List ℕ → Bool) (done : Bool) (upto : ℕ) (back : Pending)
         → IsClearUpTo upto (of_file file back) → number ≤ upto → Account place byte number (Told wrote) (done ≡ true) (of_file file back) → done ≡ true }

@@ -33,7 +33,7 @@ pub fn row(rt: &HostRuntime, alloc: Global, path: &str) -> io::Result<()> {
     fs::remove_file(rt, path)
 }
 
-/// Formats a disk and stores two pages; the disk, or None where that failed.
+/// Formats a disk and stores two pages; the disk, or None if that failed.
 pub fn filled<D: Disk + Drop>(rt: &HostRuntime, alloc: Global, disk: D) -> io::Result<Option<D>> {
     let mut disk = disk;
     show_done(rt, PageStore::format(alloc, &mut disk))?;

@@ -26,7 +26,7 @@ const LABEL: u32 = 1024 + 1 + 6;
 /// Calls of a second label at which it is stopped: the write of the slot's gate, all behind the last slot's, and one that isn't made.
 const WRITES: [u32; 10] = [7, 1026, 1027, 1028, 1029, 1030, 1031, 1032, 1033, 1034];
 
-/// Stops a store of the second text at each of its calls, over the first text where that isn't `-`.
+/// Stops a store of the second text at each of its calls, over the first text if that isn't `-`.
 pub fn row(rt: &HostRuntime, alloc: Global, rest: &str) -> io::Result<()> {
     let (old, new) = rest.split_once(' ').unwrap_or(("-", rest));
     let before = if old == "-" { BEFORE } else { BEFORE + FIRST };
@@ -77,7 +77,7 @@ pub fn relabel(rt: &HostRuntime, alloc: Global) -> io::Result<()> {
     Ok(())
 }
 
-/// The disk after a crash behind the call of that number, while a label was written; None where no call fails.
+/// The disk after a crash behind the call of that number, while a label was written; None if no call fails.
 fn stopped_label(alloc: Global, fails: u32) -> Option<MemDisk> {
     let mut pages = with_page(alloc, "-", fails)?;
     pages.set_label(&handle(1), b"old").ok()?;
@@ -90,7 +90,7 @@ fn stopped_label(alloc: Global, fails: u32) -> Option<MemDisk> {
     Some(disk)
 }
 
-/// The disk after a crash behind the call of that number; None where no call fails.
+/// The disk after a crash behind the call of that number; None if no call fails.
 fn stopped_round(alloc: Global, old: &str, new: &str, fails: u32) -> Option<MemDisk> {
     let mut pages = with_page(alloc, old, fails)?;
     if rewritten(&mut pages, new).is_ok() {
@@ -122,7 +122,7 @@ fn with_page(alloc: Global, old: &str, fails: u32) -> Option<PageStore<MemDisk>>
     Some(pages)
 }
 
-/// The disk after a crash behind the call of that number; None where no call fails.
+/// The disk after a crash behind the call of that number; None if no call fails.
 fn stopped(alloc: Global, old: &str, new: &str, fails: u32) -> Option<MemDisk> {
     let mut pages = with_page(alloc, old, fails)?;
     if store(&mut pages, SLOT, 1, 6, 0, new)?.is_ok() {

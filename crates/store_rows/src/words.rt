@@ -48,7 +48,7 @@ pub fn stamp(size: u64) -> Stamp {
     }
 }
 
-/// Stores a page; None where the slot or the text is beyond its bound.
+/// Stores a page; None if the slot or the text is beyond its bound.
 pub fn store<D: Disk + Drop>(
     store: &mut PageStore<D>,
     slot: u32,
@@ -73,7 +73,7 @@ pub fn slots(alloc: Global, text: &str) -> Result<Vec<u32>, Memory> {
     Ok(found)
 }
 
-/// Fills a slot of a round; None where the text is beyond its bound.
+/// Fills a slot of a round; None if the text is beyond its bound.
 pub fn fill<D: Disk + Drop>(
     store: &mut PageStore<D>,
     slot: u32,
@@ -89,7 +89,7 @@ pub fn fill<D: Disk + Drop>(
     Some(store.fill(slot, &handle(file), &stamp(size), index, bytes))
 }
 
-/// Puts a label: the number of the root's file, and a text. None where the text is beyond its bound.
+/// Puts a label: the number of the root's file, and a text. None if the text is beyond its bound.
 pub fn label<D: Disk + Drop>(
     store: &mut PageStore<D>,
     root: u64,

@@ -11,7 +11,7 @@ use Rattle.export_serve.specs.declared.request.Asked.{Asked}
 use Rattle.export_serve.specs.declared.request.Asked.TheVariants as askings
 use Rattle.trace_answers.specs.declared.calls.LastCall.{LastCall}
 
--- the call that a record is under the xid, where it is one, and no other
+-- the call that a record is under the xid, if it is one, and no other
 pub record IsCallOf (xid : ℕ) (rec : List ℕ) (call : Call) : Type 0 where
   pub spells : SpellsCall xid call rec
   pub only : (other : Call) → SpellsCall xid other rec → other ≡ call

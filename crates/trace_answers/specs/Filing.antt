@@ -122,7 +122,7 @@ given_by (dirs.Link f d name) reply = None
 given_by (dirs.ReadDir d cookie verf count) reply = None
 given_by (dirs.ReadDirPlus d cookie verf dircount maxcount) reply = None
 
--- the file that an open has after such a call: of LOOKUP and CREATE alone where it may go by what is kept
+-- the file that an open has after such a call: of LOOKUP and CREATE alone if it may go by what is kept
 abbrev pub file_in : Bool → Call → Option Reply → Option (List ℕ)
 file_in nocto (calls.File call) reply = asked_of call
 file_in nocto (calls.Dir call) reply = if nocto then given_by call reply else None
@@ -134,7 +134,7 @@ named_in (calls.File call) = named_of call
 named_in (calls.Dir call) = None
 named_in (calls.Mount call) = None
 
--- the file that an open has which is answered at the place y, where it has one, and no other
+-- the file that an open has which is answered at the place y, if it has one, and no other
 pub record IsFound (m : Modes) (h : List Entry) (y : ℕ) (f : List ℕ) : Type 0 where
   pub finds : Finds m h y f
   pub only : (other : List ℕ) → Finds m h y other → other ≡ f
@@ -148,7 +148,7 @@ pub record Names (h : List Entry) (y : ℕ) (f : List ℕ) : Type 0 where
   pub names : NamesFile f call
   pub asked : LastReply h y call
 
--- that file, where there is one, and no other
+-- that file, if there is one, and no other
 pub record IsNamed (h : List Entry) (y : ℕ) (f : List ℕ) : Type 0 where
   pub is : Names h y f
   pub only : (other : List ℕ) → Names h y other → other ≡ f

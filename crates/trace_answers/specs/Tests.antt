@@ -138,7 +138,7 @@ abbrev pub bytes_sent_there : Option Entry → List ℕ
 bytes_sent_there None = []
 bytes_sent_there (Some e) = bytes_sent e
 
--- the record that was sent at a place, and no bytes where none was
+-- the record that was sent at a place, and no bytes if none was
 unfoldable pub sent_bytes : List Entry → ℕ → List ℕ
 sent_bytes h i = bytes_sent_there (slice_get h i)
 
@@ -159,7 +159,7 @@ abbrev pub bytes_came_there : Option Entry → List ℕ
 bytes_came_there None = []
 bytes_came_there (Some e) = bytes_came e
 
--- the record that came at a place, and no bytes where none did
+-- the record that came at a place, and no bytes if none did
 unfoldable pub came_bytes : List Entry → ℕ → List ℕ
 came_bytes h i = bytes_came_there (slice_get h i)
 

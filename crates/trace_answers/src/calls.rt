@@ -23,7 +23,7 @@ pub struct LastCall {
 }
 
 /// The call of the last record that came before a place: the one that was first sent under its xid, before it. None exactly
-/// where no record came, where it has no xid, or where no call was sent so.
+/// if no record came, if it has no xid, or if no call was sent so.
 pub fn last_call(alloc: Global, entries: &[Entry], place: usize) -> Result<Option<LastCall>, Memory>
     requires { place ≤ length entries.now }
     ensures { IfOk result (λ found. MatchOption found (NoneCalled entries.now place) (LastCalled entries.now place)) }
@@ -79,7 +79,7 @@ fn sent_bytes(entries: &[Entry], place: usize) -> &[u8]
     }
 }
 
-/// The call that was first sent under the xid, if that was before a place. None exactly where none was, or where it is no call.
+/// The call that was first sent under the xid, if that was before a place. None exactly if none was, or if it is no call.
 pub fn call_before(
     alloc: Global,
     entries: &[Entry],

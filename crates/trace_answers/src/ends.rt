@@ -6,8 +6,8 @@ ghost use Rattle.trace_answers.specs.Tests.{IsFirst, NonePast, answers_at, began
 
 use world_model::Entry;
 
-/// Where the operation ends that began at a place: at the first answer of its lane and line past it. None exactly where it
-/// isn't answered, or where none began there.
+/// Where the operation ends that began at a place: at the first answer of its lane and line past it. None exactly if it
+/// isn't answered, or if none began there.
 pub fn end_of(entries: &[Entry], began: usize) -> Option<usize>
     ensures { MatchOption result (NeverEnds entries.now began) (EndsThere entries.now began) }
 {

@@ -15,8 +15,8 @@ use trace_calls::reply_to;
 use world_model::{Call, Entry, Reply};
 use xdr_codec::Memory;
 
-/// The file that an open has which succeeded at a place: the one whose attributes were asked for last; or, where an open may go
-/// by attributes that are kept, the one that the last LOOKUP or CREATE gave. None exactly where it has none.
+/// The file that an open has which succeeded at a place: the one whose attributes were asked for last; or, if an open may go
+/// by attributes that are kept, the one that the last LOOKUP or CREATE gave. None exactly if it has none.
 pub fn opened_file(
     alloc: Global,
     entries: &[Entry],
@@ -47,7 +47,7 @@ fn found_by(
     Ok(file_in(nocto, &last.call, &reply))
 }
 
-/// The file that a put wrote which succeeded at a place: the one that its last WRITE or COMMIT names. None exactly where the last
+/// The file that a put wrote which succeeded at a place: the one that its last WRITE or COMMIT names. None exactly if the last
 /// record that came isn't of such a call.
 pub fn put_file(alloc: Global, entries: &[Entry], place: usize) -> Result<Option<Handle>, Memory>
     requires { place ≤ length entries.now }

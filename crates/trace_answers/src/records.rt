@@ -8,7 +8,7 @@ ghost use Rattle.trace_answers.specs.Tests.{IsLeast, NoneBelow, brings_at, deliv
 use rpc_message::xid_of;
 use world_model::Entry;
 
-/// The place of the first record that was sent under the xid. None exactly where none was.
+/// The place of the first record that was sent under the xid. None exactly if none was.
 pub fn first_sent(entries: &[Entry], xid: u32) -> Option<usize>
     ensures { MatchOption result (NeverSent entries.now xid) (FirstSentAt entries.now xid) }
 {
@@ -47,7 +47,7 @@ pub fn waits(entries: &[Entry], xid: u32, place: usize) -> bool
     false
 }
 
-/// The place of the last record that came before a place. None exactly where none came.
+/// The place of the last record that came before a place. None exactly if none came.
 pub fn last_record(entries: &[Entry], place: usize) -> Option<usize>
     requires { place ≤ length entries.now }
     ensures { MatchOption result (NoRecord entries.now place) (IsLastRecord entries.now place) }

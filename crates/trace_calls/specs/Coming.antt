@@ -24,7 +24,7 @@ pub record IsResultOf (call : Call) (results : List ℕ) (reply : Reply) : Type 
   pub writable : HasSpellingReply reply
   pub only : (other : Reply) → SpellsResults call other results → other ≡ reply
 
--- the reply to the call that the results are, where they are one
+-- the reply to the call that the results are, if they are one
 abbrev pub FindsResult : Call → List ℕ → Option Reply → Type 0
 FindsResult call results found = MatchOption found ((reply : Reply) → SpellsResults call reply results → ⊥) (IsResultOf call results)
 
@@ -34,7 +34,7 @@ pub record IsReplyTo (xid : ℕ) (call : Call) (rec : List ℕ) (reply : Reply) 
   pub writable : HasSpellingReply reply
   pub only : (other : Reply) → SpellsReply xid call other rec → other ≡ reply
 
--- the reply to the call that the record is, where it is one
+-- the reply to the call that the record is, if it is one
 abbrev pub FindsReplyTo : ℕ → Call → List ℕ → Option Reply → Type 0
 FindsReplyTo xid call rec found = MatchOption found ((reply : Reply) → SpellsReply xid call reply rec → ⊥) (IsReplyTo xid call rec)
 

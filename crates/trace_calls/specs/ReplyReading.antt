@@ -36,12 +36,12 @@ abbrev pub mount_read : Result MountReply XdrFault → Option Reply
 mount_read (Ok reply) = Some (replies.Mount reply)
 mount_read (Err fault) = None
 
--- the reply to the call that results spell, where they spell one
+-- the reply to the call that results spell, if they spell one
 abbrev pub result_at : Call → List ℕ → Option Reply
 result_at (calls.File call) results = file_read (file_reply_at (file_proc call) results)
 result_at (calls.Dir call) results = dir_read (dir_reply_at (dir_proc call) results)
 result_at (calls.Mount call) results = mount_read (mount_reply_at (mount_proc call) results)
 
--- the reply to the call that a record is under the xid, where it is one
+-- the reply to the call that a record is under the xid, if it is one
 abbrev pub reply_by : ℕ → Call → List ℕ → Option Reply
 reply_by xid call rec = option_and_then (result_at call) (results_in xid (reply_at rec))

@@ -11,8 +11,8 @@ use std::alloc::Global;
 use world_model::{Call, Entry, Reply};
 use xdr_codec::Memory;
 
-/// Whether a record is the reply to a call that was executed under its xid before the entry at a place, counted from 0,
-/// or refuses a call that was sent before under its xid (RFC 5531, section 9).
+/// Whether a record is the reply to a call that was executed under its xid, or refuses a call that was sent under it.
+/// The call was executed, or sent, before the entry at a place, counted from 0 (RFC 5531, section 9).
 pub fn is_replied(
     alloc: Global,
     entries: &[Entry],

@@ -20,7 +20,7 @@ use std::alloc::Global;
 use world_model::{Call, Reply};
 use xdr_codec::{CodecFault, Memory};
 
-/// The reply to a call that a record is under the xid. None exactly where it is none.
+/// The reply to a call that a record is under the xid. None exactly if it is none.
 pub fn reply_to(alloc: Global, xid: u32, call: &Call, rec: &[u8]) -> Result<Option<Reply>, Memory>
     ensures finds { IfOk result (FindsReplyTo xid call.now rec.now) }
     ensures exact { IfOk result (λ reply. reply ≡ reply_by xid call.now rec.now) }

@@ -28,8 +28,10 @@ const MOST_GROUP: usize = 255;
 /// The most flavors of MNT's reply.
 const MOST_FLAVORS: usize = 64;
 
-/// Whether bytes can spell the call: a WRITE has at most 65,536 bytes and a known `how`, a path or text at most 1,024
-/// bytes, and a node the kind of what it is.
+/// Whether bytes can spell the call:
+/// - a WRITE has at most 65,536 bytes and a known `how`;
+/// - a path or text has at most 1,024 bytes;
+/// - a node has the kind of what it is.
 pub fn is_spellable(call: &Call) -> bool
     ensures { IsTrue result ↔ HasSpellingCall call.now }
 {

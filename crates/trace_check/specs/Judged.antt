@@ -46,7 +46,7 @@ SaysYes m origin h v = (v ≡ Yes) ↔ KeepsAll m origin h
 
 -- ---- how it is made
 
--- yes where no rule breaks, else the first that does
+-- yes if no rule breaks, else the first that does
 abbrev pub verdict_of : Option First → Verdict
 verdict_of None = Yes
 verdict_of (Some f) = No f.rule f.entries

@@ -49,7 +49,7 @@ fn entries_before(first: Option<First>) -> Option<usize>
     }
 }
 
-/// The verdict where no claim on bytes is broken before.
+/// The verdict if no claim on bytes is broken before.
 fn server_verdict(first: Option<First>) -> Verdict
     ensures { IfSome first (λ f. f.entries < 2 ^ 32) → result ≡ verdict_of first }
 {
@@ -62,7 +62,7 @@ fn server_verdict(first: Option<First>) -> Verdict
     }
 }
 
-/// The verdict where a claim on bytes is broken first.
+/// The verdict if a claim on bytes is broken first.
 fn claim_verdict(entries: usize, broken: Broken) -> Verdict
     ensures { entries < 2 ^ 32 → result ≡ No (rule_of broken) entries }
 {
@@ -83,7 +83,7 @@ fn rule_of(broken: Broken) -> u8
     }
 }
 
-/// A number of entries, or the greatest number of 32 bits where it is above that.
+/// A number of entries, or the greatest number of 32 bits if it is above that.
 fn entry_count(entries: usize) -> u32
     ensures { entries < 2 ^ 32 → result ≡ entries }
 {

@@ -1,4 +1,4 @@
--- Which bytes the client may still hold back, by the tests on a digest of the history.
+-- Which bytes of the client may still be dirty, by the tests on a digest of the history.
 use Rattle.std.specs.Prelude.{◌+◌, ◌&&◌, ◌||◌, not, nat_lt, nat_le, ℕ, Bool, true, List, Option, Some, None, if◌then◌else◌}
 use Rattle.std.specs.List.{list_any}
 use Rattle.std.specs.Str.{bytes_eq}

@@ -3,7 +3,7 @@ use Rattle.std.specs.Prelude.{min, ℕ, Option, Some, None}
 use Rattle.trace_claims.specs.declared.touched.Reach.{Reach}
 use Rattle.trace_claims.specs.declared.touched.Reach.TheVariants.{Range, Past}
 
--- the end of the places that an operation writes, or so far where it writes none
+-- the end of the places that an operation writes, or so far if it writes none
 abbrev pub range_end : Option (ℕ × ℕ) → (most : ℕ) → ℕ
 range_end None most = most
 range_end (Some r) most = min r.1 most

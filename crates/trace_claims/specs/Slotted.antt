@@ -41,7 +41,7 @@ abbrev pub hold_of : Named → Option (List ℕ) → Option Hold
 hold_of n None = None
 hold_of n (Some f) = Some (record { opened_at = n.course.place; file = f })
 
--- what the slot holds by this open before the place, where that is its last close
+-- what the slot holds by this open before the place, if that is its last close
 abbrev pub hold_by : Named → (lane slot place : ℕ) → Option ℕ → Option Hold
 hold_by n lane slot place closed = if opens_there n lane slot place && not (ended_before_that n closed) then hold_of n n.file else None
 

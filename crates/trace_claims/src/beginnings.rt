@@ -27,7 +27,7 @@ pub enum Broken {
 }
 
 /// The fewest entries that break a claim, of beginnings of at most so many, and the first claim that they break. Without such a
-/// limit it is None exactly where the whole keeps each claim, though a beginning may break one; with one exactly where each
+/// limit it is None exactly if the whole keeps each claim, though a beginning may break one; with one exactly if each
 /// beginning of at most so many entries does.
 pub fn first_broken(
     alloc: Global,

@@ -91,7 +91,7 @@ pub(crate) fn all_kept(
     true
 }
 
-/// Up to which place all is so from a place on: one place more where both lists show what was left, else the piece of what may have
+/// Up to which place all is so from a place on: one place more if both lists show what was left, else the piece of what may have
 /// been changed. None if neither is so.
 fn kept_until(
     entries: &[Entry],
@@ -139,7 +139,7 @@ fn touched_until(
     }
 }
 
-/// The end of the places that an operation writes, or so far where it writes none.
+/// The end of the places that an operation writes, or so far if it writes none.
 fn range_end(range: Option<(u128, u128)>, most: u128) -> u128
     ensures { result ≡ range_end range most }
 {

@@ -1,4 +1,4 @@
-//! Which bytes the client may still hold back.
+//! Which bytes of the client may still be dirty.
 
 ghost use Rattle.std.specs.Prelude.{◌≡◌, ◌<◌};
 ghost use Rattle.trace_claims.specs.Pieces.{IsOwnPiece};

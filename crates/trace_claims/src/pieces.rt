@@ -7,8 +7,8 @@ use crate::courses::Work;
 use crate::operations::Operation;
 use crate::touched::{Foreign, Reach};
 
-/// Where the piece ends that begins at a place: at the next place at which a range or a size of an operation or of another
-/// client's change begins or ends, or at most so far.
+/// Where the piece ends that begins at a place, or at most so far. That is the next place at which a range or a size of an
+/// operation, or of another client's change, begins or ends.
 pub(crate) fn piece_end(
     operations: &[Operation],
     foreign: &[Foreign],

@@ -137,7 +137,7 @@ fn has_value(value: &Value) -> bool
     }
 }
 
-/// The bytes of the answer at a place; none where it has none.
+/// The bytes of the answer at a place; none if it has none.
 #[tactic(auto, unfolding(crate::specs::Readings::answer_bytes))]
 pub(crate) fn answer_bytes(entries: &[Entry], place: usize) -> &[u8]
     ensures { result.now ≡ answer_bytes entries.entry.now place }
@@ -210,8 +210,10 @@ fn count_of(work: &Work) -> u32
     }
 }
 
-/// The first moment that a read may show: its own begin where each read asks again, else the open's, or, where an open
-/// may go by what is kept, a moment for which that is kept.
+/// The first moment that a read may show:
+/// - its own begin, if each read asks again;
+/// - a moment for which attributes are kept, if an open may go by these;
+/// - else the open's begin.
 fn since(trace: &Trace, read: usize, opened: usize) -> usize
     ensures { IsSince trace.now read opened result }
 {
@@ -238,8 +240,8 @@ fn may_keep(trace: &Trace) -> bool
     trace.nocto && trace.lives > 0
 }
 
-/// The lesser of an open's begin and the first moment after a reading of the clock that is less than so long before each one that
-/// the open began after.
+/// The lesser of an open's begin and a moment for which attributes are kept. This is the first moment after a reading of the
+/// clock that is less than so long before each reading that the open began after.
 fn since_kept(entries: &[Entry], opened: usize, longest: u64) -> usize
     ensures { SinceKept entries.now opened longest result }
 {

@@ -259,8 +259,8 @@ fn holds_next(
         || is_held(trace, digest, total, written, place + 1, file)
 }
 
-/// Whether all bytes that were settled by an entry are held after it, in the beginning of which it is the last one, if that can't be
-/// said of the beginning before: the file changed, or they were settled just then.
+/// Whether all bytes that were settled by an entry are held after it. The entry is the last one of the beginning that is looked at.
+/// Those bytes are passed over for which the beginning before says it: the file didn't change, and they weren't settled just then.
 pub(crate) fn is_settled_last(trace: &Trace, digest: &Digest, entry: usize) -> bool
     requires { entry < 18446744073709551615 }
     ensures { Decides result (AllLastSo trace.now digest.now entry) }

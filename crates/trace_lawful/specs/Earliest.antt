@@ -6,7 +6,7 @@ abbrev pub with_rule : ℕ → Option ℕ → Option First
 with_rule rule None = None
 with_rule rule (Some n) = Some (record { entries = n; rule = rule })
 
--- the one with fewer entries, and the first one where both have as many
+-- the one with fewer entries, and the first one if both have as many
 abbrev pub earlier : Option First → Option First → Option First
 earlier None b = b
 earlier (Some a) None = Some a

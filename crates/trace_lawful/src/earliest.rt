@@ -22,7 +22,7 @@ pub(crate) fn with_rule(entries: Option<usize>, rule: u8) -> Option<First>
     }
 }
 
-/// The one with fewer entries, and the first one where both have as many.
+/// The one with fewer entries, and the first one if both have as many.
 pub(crate) fn earlier(a: Option<First>, b: Option<First>) -> Option<First>
     ensures { result ≡ earlier a b }
 {

@@ -17,7 +17,7 @@ use world_model::{Call, Entry, Reply};
 use xdr_codec::Memory;
 
 /// How many entries are the fewest that aren't what an honest server and network make (RFC 1813, sections 3.3, 4.8 and
-/// 4.9), 0 where the start is no server. None exactly where the whole history is.
+/// 4.9). It is 0 if the start is no server. None exactly if the whole history is what they make.
 pub fn first_unlawful(alloc: Global, trace: &Trace) -> Result<Option<usize>, Memory>
     ensures { IfOk result (λ first. MatchOption first (Lawful (history_of trace.now)) (BreaksAt Lawful (history_of trace.now))) }
 {

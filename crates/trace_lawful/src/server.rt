@@ -12,7 +12,7 @@ use trace_rules::{first_late, first_stale};
 use xdr_codec::Memory;
 
 /// The fewest entries that break a rule of the server, and the first rule that they break: 1 lawful, 2 once or 3 fresh. None
-/// exactly where the history keeps all three.
+/// exactly if the history keeps all three.
 pub fn first_of_server(alloc: Global, trace: &Trace) -> Result<Option<First>, Memory>
     ensures { IfOk result (λ first. MatchOption first (KeepsServer (history_of trace.now)) (λ f. FirstBroken (history_of trace.now) f.entries f.rule)) }
 {

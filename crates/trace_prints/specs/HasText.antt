@@ -159,7 +159,7 @@ pub record IsCall (xid : ℕ) (call : Call) (reply : Reply) : Type 0 where
   pub asks : SpellsCall xid call (call_bytes xid call)
   pub answers : SpellsReply xid call reply (reply_bytes xid reply)
 
--- an entry that a line can say, where operations that began before show these shapes
+-- an entry that a line can say, if operations that began before show these shapes
 abbrev pub IsEntry : (ℕ → ℕ → AnswerShape) → Entry → Type 0
 IsEntry shape (entries.Began lane line op) = IsLine lane line × IsOp op
 IsEntry shape (entries.Answered lane line answer) = IsLine lane line × IsAnswer (shape lane line) answer
@@ -235,7 +235,7 @@ abbrev pub IsBefore : Listed → List Listed → Type 0
 IsBefore entry [] = Unit {0}
 IsBefore entry (other ∷ others) = (comes_before entry other ≡ true) × IsBefore entry others
 
--- a list in the order of cookies, and of names where these are equal
+-- a list in the order of cookies, and of names if these are equal
 abbrev pub IsSorted : List Listed → Type 0
 IsSorted [] = Unit {0}
 IsSorted (entry ∷ entries) = IsBefore entry entries × IsSorted entries

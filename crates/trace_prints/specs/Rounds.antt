@@ -19,7 +19,7 @@ Reads told text new = (count : ℕ) (rest : List ℕ) → (next : ℕ) × (after
 abbrev pub ShowsLast : Told → (ℕ → ℕ → AnswerShape) → Type 0
 ShowsLast told shape = (lane line : ℕ) → last_shape lane line told.history.entries (length told.history.entries) ≡ shape lane line
 
--- what an object's line says that it holds, where a directory keeps the list that it had
+-- what an object's line says that it holds, if a directory keeps the list that it had
 abbrev pub said_of : Contents → Option Object → Holds
 said_of (holds.File now stable) was = Bytes now stable
 said_of (holds.Directory list) was = Entries (or_empty (list_of was))

@@ -60,7 +60,7 @@ shown_entry (entries.Clock ms) = entries.Clock ms
 abbrev pub shown_history : History → History
 shown_history h = record { entries = map shown_entry h.entries; at = h.at }
 
--- what was told is what a trace says, with the history as its text shows it; where no line says the greatest lifetime it is 60,000 milliseconds
+-- what was told is what a trace says, with the history as its text shows it; if no line says the greatest lifetime it is 60,000 milliseconds
 pub record IsAgain (trace : Trace) (told : Told) : Type 0 where
   pub root : told.root ≡ trace.root
   pub lives : unwrap_or told.lives 60000 ≡ trace.lives

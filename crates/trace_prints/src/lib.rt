@@ -21,8 +21,8 @@ pub fn entry_read_again(entry: &Entry)
     let _entry = entry;
 }
 
-/// The text that `print` gives is read as the trace, but for the attributes of a stat's answer that aren't shown, if each
-/// mark of the trace has a text. A fact for proofs: it does nothing.
+/// The text that `print` gives is read as the trace, if each mark of the trace has a text. Attributes of a stat's answer
+/// that aren't shown are left out. A fact for proofs: it does nothing.
 pub fn trace_read_again(trace: &Trace)
     ensures again { HasText trace.now → (text : List ℕ) → printed trace.now ≡ Some text → IsReadAgain trace.now (text_told text) }
     ensures spelled { HasText trace.now → All IsSpelled trace.now.entries.items }

@@ -14,7 +14,7 @@ use crate::stamps::renews_all;
 use trace_data::Trace;
 use world_model::Entry;
 
-/// How many entries are the fewest in which a copy of a call is executed after its reply was taken. None exactly where
+/// How many entries are the fewest in which a copy of a call is executed after its reply was taken. None exactly if
 /// none is.
 #[tactic(auto, using(crate::proofs::Breaking::late_breaks, crate::proofs::Breaking::late_whole))]
 pub fn first_late(entries: &[Entry]) -> Option<usize>
@@ -26,7 +26,7 @@ pub fn first_late(entries: &[Entry]) -> Option<usize>
     }
 }
 
-/// How many entries are the fewest in which a change of an object gives it a stamp that it had. None exactly where none
+/// How many entries are the fewest in which a change of an object gives it a stamp that it had. None exactly if none
 /// does.
 pub fn first_stale(trace: &Trace) -> Option<usize>
     ensures { MatchOption result (Fresh (history_of trace.now)) (BreaksAt Fresh (history_of trace.now)) }

@@ -73,13 +73,13 @@ pub data IsTold (trace : List ℕ) (status : ℕ) (text : List ℕ) : Type 0 whe
   judged : (told : Told) → text_told trace ≡ Ok told → IsVerdictOn told status text → IsTold trace status text
   refused : (line : ℕ) → text_told trace ≡ Err line → status ≡ 9 → text ≡ refusal_bytes line → IsTold trace status text
 
--- The same of the text that a source had left, of which 1,048,577 bytes are read; of some text where the source doesn't tell its bytes.
+-- The same of the text that a source had left, of which 1,048,577 bytes are read; of some text if the source doesn't tell its bytes.
 pub record Tells (left : Option (List ℕ)) (status : ℕ) (text : List ℕ) : Type 0 where
   pub trace : List ℕ
   pub read : TakesAll left trace
   pub told : IsTold trace status text
 
--- What was written by the end: all, or nothing where the source failed; and where the sink failed or memory ran out the front of
+-- What was written by the end: all, or nothing if the source failed; and if the sink failed or memory ran out the front of
 -- what would have been written, or nothing.
 pub data EndsSo (left : Option (List ℕ)) (status : ℕ) (text : List ℕ) : Type 0 where
   whole : Tells left status text → EndsSo left status text

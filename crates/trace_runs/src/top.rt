@@ -59,7 +59,7 @@ pub fn run_check<S: Source, K: Sink>(alloc: Global, trace: &mut S, out: &mut K) 
     write_said(out, &said)
 }
 
-/// Writes what is said, and gives its status; 5 where the sink fails, 7 for lack of memory.
+/// Writes what is said, and gives its status; 5 if the sink fails, 7 for lack of memory.
 fn write_said<K: Sink>(out: &mut K, said: &Said) -> u8
     ensures sink { result ≡ 5 → (said.now.status ≡ 5) ⊎ Rose (K.faults out.old) (K.faults out.new) }
     ensures read { result ≡ 4 → said.now.status ≡ 4 }

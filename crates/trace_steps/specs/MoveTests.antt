@@ -71,7 +71,7 @@ removes t n d name wcc = turns (lists_with (λ old new. removes_among t n d name
 unfoldable pub clears_at : List ℕ → List DirEntry → List DirEntry → ℕ → Bool
 clears_at name old new k = if_row (λ row. bytes_eq row.name name && is_without k old new) (slice_get old k)
 
--- the list without the name, where it has it
+-- the list without the name, if it has it
 unfoldable pub clears : List ℕ → List DirEntry → List DirEntry → Bool
 clears name old new = (lacks name old && same_entries new old) || any_below (λ k. clears_at name old new k) (length old)
 

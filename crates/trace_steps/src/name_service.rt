@@ -413,7 +413,7 @@ fn shows_one(
     false
 }
 
-/// Whether a handle and attributes, where a reply has them, are those of an object that has the name then.
+/// Whether a handle and attributes, if a reply has them, are those of an object that has the name then.
 #[tactic(auto, unfolding(crate::specs::NameTests::shows))]
 fn shows(
     trace: &Trace,

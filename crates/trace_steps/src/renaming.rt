@@ -49,7 +49,7 @@ fn clears_some(name: &Name, old: &[DirEntry], new: &[DirEntry]) -> bool
     false
 }
 
-/// Whether `new` is `old` without the name, where it has it.
+/// Whether `new` is `old` without the name, if it has it.
 #[tactic(auto, unfolding(crate::specs::MoveTests::clears))]
 fn clears(name: &Name, old: &[DirEntry], new: &[DirEntry]) -> bool
     ensures { result ≡ clears name.now old.now new.now }

@@ -19,8 +19,8 @@ use trace_rules::{same_attr, same_bool};
 use world_model::{Call, Reply};
 use xdr_codec::Memory;
 
-/// Whether the server may answer the call so, and be afterwards what it is after the entry at a place, counted from 0
-/// (RFC 1813, sections 3.3 and 5.2).
+/// Whether the server may answer the call so (RFC 1813, sections 3.3 and 5.2). Afterwards it is what it is after the
+/// entry at a place, counted from 0.
 pub fn is_served(
     alloc: Global,
     trace: &Trace,

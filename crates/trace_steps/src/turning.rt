@@ -200,7 +200,7 @@ fn shows_part(offset: u64, counted: u32, eof: bool, bytes: &[u8], now: &[u8]) ->
         && (!eof || now.len() as u64 <= offset.saturating_add(counted as u64))
 }
 
-/// Whether bytes are put into a file, and are stable where the reply says so.
+/// Whether bytes are put into a file, and are stable if the reply says so.
 fn is_written(committed: u32, offset: u64, bytes: &[u8], old: &Contents, new: &Contents) -> bool
     ensures { result ≡ is_written committed offset bytes.now old.now new.now }
 {

@@ -59,7 +59,7 @@ fault_of word words =
 
 -- ---- what follows `ok`
 
--- what an answer shows where the operation succeeded
+-- what an answer shows if the operation succeeded
 abbrev pub shape_in : Op → Shape
 shape_in (ops.Read slot offset count) = shapes.Bytes
 shape_in (ops.ReadLink path) = shapes.Text

@@ -50,7 +50,7 @@ abbrev pub or_shape : Option Shape → Shape → Shape
 or_shape None before = before
 or_shape (Some shape) before = shape
 
--- what the operation shows that began last in this lane and line; nothing where none did
+-- what the operation shows that began last in this lane and line; nothing if none did
 abbrev pub last_shape : ℕ → ℕ → List Entry → ℕ → Shape
 last_shape lane line es zero = shapes.Nothing
 last_shape lane line es (suc n) = or_shape (shape_at lane line (slice_get es n)) (last_shape lane line es n)

@@ -62,7 +62,7 @@ holds_of attr now stable was =
 
 -- ---- lists
 
--- in the order of cookies, and of names where these are equal
+-- in the order of cookies, and of names if these are equal
 abbrev pub comes_before : Listed → Listed → Bool
 comes_before entry other = nat_lt entry.cookie other.cookie || ((entry.cookie == other.cookie) && is_lt (slice_cmp nat_cmp entry.name other.name))
 

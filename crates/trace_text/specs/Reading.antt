@@ -41,7 +41,7 @@ line_by told word words =
     (if bytes_eq word (codes "name") then name_line told words else
     (if bytes_eq word (codes "unname") then unname_line told words else entry_line told word words))))))))
 
--- what is told after a line that is UTF-8, where it is of the form
+-- what is told after a line that is UTF-8, if it is of the form
 abbrev pub told_after : Told → List ℕ → Option Told
 told_after told line = if is_utf8 line then (first_of (words line) >>= λ first. line_by told first.0 first.1 >>= λ new. Some (begun new)) else None
 
@@ -61,7 +61,7 @@ abbrev pub after_lines : ℕ → Told → List (List ℕ) → Result Told ℕ
 after_lines count told [] = Ok told
 after_lines count told (line ∷ more) = read_on (suc count) (after_line told line) (λ new. after_lines (suc count) new more)
 
--- what a text tells, or the number of its first line that isn't of the form, 0 where the text is too long
+-- what a text tells, or the number of its first line that isn't of the form, 0 if the text is too long
 abbrev pub text_told : List ℕ → Result Told ℕ
 text_told text = if nat_lt 1048576 (length text) then Err 0 else after_lines 0 nothing_told (lines text)
 

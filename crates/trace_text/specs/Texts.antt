@@ -33,7 +33,7 @@ use Rattle.trace_text.specs.Pages.{within}
 
 -- ---- words
 
--- bytes as lower-case hex digits, and `-` where there are none
+-- bytes as lower-case hex digits, and `-` if there are none
 abbrev pub hex_word : List ℕ → List ℕ
 hex_word [] = codes "-"
 hex_word (b ∷ bytes) = encode_lower (b ∷ bytes)
@@ -67,7 +67,7 @@ spread (word ∷ next ∷ words) = codes " " ++ word ++ spread (next ∷ words)
 abbrev pub line_of : List ℕ → List (List ℕ) → List ℕ
 line_of word words = word ++ spread words ++ codes "\n"
 
--- a line that stands only where something is so
+-- a line that stands only if something is so
 abbrev pub line_if : Bool → List ℕ → List ℕ
 line_if true line = line
 line_if false line = []

@@ -57,7 +57,7 @@ changed change told = record told {
 abbrev pub added : Entry → Told → Told
 added entry told = record told { history = record { entries = told.history.entries ++ entry ∷ []; at = told.history.at } }
 
--- the same, where there are fewer than 4,096
+-- the same, if there are fewer than 4,096
 abbrev pub entered : Entry → Told → Option Told
 entered entry told = if nat_lt (length told.history.entries) 4096 then Some (added entry told) else None
 
@@ -92,7 +92,7 @@ told_by lines = record {
   history = record { entries = lines.entries; at = server_by lines.start lines.updates };
 }
 
--- a trace says what was told; where no line says the greatest lifetime it is 60,000 milliseconds
+-- a trace says what was told; if no line says the greatest lifetime it is 60,000 milliseconds
 pub record Says (trace : Trace) (told : Told) : Type 0 where
   pub root : trace.root ≡ told.root
   pub lives : trace.lives ≡ unwrap_or told.lives 60000

@@ -15,7 +15,7 @@ use Rattle.trace_text.specs.declared.fault.LineFault.TheVariants as faults
 use Rattle.trace_text.specs.declared.fault.TraceFault.{TraceFault}
 use Rattle.trace_text.specs.declared.fault.TraceFault.TheVariants as traces
 
--- what follows where there was something
+-- what follows if there was something
 infixl 10 ◌>>=◌
 abbrev pub ◌>>=◌ : {A B : Type 0} → Option A → (A → Option B) → Option B
 None >>= f = None
@@ -60,7 +60,7 @@ abbrev pub decoded_or : {E : Type 0} → Result (List ℕ) E → Option (List �
 decoded_or (Ok bytes) = Some bytes
 decoded_or (Err fault) = None
 
--- the bytes of hex digits, or none where the word is `-`
+-- the bytes of hex digits, or none if the word is `-`
 abbrev pub bytes_of : List ℕ → Option (List ℕ)
 bytes_of word = if bytes_eq word (codes "-") then Some [] else decoded_or (decode_of word)
 

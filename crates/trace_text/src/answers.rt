@@ -14,7 +14,7 @@ use std::alloc::Global;
 use world_model::{Answer, Fault, Op, Value};
 use xdr_codec::{Blob, Memory};
 
-/// What an answer shows where the operation succeeded.
+/// What an answer shows if the operation succeeded.
 #[derive(Clone, Copy)]
 pub(crate) enum Shape {
     Nothing,

@@ -55,7 +55,7 @@ pub(crate) fn answered(alloc: Global, draft: &mut Draft, line: &[u8]) -> Result<
     draft.enter(alloc, Entry::Answered { lane, line, answer })
 }
 
-/// What the operation shows that began last in that lane and line, and nothing where none did.
+/// What the operation shows that began last in that lane and line, and nothing if none did.
 fn last_shape(entries: &[Entry], lane: u8, line: u32) -> Shape
     ensures { result ≡ last_shape lane line entries.now (length entries.now) }
 {

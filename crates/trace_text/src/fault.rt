@@ -9,7 +9,7 @@ use xdr_codec::Memory;
 /// Why a text gave no trace.
 #[derive(Clone, Copy, Debug, PartialEq, Eq, Error)]
 pub enum TraceFault {
-    /// The number of the first line that isn't of the form, from 1 on; 0 where the text is too long.
+    /// The number of the first line that isn't of the form, from 1 on; 0 if the text is too long.
     #[error("line {0} is refused")]
     Line(u32),
     /// Out of memory.

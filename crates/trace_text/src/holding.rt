@@ -40,7 +40,7 @@ pub(crate) fn held_contents(
     other_contents(now, stable.as_slice())
 }
 
-/// A file of the size of its bytes, of which no more are stable. What it held is shared where it holds it still.
+/// A file of the size of its bytes, of which no more are stable. What it held is shared if it holds it still.
 fn file_contents(
     alloc: Global,
     size: u64,
@@ -63,7 +63,7 @@ fn file_contents(
     Ok(Contents::File { now, stable })
 }
 
-/// These bytes, shared where the object held them.
+/// These bytes, shared if the object held them.
 fn shared(alloc: Global, bytes: Vec<u8>, was: Option<&Object>) -> Result<Blob, Memory>
     ensures { IfOk result (λ blob. blob ≡ bytes.items) }
 {
@@ -104,7 +104,7 @@ fn directory_contents(
     Ok(Contents::Directory { entries })
 }
 
-/// The list that an object has, and an empty one where it is no directory.
+/// The list that an object has, and an empty one if it is no directory.
 fn listed(alloc: Global, draft: &Draft, handle: &Handle) -> Result<Vec<DirEntry>, Memory>
     ensures { IfOk result (λ list. map listed_of list.items ≡ or_empty (list_of (object_now (told_by draft.now) handle.now))) }
 {

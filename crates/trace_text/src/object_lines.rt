@@ -54,7 +54,7 @@ pub(crate) fn gone_line(alloc: Global, draft: &mut Draft, line: &[u8]) -> Result
 }
 
 /// `name DIR NAME HANDLE COOKIE`: an entry of a directory, in place of the one of that name. The list is in the order of
-/// cookies, and of names where cookies are equal.
+/// cookies, and of names if cookies are equal.
 #[tactic(auto, unfolding(crate::specs::ObjectLines::name_line))]
 pub(crate) fn name_line(alloc: Global, draft: &mut Draft, line: &[u8]) -> Result<(), LineFault>
     ensures { Takes result (told_by draft.new) (name_line (told_by draft.old) (words line.now)) }

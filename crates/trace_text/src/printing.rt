@@ -21,9 +21,12 @@ const MOST_ENTRIES: usize = 4096;
 /// The greatest lifetime that no line says, in milliseconds.
 const USUAL_LIFETIME: u64 = 60_000;
 
-/// The text of a trace, which `read` reads as that history, but for the attributes of a stat's answer that aren't shown.
-/// It has single spaces, lower-case hex, numbers without leading zeros, and one line for each part that an entry changed.
-/// None exactly where the trace has more than 4,096 entries or its text more than 1,048,576 bytes.
+/// The text of a trace. It has single spaces, lower-case hex, numbers without leading zeros, and one line for each part
+/// that an entry changed. `read` reads it as that history if each mark of the trace has a text (`trace_prints`), but for the
+/// attributes of a stat's answer that aren't shown.
+///
+/// None exactly if the trace has more than 4,096 entries or its text more than 1,048,576 bytes. If bytes can't spell a call or
+/// a reply of the trace, nothing is said of what is written of it.
 pub fn print(alloc: Global, trace: &Trace) -> Result<Option<Blob>, Memory>
     ensures many { 4096 < length trace.now.entries.items → result ≡ Ok None }
     ensures prints { All IsSpelled trace.now.entries.items → IfOk result (λ text. text ≡ printed trace.now) }
@@ -97,7 +100,7 @@ fn write_start_verf(page: &mut Page, alloc: Global, start: Verf) -> Result<(), M
     write_verf(page, alloc, unsaid_verf(), start)
 }
 
-/// The write verifier where no line says one.
+/// The write verifier if no line says one.
 fn unsaid_verf() -> Verf
     ensures { result ≡ no_server.verf }
 {

@@ -18,7 +18,7 @@ use trace_data::Trace;
 /// The most bytes of a text.
 const MOST_BYTES: usize = 1_048_576;
 
-/// The trace that a text is. `Line` names the first line that isn't of the form, and 0 where the text has more than
+/// The trace that a text is. `Line` names the first line that isn't of the form, and 0 if the text has more than
 /// 1,048,576 bytes; a trace has at most 4,096 entries.
 pub fn read(alloc: Global, text: &[u8]) -> Result<Trace, TraceFault>
     ensures read { IsRead (text_told text.now) result }

@@ -15,7 +15,7 @@ use script_text::{four_words, long_number, next_word, number, one_word, three_wo
 use std::alloc::Global;
 use xdr_codec::{Reader, XdrFault};
 
-/// The bytes of hex digits of either case, and none where the word is `-`.
+/// The bytes of hex digits of either case, and none if the word is `-`.
 pub(crate) fn bytes(alloc: Global, word: &[u8]) -> Result<Vec<u8>, LineFault>
     ensures { Gives (λ b. b.items) result (bytes_of word.now) }
 {

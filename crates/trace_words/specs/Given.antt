@@ -8,7 +8,7 @@ use Rattle.session_words.specs.declared.settings.Settings.{Settings}
 use Rattle.session_words.specs.Words.{IsCommand}
 use Rattle.trace_words.specs.declared.words.TraceWords.{TraceWords}
 
--- the root, where `--root` gives it
+-- the root, if `--root` gives it
 abbrev pub root_of : Export → Option (List ℕ)
 root_of (exports.Path path) = None
 root_of (exports.Root root) = Some root

@@ -23,7 +23,7 @@ pub struct TraceWords {
     pub nocto: bool,
 }
 
-/// What the words of a session, of which the first is the program's name, say of the client. None exactly where they
+/// What the words of a session, of which the first is the program's name, say of the client. None exactly if they
 /// aren't of the form, and then a session of theirs ends with status 2. Memory means out of memory.
 pub fn trace_words(alloc: Global, words: &[String]) -> Result<Option<TraceWords>, Memory>
     ensures { IfOk result (λ found. MatchOption found (AreRefused (map string_bytes words.now)) (Give (map string_bytes words.now))) }

@@ -21,8 +21,9 @@ use Rattle.pair_runs.specs.Given.{pair_settings}
 use Rattle.pair_runs.specs.PairRuns.{NoneBegan, PairClocked, PairText, StatusOf}
 use Rattle.two_clients.specs.Sees.{IsHonestTo}
 
--- What `Headline` says of a session, of the history as one client sees it: all but its text and its readings of the clock, which are among those of both, and
--- `idle`, since a client without lines asks for the sizes too. The first xid is this one, and this is the status by the client's own answers.
+-- What `Headline` says of a session, of the history as one client sees it. It is all but its text and its readings of the clock, which are among those of
+-- both. `idle` isn't said, since a client without lines asks for the sizes too. The first xid is this one, and this is the status by the client's own
+-- answers.
 pub record SideKeeps (s : Settings) (first : ℕ) (lines : List ScriptLine) (status : ℕ) (h : List Entry) : Type 0 where
   pub follows : Follows (entries_of lines) h
   pub together : LanesTogether (entries_of lines) h

@@ -11,12 +11,18 @@ ghost use Rattle.two_clients.specs.Pair.{PairIs};
 use outside::{Clock, PairLink, Sink, Source};
 use std::alloc::Global;
 
-/// Runs two scripts, each in a client of its own over its end of the link, and writes an answer line for each operation behind the letter of its client.
-/// Each client has the root `0000000000000001`, makes its calls as nobody, and asks for the server's sizes before the first turn. Turns follow the letters
-/// `a` and `b` of the order, and then come one after the other until both are done.
+/// Runs two scripts, each in a client of its own over its end of the link. Writes an answer line for each operation behind the letter of its client. Each
+/// client has the root `0000000000000001`, makes its calls as nobody, and asks for the server's sizes before the first turn. Turns follow the letters `a` and
+/// `b` of the order, and then come one after the other until both are done.
 ///
-/// It answers the status: 0 where each operation went well, 1 where one was refused, 3 where a script is, 4 where a source failed, 5 where the sink failed, 6
-/// where a client's link is lost, 7 for lack of memory outside an operation.
+/// It answers the status:
+/// - 0: each operation succeeded;
+/// - 1: one was refused;
+/// - 3: a script is refused;
+/// - 4: a source failed;
+/// - 5: the sink failed;
+/// - 6: a client's link is lost;
+/// - 7: there was no memory outside an operation.
 pub fn run_pair<S: Source, T: Source, P: PairLink, C: Clock, K: Sink>(
     alloc: Global,
     order: &[u8],
@@ -29,7 +35,7 @@ pub fn run_pair<S: Source, T: Source, P: PairLink, C: Clock, K: Sink>(
     requires { AreLetters order.now }
     ensures statuses { IsPairStatus result }
 
-    // 4 and 5 come only where the outside failed.
+    // 4 and 5 come only if the outside failed.
     ensures source { result ≡ 4 → Rose (S.faults a.old) (S.faults a.new) ⊎ Rose (T.faults b.old) (T.faults b.new) }
     ensures sink { result ≡ 5 → Rose (K.faults out.old) (K.faults out.new) }
 

@@ -91,7 +91,7 @@ abbrev pub delivered : List Entry → List (List ℕ)
 delivered [] = []
 delivered (e ∷ es) = delivered_of e ++ delivered es
 
--- Each call since the link was made has its place. The port is the one dialed last, and the records that were delivered are
+-- Each call since the link was made has its place. The port is the one dialed last. The records that were delivered are
 -- exactly the datagrams that came from the port dialed last, in order, each whole.
 pub record Placed (t : DatagramsTold) (ks : List DatagramAdds) (port : Option ℕ) : Type 0 where
   pub enough : length ks ≤ length t.calls
@@ -106,7 +106,7 @@ IsPlaced (Some t) ks port = Placed t ks port
 
 -- ---- what a call adds
 
--- the entry that a call's own shows, where that port is aimed at
+-- the entry that a call's own shows, if that port is aimed at
 abbrev pub shown_as : Option ℕ → DatagramEntry → List Entry
 shown_as aimed (Aimed port) = entries.Dialed port ∷ []
 shown_as aimed (Sent bytes) = entries.Sent bytes ∷ []

@@ -29,7 +29,7 @@ pub record Held (D : Type 0) : Type 0 where
 abbrev pub told_by : {D : Type 0} → (D → Option DatagramsTold) → Held D → Option History
 told_by told s = told_of (now_of (told s.over) s.kept)
 
--- nothing is kept where the datagrams don't tell their calls
+-- nothing is kept if the datagrams don't tell their calls
 abbrev pub KeepsNone : Option DatagramsTold → List DatagramAdds → Type 0
 KeepsNone None ks = ks ≡ []
 KeepsNone (Some t) ks = Unit {0}
@@ -39,13 +39,13 @@ abbrev pub IsBegun : Option DatagramsTold → Option History → Type 0
 IsBegun None now = now ≡ None
 IsBegun (Some t) now = now ≡ Some (begun (after_calls t.start t.calls)).history
 
--- The records that were delivered are exactly the datagrams that came, since the link was made, from the port dialed last
--- before each, in order, each whole.
+-- The records that were delivered are exactly these datagrams, in order, each whole. They came, since the link was made, from
+-- the port dialed last before each.
 abbrev pub DeliversExactly : Option DatagramsTold → List DatagramAdds → Type 0
 DeliversExactly None ks = Unit {0}
 DeliversExactly (Some t) ks = delivered (heard_by t ks).history.entries ≡ brought_by (latest (length ks) t.calls) None
 
--- the port, where it was dialed or tried to be
+-- the port, if it was dialed or tried to be
 abbrev pub dialed_port : {T : Type 0} → Option ℕ → ℕ → Result T LinkFault → Option ℕ
 dialed_port old port (Ok x) = Some port
 dialed_port old port (Err faults.Failed) = Some port
@@ -161,7 +161,7 @@ Turned told n rec (Some received.Failed) old new = Misses told 0 old new
 Turned told n rec (Some received.Memory) old new = GoesOn told 0 old new
 
 -- What a wait came to: a record from the port dialed last after fewer than 1,024 datagrams from others, or none. It is silent
--- after 1,024 of these, and else only by a fault of the datagrams, as where it fails.
+-- after 1,024 of these, and else only by a fault of the datagrams, as when it fails.
 abbrev pub Waited : {D : Type 0} → (D → Option DatagramsTold) → List ℕ → Received → Held D → Held D → Type 0
 Waited told rec received.Whole old new = (n : ℕ) × (n < MOST_PASSED) × Takes told n rec old new
 Waited told rec received.Silent old new = ((n : ℕ) × (n < MOST_PASSED) × Misses told n old new) ⊎ GivesUp told MOST_PASSED old new

@@ -89,7 +89,7 @@ impl<D: Datagrams + Drop> UdpLink<D> {
         let _port = &self.port;
     }
 
-    /// One turn of a wait, after so many datagrams that were passed over. None where another one was.
+    /// One turn of a wait, after so many datagrams that were passed over. None if another one was.
     fn turn(&mut self, wait_ms: u32, rec: &mut Vec<u8>, passed: u32) -> Option<Received>
         requires patient { 15000 ≤ wait_ms }
         requires few { passed < 1024 }

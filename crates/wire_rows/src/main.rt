@@ -7,7 +7,7 @@
 //! - `dir-page` or `plus-page`, a page of a listing, and `name` or `handle`, with any number;
 //! - `opaque` and how many bytes are written as one and read back, with no bytes.
 //!
-//! After what the record holds stands `same true` where it is written again to the same bytes, and `short true` where
+//! After what the record holds stands `same true` if it is written again to the same bytes. There stands `short true` if
 //! each proper prefix of it is refused as too short. A line that begins with `#` is printed.
 #![tactic(auto)]
 

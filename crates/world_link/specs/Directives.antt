@@ -150,7 +150,7 @@ abbrev pub either : Option Directive → Option Directive → Option Directive
 either (Some d) other = Some d
 either None other = other
 
--- what a line's words ask for; None where they are of no form
+-- what a line's words ask for; None if they are of no form
 abbrev pub directive_of : List (List ℕ) → Option Directive
 directive_of [] = None
 directive_of (command ∷ words) = either (start_of command words) (turn_of command words)

@@ -1,4 +1,4 @@
--- How the world goes on within a call, also where memory runs out in the midst: what happened until then is told.
+-- How the world goes on within a call, also if memory runs out in the midst: what happened until then is told.
 use Rattle.std.specs.Prelude.{◌≡◌, ◌<◌, ◌≤◌, ℕ, List, [], ◌++◌, length, None}
 use Rattle.world_model.specs.declared.entry.Entry.{Entry}
 use Rattle.world_model.specs.Entries.{ours}

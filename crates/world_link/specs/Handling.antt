@@ -55,7 +55,7 @@ handled (Some part) manner view call = partly_executed view call part.bytes part
 abbrev pub answered_as : Manner → View → Call → View × Reply
 answered_as manner view call = handled (breaks manner call) manner view call
 
--- beside an entry at a place it is kept how its call broke off, where it did
+-- beside an entry at a place it is kept how its call broke off, if it did
 abbrev pub kept : List Broken → ℕ → Option PartialWrite → List Broken
 kept partials at None = partials
 kept partials at (Some part) = partials ++ record { at = at; part = part } ∷ []
@@ -68,7 +68,7 @@ tells v xid call part done = record v {
   partials = kept v.partials (length v.entries) part;
 }
 
--- the server after what a record asks for, and the record of the reply, where there is one
+-- the server after what a record asks for, and the record of the reply, if there is one
 abbrev pub done : Manner → ServerView → Asked → ServerView × Option (List ℕ)
 done manner v askings.NoCall = (v, None)
 done manner v (askings.Refuse xid bytes) = (v, Some bytes)
@@ -80,7 +80,7 @@ done manner v (askings.Serve xid call) =
 abbrev pub plain : Manner
 plain = record { lost = false; mount = None; answer = None; partial = None; limit = None }
 
--- a reply is ready, where there is one
+-- a reply is ready, if there is one
 abbrev pub readied : ServerView → Option (List ℕ) → ServerView
 readied v None = v
 readied v (Some bytes) = record v { ready = v.ready ++ bytes ∷ [] }

@@ -24,13 +24,13 @@ use Rattle.world_link.specs.View.{ServerView}
 abbrev pub foreign : ServerView → Call → ServerView
 foreign v call = record v { export = (executed v.export call).0; entries = v.entries ++ Foreign call (executed v.export call).1 ∷ [] }
 
--- a restart is left out where the export can't make it
+-- a restart is left out if the export can't make it
 abbrev pub restarted : ServerView → ServerView
 restarted v =
     if may_restart v.export then record v { export = after_restart v.export; entries = v.entries ++ Reboot (verifier (after_restart v.export)) ∷ [] }
     else v
 
--- ---- events at the object of a path; they are left out where it isn't there
+-- ---- events at the object of a path; they are left out if it isn't there
 
 -- the whole file becomes stable
 abbrev pub flushed_of : ServerView → List ℕ → Option ℕ → ServerView
@@ -56,7 +56,7 @@ abbrev pub truncated_at : ServerView → ℕ → Option (List ℕ) → ServerVie
 truncated_at v size None = v
 truncated_at v size (Some file) = foreign v (calls.File (files.SetAttr file (sets (Some size)) None))
 
--- ---- events at the name at the end of a path; they are left out where it has none, or its directory isn't there
+-- ---- events at the name at the end of a path; they are left out if it has none, or its directory isn't there
 
 -- the file handle of the directory of a path's last name, and that name
 abbrev pub named_in : Option (List ℕ) → Option (List ℕ) → Option (List ℕ × List ℕ)
@@ -77,7 +77,7 @@ is_made (replies.Mount reply) = false
 abbrev pub creates : List ℕ → List ℕ → Call
 creates dir name = calls.Dir (dirs.Create dir name (Guarded (sets None)))
 
--- a file is made under a name that isn't there, and the bytes are written where there are any
+-- a file is made under a name that isn't there, and the bytes are written if there are any
 abbrev pub created_at : ServerView → List (List ℕ) → List ℕ → Option (List ℕ × List ℕ) → ServerView
 created_at v path bytes None = v
 created_at v path bytes (Some at) =

@@ -1,5 +1,5 @@
--- What keeps the world honest: its history is lawful, and whatever it may still execute or hand out was sent or answers
--- what was (RFC 1813, section 3.3, and RFC 5531, section 8).
+-- What keeps the world honest: its history is lawful. Whatever it may still execute was sent, and whatever it may hand
+-- out answers what was (RFC 1813, section 3.3, and RFC 5531, section 8).
 use Rattle.std.specs.Prelude.{◌≡◌, ◌≤◌, ℕ, List, [], ◌∷◌, length, Option, Some, None, ⊤}
 use Rattle.world_model.specs.declared.entry.Entry.{Entry}
 use Rattle.world_model.specs.declared.entry.Entry.TheVariants.{Sent}
@@ -42,12 +42,12 @@ pub record IsAsked (es : List Entry) (asked : Asked) : Type 0 where
   pub sent : IsSent es bytes
   pub sound : IsSound bytes asked
 
--- a reply, where there is one, is such a record
+-- a reply, if there is one, is such a record
 abbrev pub MayAnswer : List Entry → Option (List ℕ) → Type 0
 MayAnswer es None = ⊤
 MayAnswer es (Some bytes) = IsAnswer es bytes
 
--- a bound on bytes, where there is one, is 1 or above
+-- a bound on bytes, if there is one, is 1 or above
 abbrev pub IsBound : Option ℕ → Type 0
 IsBound None = ⊤
 IsBound (Some most) = 1 ≤ most

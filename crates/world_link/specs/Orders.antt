@@ -40,7 +40,7 @@ abbrev pub after_order : PairReadView → List ℕ → Option (List ℕ) → Opt
 after_order p line (Some letters) = ordered p p.order letters
 after_order p line None = option_map (λ read. record p { read = read }) (after_line p.read line)
 
--- after a line; None where it isn't of the form
+-- after a line; None if it isn't of the form
 abbrev pub after_pair_line : PairReadView → List ℕ → Option PairReadView
 after_pair_line p line = after_order p line (order_in (words line))
 

@@ -36,14 +36,14 @@ pub record Silences (end : ℕ) (old new : PairView) : Type 0 where
   pub world : new.world ≡ silent old.world
   pub ends : new.ends ≡ routing.after old.ends end Failed
 
--- The first reply that is ready for that end came; where none is, nothing came. Waiting never fails. Out of memory changes nothing.
+-- The first reply that is ready for that end came; if none is, nothing came. Waiting never fails. Out of memory changes nothing.
 abbrev pub HandsTo : ℕ → PairView → PairView → List ℕ → Received → Type 0
 HandsTo end old new rec received.Whole = Hands end old new rec
 HandsTo end old new rec received.Silent = Silences end old new
 HandsTo end old new rec received.Failed = ⊥
 HandsTo end old new rec received.Memory = (new.world ≡ old.world) × (new.ends ≡ old.ends)
 
--- no sending of either end is left where nothing came
+-- no sending of either end is left if nothing came
 abbrev pub NoneIsLeft : PairView → Received → Type 0
 NoneIsLeft v received.Silent = v.world.waiting ≡ []
 NoneIsLeft v result = Unit {0}

@@ -21,12 +21,12 @@ pub record ReadView : Type 0 where
   pub plan : PlanView
   pub export : View
 
--- after a line that asks for this; None where it asks for an object that can't be placed
+-- after a line that asks for this; None if it asks for an object that can't be placed
 abbrev pub after_directive : ReadView → Directive → Option ReadView
 after_directive read (Place path file) = option_map (λ export. record read { export = export }) (placed read.export path file)
 after_directive read d = Some (record read { plan = planned read.plan d })
 
--- after a line; None where it isn't of the form
+-- after a line; None if it isn't of the form
 abbrev pub after_line : ReadView → List ℕ → Option ReadView
 after_line read line =
     if not (is_utf8 line) then None else

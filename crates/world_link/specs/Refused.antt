@@ -56,7 +56,7 @@ abbrev pub mount_refused : ℕ → MountCall → Option MountReply
 mount_refused n (mounts.Mnt path) = Some (mounted.MntFail n)
 mount_refused n call = None
 
--- a call that fails with this status; None where it has none
+-- a call that fails with this status; None if it has none
 abbrev pub refused_with : ℕ → Call → Option Reply
 refused_with n (calls.File call) = option_map replies.File (file_refused n call)
 refused_with n (calls.Dir call) = Some (replies.Dir (dir_refused n call))

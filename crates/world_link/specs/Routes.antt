@@ -41,7 +41,7 @@ pub data AnswersAt (told : List Told) (end n : ℕ) (bytes : List ℕ) : Type 0 
 abbrev pub Answers : List Told → Routed → Type 0
 Answers told r = AnswersAt told r.end (length told) r.bytes
 
--- a reply to that end, where there is one, is such a record
+-- a reply to that end, if there is one, is such a record
 abbrev pub MayAnswerTo : List Told → ℕ → Option (List ℕ) → Type 0
 MayAnswerTo told end None = ⊤
 MayAnswerTo told end (Some bytes) = AnswersAt told end (length told) bytes
@@ -60,7 +60,7 @@ pub record AreRouted (v : ServerEnds) : Type 0 where
   pub ready : Every (Answers v.told) v.ready
   pub held : Every (Answers v.told) v.held
 
--- More is told, and ends that are right stay right, where this holds.
+-- More is told, and ends that are right stay right, if this holds.
 pub record KeepsEnds (such : Type 0) (old new : ServerEnds) : Type 0 where
   pub more : List Told
   pub grown : new.told ≡ old.told ++ more

@@ -25,7 +25,7 @@ tells v end entry = record v { told = v.told ++ record { end = end; entry = entr
 abbrev pub after : WorldEnds → ℕ → Entry → WorldEnds
 after w end entry = record w { server = tells w.server end entry }
 
--- the record has the name, where it has one
+-- the record has the name, if it has one
 abbrev pub noted_as : (RequestId → Option Routed) → Option RequestId → Routed → RequestId → Option Routed
 noted_as sent None r = sent
 noted_as sent (Some s) r = λ other. if is_same s other then Some r else sent other

@@ -13,7 +13,7 @@ use Rattle.world_link.specs.View.{WorldView}
 use Rattle.world_link.specs.Turning.{turned, silent, after_send, after_turns, Hands, fails_next, after_dial, after_failed_dial}
 use Rattle.world_link.specs.Going.{GoesOn}
 
--- the first of those that wait had its turn; where none waits, nothing is changed
+-- the first of those that wait had its turn; if none waits, nothing is changed
 abbrev pub TurnsFirst : WorldView → WorldView → List Waiting → Type 0
 TurnsFirst old new [] = new ≡ old
 TurnsFirst old new (next ∷ more) = new ≡ turned old next more
@@ -41,7 +41,7 @@ HandsAt old new place rec received.Silent = ⊥
 HandsAt old new place rec received.Failed = ⊥
 HandsAt old new place rec received.Memory = new ≡ old
 
--- A dial fails exactly where the plan says so; out of memory changes nothing.
+-- A dial fails exactly if the plan says so; out of memory changes nothing.
 abbrev pub Dials : {T : Type 0} → WorldView → WorldView → ℕ → Result T LinkFault → Type 0
 Dials old new port (Ok x) = (fails_next old ≡ false) × (new ≡ after_dial old port)
 Dials old new port (Err faults.Failed) = (fails_next old ≡ true) × (new ≡ after_failed_dial old port)
@@ -54,7 +54,7 @@ Sends old new rec (Err faults.Failed) = ⊥
 Sends old new rec (Err faults.Memory) = new ≡ old
 
 -- Transmissions have their turns until a reply is ready, and the first one that is came. Waiting never fails, and is
--- silent exactly where no reply is ready then, so no sending is without its turn. Out of memory may come in the midst.
+-- silent exactly if no reply is ready then, so no sending is without its turn. Out of memory may come in the midst.
 abbrev pub Receives : WorldView → WorldView → List ℕ → Received → Type 0
 Receives old new rec received.Whole = Hands (after_turns old) new rec received.Whole
 Receives old new rec received.Silent = Hands (after_turns old) new rec received.Silent × (new.waiting ≡ [])

@@ -21,7 +21,7 @@ use Rattle.world_link.specs.Happening.{all_happened}
 
 -- ---- sending
 
--- which sending a record is: the next of its procedure, where it asks for a call of NFS
+-- which sending a record is: the next of its procedure, if it asks for a call of NFS
 abbrev pub name_of : List ℕ → Asked → Option RequestId
 name_of counts (askings.Serve xid (calls.File call)) = next_of counts (file_proc call)
 name_of counts (askings.Serve xid (calls.Dir call)) = next_of counts (dir_proc call)
@@ -111,7 +111,7 @@ one_more faults = min (faults + 1) (2 ^ 64 - 1)
 abbrev pub silent : WorldView → WorldView
 silent w = record w { server = record w.server { entries = w.server.entries ++ Failed ∷ [] }; faults = one_more w.faults }
 
--- The first reply that is ready came; where none is, nothing came, and no sending is left. Waiting never fails.
+-- The first reply that is ready came; if none is, nothing came, and no sending is left. Waiting never fails.
 abbrev pub Hands : WorldView → WorldView → List ℕ → Received → Type 0
 Hands old new rec received.Whole = (rest : List (List ℕ)) × (old.server.ready ≡ rec ∷ rest) × (new ≡ delivered old rec rest)
 Hands old new rec received.Silent = (old.server.ready ≡ []) × (new ≡ silent old)
@@ -120,7 +120,7 @@ Hands old new rec received.Memory = Unit {0}
 
 -- ---- dialing
 
--- a dial fails exactly where the plan says so
+-- a dial fails exactly if the plan says so
 abbrev pub fails_next : WorldView → Bool
 fails_next w = if w.dials == 4294967295 then false else w.plan.fails (w.dials + 1)
 

@@ -87,7 +87,7 @@ const WRITE: u32 = 7;
 /// The most bytes that a line may let a WRITE write before it fails.
 const MOST_PARTIAL: u32 = 65_536;
 
-/// What a line's words ask for. None exactly where they are of no form.
+/// What a line's words ask for. None exactly if they are of no form.
 pub(crate) fn read_directive(alloc: Global, line: &[u8]) -> Result<Option<Directive>, Memory>
     ensures { IfOk result (λ d. d ≡ directive_of (words line.now)) }
 {

@@ -31,7 +31,7 @@ pub enum Event {
         path: Path,
         size: u64,
     },
-    /// Another client makes the file, and writes the bytes where there are any.
+    /// Another client makes the file, and writes the bytes if there are any.
     Create {
         path: Path,
         bytes: Blob,
@@ -45,7 +45,7 @@ pub enum Event {
     },
 }
 
-/// The event that a line's words ask for. None exactly where they are of no form.
+/// The event that a line's words ask for. None exactly if they are of no form.
 pub(crate) fn read_event(alloc: Global, line: &[u8]) -> Result<Option<Event>, Memory>
     ensures { IfOk result (λ event. event ≡ event_of (words line.now)) }
 {

@@ -9,7 +9,7 @@ use std::alloc::Global;
 use std::marker::Model;
 use xdr_codec::Memory;
 
-/// What a schedule makes of one transmission, in the order of its turn. Where nothing is said it is executed in its
+/// What a schedule makes of one transmission, in the order of its turn. If nothing is said it is executed in its
 /// turn, and its reply is ready then.
 #[derive(Drop)]
 pub struct Fate {
@@ -78,14 +78,14 @@ impl Fate {
         self.answer
     }
 
-    /// How it breaks off, where it is a WRITE.
+    /// How it breaks off, if it is a WRITE.
     pub fn partial(&self) -> Option<PartialWrite>
         ensures { result ≡ self.now.partial }
     {
         self.partial
     }
 
-    /// The most bytes that it handles, 1 or above, where it is a READ or WRITE.
+    /// The most bytes that it handles, 1 or above, if it is a READ or WRITE.
     pub fn limit(&self) -> Option<u32>
         ensures { result ≡ self.now.limit }
     {

@@ -40,7 +40,7 @@ impl Server {
         Ok(())
     }
 
-    /// An event happens. It is left out where an object that it speaks of isn't there.
+    /// An event happens. It is left out if an object that it speaks of isn't there.
     fn happen(&mut self, event: &Event) -> Result<(), Memory>
         ensures ok { OnOk result (served self.new ≡ happenings.happened (served self.old) event.now) }
         ensures goes { Goes (served self.old) (served self.new) }
@@ -203,7 +203,7 @@ impl Server {
         Ok(())
     }
 
-    /// The file handle of the directory of a path's last name, and that name. None where the path has none, or its
+    /// The file handle of the directory of a path's last name, and that name. None if the path has none, or its
     /// directory isn't there.
     fn last_in(&self, path: &Path) -> Option<(Handle, Name)>
         ensures { result ≡ happenings.last_in self.now.export path.now }
@@ -214,7 +214,7 @@ impl Server {
         }
     }
 
-    /// The file handle of the directory of a name, and the name. None where the directory isn't there.
+    /// The file handle of the directory of a name, and the name. None if the directory isn't there.
     fn in_dir(&self, dir: &[Name], name: &Name) -> Option<(Handle, Name)>
         ensures { result ≡ happenings.named_in (found self.now.export dir.now) (Some name.now) }
     {
@@ -224,7 +224,7 @@ impl Server {
         }
     }
 
-    /// Executes a call of another client, and tells it. It is true where the call made a file. When out of memory
+    /// Executes a call of another client, and tells it. It is true if the call made a file. When out of memory
     /// nothing is changed.
     fn execute_foreign(&mut self, call: Call) -> Result<bool, Memory>
         requires { HandlesAreBytes call → IsSpelled call }

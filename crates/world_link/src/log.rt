@@ -9,8 +9,10 @@ use crate::world::World;
 use export_fs::Export;
 
 /// What is known of a world that is done with. The server at a moment is the export of the start after the entries
-/// before it: each Executed and Foreign entry is executed as its reply says, a WRITE that broke off with as many bytes
-/// as are kept beside its entry, and Flushed and Reboot entries are done as they are.
+/// before it:
+/// - each Executed and Foreign entry is executed as its reply says;
+/// - a WRITE that broke off is executed with as many bytes as are kept beside its entry;
+/// - Flushed and Reboot entries are done as they are.
 #[derive(Drop)]
 pub struct WorldLog {
     /// The export before the first entry.

@@ -8,7 +8,7 @@ use crate::directive::PartialWrite;
 use nfs_file_calls::FileCall;
 use world_model::Call;
 
-/// How a record is handled in its turn. Where nothing is said it is executed.
+/// How a record is handled in its turn. If nothing is said it is executed.
 #[derive(Clone, Copy, Debug)]
 pub(crate) struct Manner {
     /// Whether it isn't executed.
@@ -33,7 +33,7 @@ pub(crate) const PLAIN: Manner = Manner {
 };
 
 impl Manner {
-    /// The status that a call fails with, where one is given.
+    /// The status that a call fails with, if one is given.
     pub(crate) fn status_for(&self, call: &Call) -> Option<u32>
         ensures { result ≡ status_for self.now.mount self.now.answer call.now }
     {
@@ -44,7 +44,7 @@ impl Manner {
         }
     }
 
-    /// How a call breaks off, where that is said of it and no status is given.
+    /// How a call breaks off, if that is said of it and no status is given.
     pub(crate) fn breaks(&self, call: &Call) -> Option<PartialWrite>
         ensures { result ≡ breaks self.now call.now }
     {

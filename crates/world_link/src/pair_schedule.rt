@@ -19,7 +19,7 @@ use xdr_codec::{Blob, Memory};
 #[derive(Drop)]
 pub(crate) struct PairSchedule {
     schedule: Schedule,
-    /// Whose turns come first, where a line says it.
+    /// Whose turns come first, if a line says it.
     order: Option<Blob>,
 }
 
@@ -45,7 +45,7 @@ fn begin_pair(alloc: Global, text: &[u8]) -> Result<(PairWorld, u64, Blob), Sche
     Ok((PairWorld::of(world), tick, letters(alloc, order)))
 }
 
-/// The letters, none where no line gives them.
+/// The letters, none if no line gives them.
 fn letters(alloc: Global, order: Option<Blob>) -> Blob
     ensures { result ≡ unwrap_or order [] }
 {
@@ -86,7 +86,7 @@ impl PairSchedule {
         })
     }
 
-    /// Takes over a line. It is false exactly where the line isn't of the form.
+    /// Takes over a line. It is false exactly if the line isn't of the form.
     fn read_line(&mut self, alloc: Global, line: &[u8]) -> Result<bool, Memory>
         ensures { IfOk result (λ formed. PairReads (after_pair_line (pair_read_view self.old) line.now) formed (pair_read_view self.new)) }
     {
@@ -96,7 +96,7 @@ impl PairSchedule {
         }
     }
 
-    /// Takes over an order. It is false exactly where there is one already.
+    /// Takes over an order. It is false exactly if there is one already.
     fn take_order(&mut self, alloc: Global, letters: &[u8]) -> Result<bool, Memory>
         ensures { IfOk result (λ formed.
             PairReads (ordered (pair_read_view self.old) (pair_read_view self.old).order letters.now) formed (pair_read_view self.new)) }

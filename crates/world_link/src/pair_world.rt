@@ -15,10 +15,11 @@ use outside::{LinkFault, PairLink, Received};
 use world_model::Mark;
 use xdr_codec::{Memory, Record};
 
-/// A link of two clients to one simulated server that does what a schedule says, and tells the history of both. Transmissions and dials are counted
-/// over both ends. A transmission of either end waits for its turn, which it has when a client waits and no reply for that client is ready. A dial fails
-/// exactly where the schedule says so, a transmission never, and waiting is silent exactly where no reply for that client is ready and no sending of
-/// either is without its turn.
+/// A link of two clients to one simulated server that does what a schedule says, and tells the history of both. Transmissions and dials are counted over
+/// both ends. A transmission of either end waits for its turn, which it has when a client waits and no reply for that client is ready.
+///
+/// A dial fails exactly if the schedule says so, and a transmission never. Waiting is silent exactly if no reply for that client is ready and no sending
+/// of either is without its turn.
 #[derive(Drop)]
 pub struct PairWorld {
     world: World,
@@ -46,7 +47,7 @@ impl PairWorld {
         Ok(())
     }
 
-    /// Hands out the first reply that is ready for that end, and tells it; where none is, it is silent, and tells that.
+    /// Hands out the first reply that is ready for that end, and tells it; if none is, it is silent, and tells that.
     fn hand_out(&mut self, end: u8, rec: &mut Vec<u8>) -> Received
         ensures hands { HandsTo end (seen_pair self.old) (seen_pair self.new) rec.new.items result }
         ensures cause { HasCauseReceived (seen_pair self.old).world.faults (seen_pair self.new).world.faults result }

@@ -45,7 +45,7 @@ impl Plan {
         self.tick
     }
 
-    /// The status that MNT is answered with, where one is given.
+    /// The status that MNT is answered with, if one is given.
     pub fn mount(&self) -> Option<u32>
         ensures { result ≡ (shown self.now).mount }
     {
@@ -59,7 +59,7 @@ impl Plan {
         self.failing.contains(&k)
     }
 
-    /// What becomes of a transmission. None where nothing is said of it.
+    /// What becomes of a transmission. None if nothing is said of it.
     pub fn fate(&self, sending: &RequestId) -> Option<&Fate>
         ensures { MatchOption result ((shown self.now).fate sending.now ≡ no_fate) (λ f. f.now ≡ (shown self.now).fate sending.now) }
     {

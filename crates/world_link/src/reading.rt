@@ -31,7 +31,7 @@ pub struct Schedule {
 
 /// Reads a schedule of at most 1,048,576 bytes.
 ///
-/// `Line` has the number of the first line that isn't of the form, counted from 1, and 0 where the text is longer; a
+/// `Line` has the number of the first line that isn't of the form, counted from 1, and 0 if the text is longer; a
 /// line for an object that can't be placed isn't of the form. Empty lines and lines that begin with `#` are skipped.
 pub fn read_schedule(alloc: Global, text: &[u8]) -> Result<Schedule, ScheduleFault>
     ensures { IsRead (read_of text.now) result }
@@ -64,7 +64,7 @@ impl Schedule {
         })
     }
 
-    /// Takes over a line. It is false exactly where the line isn't of the form.
+    /// Takes over a line. It is false exactly if the line isn't of the form.
     pub(crate) fn read_line(&mut self, alloc: Global, line: &[u8]) -> Result<bool, Memory>
         ensures { IfOk result (λ formed. Reads (after_line (read_view self.old) line.now) formed (read_view self.new)) }
     {
@@ -80,7 +80,7 @@ impl Schedule {
         }
     }
 
-    /// Takes over what a line asks for. It is false exactly where that is an object that can't be placed.
+    /// Takes over what a line asks for. It is false exactly if that is an object that can't be placed.
     fn follow(&mut self, directive: Directive) -> Result<bool, Memory>
         ensures { IfOk result (λ formed. Reads (after_directive (read_view self.old) directive) formed (read_view self.new)) }
     {

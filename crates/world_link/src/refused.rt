@@ -19,7 +19,7 @@ const NO_WCC: Wcc = Wcc {
     after: None,
 };
 
-/// The reply to a call that fails with this status, without attributes. None where the status is 0, or the call has none.
+/// The reply to a call that fails with this status, without attributes. None if the status is 0, or the call has none.
 pub(crate) fn refused_by(status: u32, call: &Call) -> Option<Reply>
     ensures is { result ≡ refusals.refused_by (Some status) call.now }
     ensures spelled { IfSome result HasSpellingReply }

@@ -15,7 +15,7 @@ use xdr_codec::Memory;
 /// Why a text is no schedule.
 #[derive(Clone, Copy, Debug, PartialEq, Eq, Error)]
 pub enum ScheduleFault {
-    /// The first line that isn't of the form, counted from 1; 0 where the text has more than 1,048,576 bytes.
+    /// The first line that isn't of the form, counted from 1; 0 if the text has more than 1,048,576 bytes.
     #[error("line {0} isn't of the form of a schedule")]
     Line(u32),
     /// Out of memory.

@@ -51,7 +51,7 @@ pub(crate) struct Server {
 }
 
 impl Server {
-    /// Handles what a record from that end asks for, and gives the record of the reply, where there is one.
+    /// Handles what a record from that end asks for, and gives the record of the reply, if there is one.
     #[tactic(auto, using(crate::proofs::TurnStaysHonest::asked_serve))]
     pub(crate) fn handle(
         &mut self,
@@ -189,7 +189,7 @@ impl Server {
         Ok(())
     }
 
-    /// A reply is ready for that end, where there is one. When out of memory nothing is changed.
+    /// A reply is ready for that end, if there is one. When out of memory nothing is changed.
     pub(crate) fn make_ready(&mut self, end: u8, reply: Option<Blob>) -> Result<(), Memory>
         ensures ok { OnOk result (served self.new ≡ handling.readied (served self.old) reply) }
         ensures err { OnErr result (served self.new ≡ served self.old) }
@@ -216,7 +216,7 @@ fn reply_record(alloc: Global, xid: u32, reply: &Reply) -> Result<Blob, Memory>
     }
 }
 
-/// The record. It is Memory where it has more than 131,072 bytes, which no reply has: the client would take no such
+/// The record. It is Memory if it has more than 131,072 bytes, which no reply has: the client would take no such
 /// record.
 fn short_enough(bytes: Blob) -> Result<Blob, Memory>
     ensures same { IfOk result (λ short. short ≡ bytes) }
@@ -228,7 +228,7 @@ fn short_enough(bytes: Blob) -> Result<Blob, Memory>
     Ok(bytes)
 }
 
-/// The reply to a call: one that fails where its status is given, or else that of the export.
+/// The reply to a call: one that fails if its status is given, or else that of the export.
 fn answer(alloc: Global, export: &mut Export, manner: &Manner, call: &Call) -> Result<Reply, Memory>
     ensures after { OnOk result (export.new ≡ (handling.handled None manner.now export.old call.now).0) }
     ensures reply { IfOk result (λ reply. reply ≡ (handling.handled None manner.now export.old call.now).1) }
@@ -287,7 +287,7 @@ fn execute_at_most(
     }
 }
 
-/// A READ or WRITE of at most so many bytes. None where it is another call, which stays as it is.
+/// A READ or WRITE of at most so many bytes. None if it is another call, which stays as it is.
 fn shortened(alloc: Global, most: u32, call: &Call) -> Result<Option<Call>, Memory>
     ensures { IfOk result (λ cut. unwrap_or cut call.now ≡ handling.shortened_to most call.now) }
 {

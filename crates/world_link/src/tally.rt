@@ -45,7 +45,7 @@ impl RequestCounts {
         }
     }
 
-    /// The same, where the transmission has a name.
+    /// The same, if the transmission has a name.
     pub(crate) fn count_if(&mut self, sending: Option<RequestId>)
         ensures { self.new.counts ≡ holding.counted_if self.old.counts sending }
     {
@@ -67,7 +67,7 @@ impl RequestCounts {
         sending.k <= self.last(sending.proc)
     }
 
-    /// Which sending of the procedure was the last one; 0 where there was none.
+    /// Which sending of the procedure was the last one; 0 if there was none.
     fn last(&self, proc: u32) -> u32
         ensures { result ≡ slice_index self.now.counts proc }
     {

@@ -24,7 +24,7 @@ use crate::tally::RequestCounts;
 use export_serve::asked;
 use xdr_codec::{Blob, Memory};
 
-/// What becomes of a record: what the plan says of its name, and `nothing` where it has none or nothing is said.
+/// What becomes of a record: what the plan says of its name, and `nothing` if it has none or nothing is said.
 pub(crate) fn fate_of<'a>(plan: &'a Plan, name: Option<RequestId>, nothing: &'a Fate) -> &'a Fate
     requires { nothing.now ≡ no_fate }
     ensures { result.now ≡ turning.fate_of (shown plan.entry.now) name }

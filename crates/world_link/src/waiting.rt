@@ -6,7 +6,7 @@ use xdr_codec::Blob;
 /// A record that was sent and had no turn yet.
 #[derive(Drop)]
 pub(crate) struct Waiting {
-    /// Which sending of its procedure it is, where it is a call of NFS.
+    /// Which sending of its procedure it is, if it is a call of NFS.
     pub(crate) name: Option<RequestId>,
     pub(crate) bytes: Blob,
 }

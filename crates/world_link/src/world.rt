@@ -41,9 +41,9 @@ const LAST_DIAL: u32 = 4_294_967_295;
 /// The end of the client of a link with one end.
 const ONLY: u8 = 0;
 
-/// A link to a simulated server that does what a schedule says, and tells its history. A transmission waits for its
-/// turn, which it has when the client waits and no reply is ready. A dial fails exactly where the schedule says so, a
-/// transmission never, and waiting is silent exactly where no reply is ready and no sending is without its turn.
+/// A link to a simulated server that does what a schedule says, and tells its history. A transmission waits for its turn,
+/// which it has when the client waits and no reply is ready. A dial fails exactly if the schedule says so, and a
+/// transmission never. Waiting is silent exactly if no reply is ready and no sending is without its turn.
 #[derive(Drop)]
 pub struct World {
     alloc: Global,
@@ -154,7 +154,7 @@ impl World {
         Ok(())
     }
 
-    /// Hands out the first reply that is ready, and tells it; where none is, it is silent, and tells that at this end.
+    /// Hands out the first reply that is ready, and tells it; if none is, it is silent, and tells that at this end.
     fn hand_out(&mut self, end: u8, rec: &mut Vec<u8>) -> Received
         ensures hands { turning.Hands (seen self.old) (seen self.new) rec.new.items result }
         ensures cause { HasCauseReceived (seen self.old).faults (seen self.new).faults result }
@@ -308,7 +308,7 @@ impl Server {
         Ok(())
     }
 
-    /// The record has the name, where it has one. When out of memory nothing is changed.
+    /// The record has the name, if it has one. When out of memory nothing is changed.
     fn keep_if(&mut self, end: u8, name: Option<RequestId>, rec: &[u8]) -> Result<(), Memory>
         ensures ok { OnOk result (served self.new ≡ record (served self.old) { sent = turning.noted_as (served self.old).sent name rec.now }) }
         ensures room { self.new.told ≡ self.old.told }

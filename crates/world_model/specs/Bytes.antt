@@ -1,7 +1,7 @@
 -- What WRITE, COMMIT and SETATTR make of a list of bytes (RFC 1813, sections 3.3.2, 3.3.7 and 3.3.21).
 use Rattle.std.specs.Prelude.{ℕ, List, [], ◌∷◌, ◌++◌, ◌+◌, ◌-◌, ◌==◌, length, take, drop, replicate, if◌then◌else◌}
 
--- the list with zeros at its end, where it is shorter than that
+-- the list with zeros at its end, if it is shorter than that
 abbrev pub filled : ℕ → List ℕ → List ℕ
 filled size old = old ++ replicate (size - length old) 0
 

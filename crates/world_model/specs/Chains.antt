@@ -36,9 +36,9 @@ pub record LastCookie (rows : List PlusRow) (cookie : ℕ) : Type 0 where
   pub is : rows ≡ front ++ row ∷ []
   pub cookie_is : row.cookie ≡ cookie
 
--- Pages of the directory that came between the places x and n, and with them these entries: the first was asked from cookie
--- 0 and a verifier of eight zero bytes, each next from the last cookie and the verifier of the one before; the page after
--- them is to be asked from this cookie and verifier.
+-- Pages of the directory that came between the places x and n, and with them these entries. The first was asked from cookie
+-- 0 and a verifier of eight zero bytes. Each next one was asked from the last cookie and the verifier of the one before.
+-- The page after them is to be asked from this cookie and verifier.
 pub data Chain (h : List Entry) (x n : ℕ) (d : List ℕ) : List PlusRow → ℕ → Verf → Type 0 where
   start : (rows : List PlusRow) (cookie : ℕ) (verf : Verf) → rows ≡ [] → cookie ≡ 0 → verf ≡ zero_verf → Chain h x n d rows cookie verf
   next : (rows before page : List PlusRow) (cookie from : ℕ) (verf with_ : Verf) (attr : Option Attr) (eof : Bool) → Chain h x n d before from with_

@@ -1,4 +1,4 @@
--- What a server may answer with status 0 to a call on a file, and what the call changes (RFC 1813, section 3.3). Where
+-- What a server may answer with status 0 to a call on a file, and what the call changes (RFC 1813, section 3.3). If
 -- several outcomes are left, the server may choose.
 use Rattle.std.specs.Prelude.{◌≡◌, ◌≢◌, ◌≤◌, ◌⊎◌, ◌+◌, ℕ, Bool, true, List, length, take, Option, Some, None, ◌==◌, if◌then◌else◌, ⊤}
 use Rattle.nfs_types.specs.declared.attr.Attr.{Attr}
@@ -42,8 +42,8 @@ pub record SetsAttr (s t : Server) (f : List ℕ) (set : SetAttr) : Type 0 where
   pub turns : Turns s t f object later
   pub only : Only (λ other. other ≡ f) s t
 
--- READ, section 3.3.6: the bytes are those of the file, as many as are counted; none only where none was asked for, or
--- at the end; and the end only where they reach it
+-- READ, section 3.3.6: the bytes are those of the file, as many as are counted; none only if none was asked for, or
+-- at the end; and the end only if they reach it
 pub record ReadsBytes (s t : Server) (f : List ℕ) (offset count : ℕ) (attr : Option Attr) (counted : ℕ) (eof : Bool) (bytes : List ℕ) : Type 0 where
   pub now : List ℕ
   pub stable : List ℕ
@@ -55,7 +55,7 @@ pub record ReadsBytes (s t : Server) (f : List ℕ) (offset count : ℕ) (attr :
   pub end_ : eof ≡ true → length now ≤ offset + counted
   pub some : counted ≡ 0 → (count ≡ 0) ⊎ (eof ≡ true)
 
--- what is stable after a WRITE: the same bytes are put where it says that they are stable, else nothing
+-- what is stable after a WRITE: the same bytes are put if it says that they are stable, else nothing
 abbrev pub steady_after : ℕ → ℕ → List ℕ → List ℕ → List ℕ
 steady_after committed offset bytes stable = if committed == 0 then stable else put_at offset bytes stable
 

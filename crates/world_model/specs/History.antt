@@ -8,7 +8,7 @@ pub record History : Type 0 where
   pub entries : List Entry
   pub at : ℕ → Server
 
--- a server without objects, where nothing is known of the real one
+-- a server without objects, if nothing is known of the real one
 abbrev pub no_server : Server
 no_server = record { verf = record { 0 = replicate 8 0 }; object = λ h. None }
 

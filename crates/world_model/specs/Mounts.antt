@@ -30,11 +30,11 @@ abbrev pub Rooted : Origin → List Entry → ℕ → List ℕ → Type 0
 Rooted (Mounting path) h to root = (flavors : List ℕ) × Asked h 0 to (mount_call path) (replies.Mount (mounted.MntOk root flavors))
 Rooted (Given given) h to root = root ≡ given
 
--- the lesser of a size and the server's greatest; where that is 0, of the size and 4,096
+-- the lesser of a size and the server's greatest; if that is 0, of the size and 4,096
 abbrev pub lesser_size : ℕ → ℕ → ℕ
 lesser_size size greatest = if greatest == 0 then min size 4096 else min size greatest
 
--- The size of WRITE is the lesser of a size and the greatest that FSINFO's reply names; where FSINFO was refused or
+-- The size of WRITE is the lesser of a size and the greatest that FSINFO's reply names; if FSINFO was refused or
 -- answered badly, of that size and 4,096.
 pub data Sized (h : List Entry) (to : ℕ) (root : List ℕ) (size wsize : ℕ) : Type 0 where
   told : (attr : Option Attr) (rtmax rtpref rtmult wtmax wtpref wtmult dtpref maxfilesize : ℕ) (delta : Time) (properties : ℕ)

@@ -1,5 +1,5 @@
 -- What a server may answer with status 0 to a call on a name, and what the call changes (RFC 1813, sections 3.3.3 to
--- 3.3.15). Where several outcomes are left, the server may choose.
+-- 3.3.15). If several outcomes are left, the server may choose.
 use Rattle.std.specs.Prelude.{◌≡◌, ◌≢◌, ◌⊎◌, ℕ, false, List, [], Option, Some, None, replicate, ⊤}
 use Rattle.nfs_types.specs.declared.attr.Attr.{Attr}
 use Rattle.nfs_types.specs.declared.set_attr.SetAttr.{SetAttr}
@@ -47,7 +47,7 @@ pub record Begins (s t : Server) (h : List ℕ) (kind : ℕ) (holds : Holds) : T
   pub kind_is : new.attr.kind ≡ kind
   pub holds_is : new.holds ≡ holds
 
--- a file handle, where there is one, is that of the object
+-- a file handle, if there is one, is that of the object
 abbrev pub ShowsHandle : Option (List ℕ) → List ℕ → Type 0
 ShowsHandle None object = ⊤
 ShowsHandle (Some found) object = found ≡ object
@@ -147,7 +147,7 @@ abbrev pub HoldsMoved : Holds → Holds → Type 0
 HoldsMoved (Entries old) new = (entries : List Listed) × (new ≡ Entries entries) × SameButParent old entries
 HoldsMoved old new = new ≡ old
 
--- the object under the new name before: it lost that name, and where there was none, nothing is said
+-- the object under the new name before: it lost that name, and if there was none, nothing is said
 abbrev pub Replaced : Server → Server → List Listed → List ℕ → List ℕ → Type 0
 Replaced s t entries to h = (e : Listed) → Lists entries e → e.name ≡ to → e.object ≡ h → Loses s t h
 

@@ -34,7 +34,7 @@ pub record Leaves (name h : List ℕ) (old new : List Listed) : Type 0 where
   pub was : old ≡ before ++ record { name = name; object = h; cookie = cookie } ∷ after
   pub is : new ≡ before ++ after
 
--- The name leaves, where it is there.
+-- The name leaves, if it is there.
 pub data Clears (name : List ℕ) (old new : List Listed) : Type 0 where
   left : (h : List ℕ) → Leaves name h old new → Clears name old new
   absent : Lacks old name → new ≡ old → Clears name old new
@@ -60,7 +60,7 @@ pub record IsNamed (s : Server) (h : List ℕ) : Type 0 where
   pub own : entry.name ≢ own_name
   pub parent : entry.name ≢ parent_name
 
--- An object from which a name was taken: it holds what it held, and is gone where it has no name left.
+-- An object from which a name was taken: it holds what it held, and is gone if it has no name left.
 pub record Loses (s t : Server) (h : List ℕ) : Type 0 where
   pub old : Object
   pub new : Object

@@ -54,8 +54,8 @@ pub record LastReply (h : List Entry) (n : ℕ) (call : Call) : Type 0 where
   pub spells : SpellsCall xid call record_sent
   pub asked : sent_at < at
 
--- The last record that came before the place n answers this call, which was first sent after the place x, and spells this
--- reply to it.
+-- The last record that came before the place n answers this call, and spells this reply to it. The call was first sent
+-- after the place x.
 pub record EndsWith (h : List Entry) (x n : ℕ) (call : Call) (reply : Reply) : Type 0 where
   pub last : LastReply h n call
   pub within : x < last.sent_at

@@ -17,7 +17,7 @@ page_bytes = 4096
 abbrev pub whole_pages : ℕ → ℕ
 whole_pages size = if nat_lt page_bytes size then size / page_bytes * page_bytes else size
 
--- The size of READ is the lesser of a size and the greatest that FSINFO's reply names, in whole pages; where FSINFO was
+-- The size of READ is the lesser of a size and the greatest that FSINFO's reply names, in whole pages; if FSINFO was
 -- refused or answered badly, the lesser of that size and 4,096.
 pub data ReadSized (h : List Entry) (to : ℕ) (root : List ℕ) (size rsize : ℕ) : Type 0 where
   told : (attr : Option Attr) (rtmax rtpref rtmult wtmax wtpref wtmult dtpref maxfilesize : ℕ) (delta : Time) (properties : ℕ)

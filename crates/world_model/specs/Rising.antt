@@ -30,7 +30,7 @@ abbrev pub plus_rows : List PlusRow → List NameRow
 plus_rows rows = map (λ (row : PlusRow). record { name = row.name; cookie = row.cookie }) rows
 
 -- A page gives entries with cookies above the one that was asked from, rising, and leaves out no entry before its last; it
--- says that it is the last page only where no entry follows. Two entries of one cookie so can't be on a page.
+-- says that it is the last page only if no entry follows. Two entries of one cookie so can't be on a page.
 pub record Rises (list : List Listed) (cookie : ℕ) (rows : List NameRow) (eof : Bool) : Type 0 where
   pub above : All (λ (r : NameRow). cookie < r.cookie) rows
   pub rising : AllPairs (λ (a b : NameRow). a.cookie < b.cookie) rows

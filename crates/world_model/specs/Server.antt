@@ -51,7 +51,7 @@ pub record HasBytes (s : Server) (f : List ℕ) (now stable : List ℕ) : Type 0
 abbrev pub Lists : List Listed → Listed → Type 0
 Lists entries e = (at : ℕ) × (slice_get entries at ≡ Some e)
 
--- A directory holds this name for the object h, also where the directory itself is gone: its list stays what it was.
+-- A directory holds this name for the object h, also if the directory itself is gone: its list stays what it was.
 pub record Names (s : Server) (d name h : List ℕ) : Type 0 where
   pub dir : Object
   pub entries : List Listed

@@ -44,7 +44,7 @@ pub record Looks (s t : Server) (h : List ℕ) : Type 0 where
 
 -- ---- what replies show
 
--- attributes, where a reply has them, are those of the object
+-- attributes, if a reply has them, are those of the object
 abbrev pub TrueOf : Server → List ℕ → Option Attr → Type 0
 TrueOf s h None = ⊤
 TrueOf s h (Some attr) = (o : Object) × (s.object h ≡ Some o) × (o.attr ≡ attr)

@@ -25,7 +25,7 @@ Relates None new R = Unit {0}
 Relates (Some old) None R = ⊥
 Relates (Some old) (Some new) R = R old.entries new.entries
 
--- what is told, where a history is, is lawful
+-- what is told, if a history is, is lawful
 abbrev pub IsLawful : Option History → Type 0
 IsLawful None = Unit {0}
 IsLawful (Some t) = Lawful t

@@ -35,7 +35,7 @@ unfoldable pub shown : List ℕ → List ℕ
 shown [] = []
 shown (byte ∷ bytes) = shown_byte byte ++ shown bytes
 
--- the text after a space, and nothing where it is empty
+-- the text after a space, and nothing if it is empty
 abbrev pub spaced : List ℕ → List ℕ
 spaced [] = []
 spaced (byte ∷ bytes) = 32 ∷ byte ∷ bytes

@@ -6,10 +6,10 @@ use nfs_types::{Attr, NameList};
 use std::alloc::Global;
 use xdr_codec::{Blob, Memory};
 
-/// The value of an operation that went well.
+/// The value of an operation that succeeded.
 #[derive(Debug, Drop)]
 pub enum Value {
-    /// Nothing beside that it went well.
+    /// Nothing beside that it succeeded.
     Nothing,
     /// The bytes that were read.
     Bytes(Blob),
@@ -47,10 +47,14 @@ pub enum Fault {
     /// RPC refused a call: the accept status 1 to 5, 100 for RPC_MISMATCH, or 200 plus the auth status (RFC 5531,
     /// section 9).
     Rpc(u64),
-    /// A record under a call's xid broke this rule: 1 it isn't a reply, 2 it isn't spelled by the grammar, 3 its
-    /// `committed` isn't one that the WRITE allows, 4 it counts no bytes or more than the WRITE carried, 5 its data are
-    /// more than the READ asked for, or unlike its count, or none before the end of the file, 6 its page of a directory
-    /// has no entry and isn't the last, 7 it has more than 131,072 bytes.
+    /// A record under a call's xid broke this rule:
+    /// - 1: it isn't a reply;
+    /// - 2: it isn't spelled by the grammar;
+    /// - 3: its `committed` isn't one that the WRITE allows;
+    /// - 4: it counts no bytes or more than the WRITE carried;
+    /// - 5: its data are more than the READ asked for, or unlike its count, or none before the end of the file;
+    /// - 6: its page of a directory has no entry and isn't the last;
+    /// - 7: it has more than 131,072 bytes.
     Bad(u32),
     /// The link to the server is lost.
     Lost,
@@ -71,7 +75,7 @@ pub enum Fault {
 /// The answer to an operation.
 #[derive(Debug, Drop)]
 pub enum Answer {
-    /// It went well.
+    /// It succeeded.
     Done(Value),
     /// It was refused.
     Refused(Fault),

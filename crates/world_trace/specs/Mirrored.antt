@@ -14,7 +14,7 @@ use Rattle.trace_data.specs.declared.trace.Object.{Object}
 use Rattle.trace_data.specs.declared.trace.Updated.{Updated}
 use Rattle.trace_data.specs.Histories.{listed_of, named, object_of}
 
--- what an object holds; where there is none, an empty text
+-- what an object holds; if there is none, an empty text
 abbrev pub held_in : Option Node → model.Holds
 held_in None = model.Text []
 held_in (Some node) = held_of node.holds

@@ -26,7 +26,7 @@ may_change (calls.File call) = may_change_file call
 may_change (calls.Dir call) = may_change_dir call
 may_change (calls.Mount call) = false
 
--- The export is the wanted one. Where it didn't move it is what it was.
+-- The export is the wanted one. If it didn't move it is what it was.
 pub record Moves (moved : Bool) (old new wanted : View) : Type 0 where
   pub is : new ≡ wanted
   pub rests : moved ≡ false → new ≡ old

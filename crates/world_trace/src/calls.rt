@@ -61,7 +61,7 @@ fn is_dir_granted(reply: &DirKept) -> bool
     }
 }
 
-/// Whether a call may change an object where it is granted.
+/// Whether a call may change an object if it is granted.
 pub(crate) fn may_change(call: &Call) -> bool
     ensures { result ≡ may_change call.now }
 {

@@ -16,12 +16,12 @@ use world_link::{Broken, PartialWrite, Told, WorldLog};
 use world_model::Entry;
 use xdr_codec::Memory;
 
-/// The history of a world that is done with, with the server at each of its moments, and what is known of the client
-/// beside it: the root, the greatest lifetime of cached attributes in milliseconds, and the modes `noac` and `nocto`.
+/// The history of a world that is done with, with the server at each of its moments. Beside it stands what is known of
+/// the client: the root, the greatest lifetime of cached attributes in milliseconds, and the modes `noac` and `nocto`.
 /// Memory means out of memory, or a restart in the log that the export can't make; a world's log has none.
 ///
 /// Each entry is done once at the export of the start. After an entry that may change it, each object is compared with
-/// what was told of it last, and told anew if it is another one.
+/// what was told of it last. It is told anew if it is another one.
 pub fn trace_of(
     alloc: Global,
     log: WorldLog,

@@ -1,5 +1,5 @@
--- Two kinds of change: of what is in flight, by a reply, and of what the server has, by the verifier of a COMMIT (RFC 1813,
--- sections 3.3.7 and 4.8).
+-- Two kinds of change (RFC 1813, sections 3.3.7 and 4.8): of what is in flight, by a reply; and of what the server has, by
+-- the verifier of a COMMIT.
 use Rattle.std.specs.Prelude.{◌≡◌, ℕ, Bool, false, Some}
 use Rattle.nfs_types.specs.declared.verf.Verf.{Verf}
 use Rattle.write_back.specs.declared.state.State.{State}

@@ -1,5 +1,5 @@
--- What of a file is in flight, as pieces in order of transmission, and what is pending of a file in all (RFC 1813,
--- section 3.3.7).
+-- What of a file is in flight, as pieces in order of transmission (RFC 1813, section 3.3.7). What is pending of a
+-- file in all.
 use Rattle.std.specs.Prelude.{ℕ, ◌+◌, ◌-◌, Bool, ◌&&◌, nat_lt, nat_eq, if◌then◌else◌, List, [], ◌∷◌, length, slice_get, slice_index, Option, Some, None}
 use Rattle.std.specs.List.{list_any, sum_by}
 use Rattle.std.specs.Option.{option_map}

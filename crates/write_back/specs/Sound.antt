@@ -62,7 +62,7 @@ abbrev pub NoneBefore : ℕ → Segments → Type 0
 NoneBefore place [] = ⊤
 NoneBefore place (e ∷ es) = (is_ready e.1.state ≡ true → place ≤ e.0) × NoneBefore place es
 
--- What is pending of a file: segments share no place, nor do pieces, each of which has its own xid, and each place of a piece has its bytes or newer ones.
+-- What is pending of a file: segments share no place, nor do pieces, each of which has its own xid. Each place of a piece has its bytes or newer ones.
 pub record IsSound (of : FilePending) : Type 0 where
   pub apart : AreApart 0 of.segments
   pub sent : AreSent of.pieces

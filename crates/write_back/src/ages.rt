@@ -15,7 +15,7 @@ use xdr_codec::Memory;
 pub struct Age {
     /// The file that was written.
     pub file: Handle,
-    /// How many bytes are pending, those in flight twice where no newer byte is over them.
+    /// How many bytes are pending, those in flight twice if no newer byte is over them.
     pub bytes: u64,
 }
 
@@ -81,7 +81,7 @@ impl Ages {
         age.bytes += bytes;
     }
 
-    /// The file of the write with the least number. None exactly where there is no write.
+    /// The file of the write with the least number. None exactly if there is no write.
     pub fn first(&self) -> Option<Handle>
         ensures { TellsFirst self.now result }
     {

@@ -29,6 +29,6 @@ pub struct Piece<'a> {
     pub offset: u64,
     /// The bytes.
     pub bytes: &'a [u8],
-    /// 2 where the server has to make them stable at once, else 0 (stable_how).
+    /// 2 if the server has to make them stable at once, else 0 (stable_how).
     pub how: u32,
 }

@@ -237,7 +237,7 @@ impl SegmentMap {
     }
 }
 
-/// How many bytes of a segment count for themselves; none where there is none.
+/// How many bytes of a segment count for themselves; none if there is none.
 fn own_len_of(segment: &Option<Segment>) -> u64
     ensures len { result ≡ own_in segment.now }
     ensures small { result < 2 ^ 63 }

@@ -5,7 +5,7 @@ use Rattle.xdr_codec.specs.declared.codec_fault.CodecFault.{CodecFault}
 use Rattle.xdr_codec.specs.declared.codec_fault.CodecFault.TheVariants as faults
 use Rattle.xdr_codec.specs.Reading.{◌>>=◌, end_at}
 
--- the value, where no bytes are left after it
+-- the value, if no bytes are left after it
 abbrev pub ended : {A : Type 0} → A → List ℕ → Result A XdrFault
 ended x bytes = end_at bytes >>= λ u. Ok x
 
@@ -35,7 +35,7 @@ IsOwned (Ok x) v = x ≡ v
 IsOwned (Err faults.Memory) v = Unit {0}
 IsOwned (Err (faults.Xdr f)) v = ⊥
 
--- The same of a value with data of its own: where the bytes spell a value, it is read or memory runs out.
+-- The same of a value with data of its own: if the bytes spell a value, it is read or memory runs out.
 pub record FindsOwned {X : Type 0} (Spells : X → List ℕ → Type 0) (bytes : List ℕ) (result : Result X CodecFault) : Type 0 where
   pub found : IfOk result (λ x. Spells x bytes)
   pub only : (v : X) → Spells v bytes → IsOwned result v

@@ -60,7 +60,7 @@ impl<'a> Reader<'a> {
         are_bytes(self.rest);
     }
 
-    /// An unsigned number of four bytes (RFC 4506, section 4.2). Short exactly where fewer remain.
+    /// An unsigned number of four bytes (RFC 4506, section 4.2). Short exactly if fewer remain.
     pub fn u32(&mut self) -> Result<u32, XdrFault>
         ensures exact { Reads (λ x. x) self.old result self.new (u32_at self.old) }
         ensures spelled { Finds (λ x. x) SpellsU32 self.old result self.new }
@@ -69,7 +69,7 @@ impl<'a> Reader<'a> {
         self.word()
     }
 
-    /// An unsigned number of eight bytes (RFC 4506, section 4.5). Short exactly where fewer remain.
+    /// An unsigned number of eight bytes (RFC 4506, section 4.5). Short exactly if fewer remain.
     pub fn u64(&mut self) -> Result<u64, XdrFault>
         ensures exact { Reads (λ x. x) self.old result self.new (u64_at self.old) }
         ensures spelled { Finds (λ x. x) SpellsU64 self.old result self.new }
@@ -78,7 +78,7 @@ impl<'a> Reader<'a> {
         self.double_word()
     }
 
-    /// A bool (RFC 4506, section 4.4). Short as for a number, BadBool exactly where the word is neither 0 nor 1.
+    /// A bool (RFC 4506, section 4.4). Short as for a number, BadBool exactly if the word is neither 0 nor 1.
     pub fn flag(&mut self) -> Result<bool, XdrFault>
         ensures exact { Reads (λ x. x) self.old result self.new (flag_at self.old) }
         ensures spelled { Finds (λ x. x) SpellsFlag self.old result self.new }
@@ -88,7 +88,7 @@ impl<'a> Reader<'a> {
     }
 
     /// A fixed opaque of n bytes and its padding, which may have any value (RFC 4506, section 4.9).
-    /// Short exactly where they aren't all there.
+    /// Short exactly if they aren't all there.
     pub fn fixed(&mut self, n: usize) -> Result<&'a [u8], XdrFault>
         ensures exact { Reads (λ x. x.now) self.old result self.new (fixed_at n self.old) }
         ensures spelled { Finds (λ x. x.now) (SpellsFixed n) self.old result self.new }
@@ -98,7 +98,7 @@ impl<'a> Reader<'a> {
     }
 
     /// An opaque or a string of at most max bytes: a length, the bytes and their padding (RFC 4506, section 4.10).
-    /// TooLong exactly where the length word is there and above max; Short exactly where the length word isn't
+    /// TooLong exactly if the length word is there and above max; Short exactly if the length word isn't
     /// there, or is at most max and the rest is missing.
     pub fn opaque(&mut self, max: u32) -> Result<&'a [u8], XdrFault>
         ensures exact { Reads (λ x. x.now) self.old result self.new (opaque_at max self.old) }
@@ -108,7 +108,7 @@ impl<'a> Reader<'a> {
         self.counted(max)
     }
 
-    /// That nothing is left: Trailing exactly where bytes remain.
+    /// That nothing is left: Trailing exactly if bytes remain.
     pub fn end(&self) -> Result<(), XdrFault>
         ensures { result ≡ end_at self.now }
     {

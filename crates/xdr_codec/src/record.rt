@@ -20,7 +20,7 @@ const MOST_BYTES: usize = 0x7FFF_FFFF;
 const LAST: u32 = 0x8000_0000;
 
 /// A record that goes out. Before its bytes stands the mark with which it is one fragment of a stream of bytes (RFC 5531,
-/// section 11), so that it is sent on a stream, and sent again, without a copy. Its value is the bytes without the mark.
+/// section 11). So it is sent on a stream, and sent again, without a copy. Its value is the bytes without the mark.
 #[derive(Debug, Drop)]
 pub struct Record {
     text: Rc<Vec<u8>>,

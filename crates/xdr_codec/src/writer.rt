@@ -139,7 +139,7 @@ impl Writer {
         Blob::of(bytes)
     }
 
-    /// What was written, as a record that goes out. It is copied only where the writer wasn't made by `record`. One of 2^31
+    /// What was written, as a record that goes out. It is copied only if the writer wasn't made by `record`. One of 2^31
     /// bytes or more is a record for which there is no memory.
     pub fn finish_record(self, alloc: Global) -> Result<Record, Memory>
         ensures { IfOk result (λ r. r ≡ self) }

@@ -12,8 +12,8 @@ use Rattle.client_core.specs.declared.setup.Setup.{Setup}
 use Rattle.client_core.specs.View.{View}
 use Rattle.core_facts.specs.SlotAnswers.{GoesWith}
 
--- A truncate goes well only so: it ends with the reply, of status 0, to SETATTR of its size alone on the file that its slot held as it began (RFC 1813,
--- section 3.3.2).
+-- A truncate succeeds only so. It ends with the reply, of status 0, to SETATTR of its size alone (RFC 1813, section 3.3.2). This is on the file that
+-- its slot held as it began.
 abbrev pub TruncatesOk : Type 0
 TruncatesOk = (m : Mounted) (terms : Terms) (setup : Setup) (h : List Entry) (v : View) → GoesWith m terms setup h v
     → (lane x slot size y : ℕ) (value : Value) → Ended h lane x (Truncate slot size) y (Done value) → OkRow terms h lane x y (Truncate slot size) value

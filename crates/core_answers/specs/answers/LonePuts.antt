@@ -1,4 +1,4 @@
--- What a put shows that a record refused, where no other operation began before its answer.
+-- What a put shows that a record refused, if no other operation began before its answer.
 use Rattle.std.specs.Prelude.{◌≢◌, ℕ, List}
 use Rattle.world_model.specs.declared.answer.Answer.TheVariants.{Refused}
 use Rattle.world_model.specs.declared.answer.Fault.{Fault}

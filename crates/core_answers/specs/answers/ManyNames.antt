@@ -14,8 +14,8 @@ use Rattle.client_core.specs.View.{View}
 use Rattle.core_facts.specs.Naming.{KnowsRoot}
 use Rattle.core_facts.specs.Reaches.{Reaches}
 
--- A list is refused for too many names only so: it ends with a page of the directory to which its path leads, which follows a chain of pages that came
--- within it, and with this page they hold more than 65,536 names, `.` and `..` not counted.
+-- A list is refused for too many names only so. It ends with a page of the directory to which its path leads. This page follows a chain of pages that
+-- came within it. With this page they hold more than 65,536 names, `.` and `..` not counted.
 abbrev pub ManyShown : Type 0
 ManyShown = (m : Mounted) (setup : Setup) (h : List Entry) (v : View) → Reaches (machine_of m) setup h v → (terms : Terms) → KnowsRoot terms.origin h m.root
     → (lane x : ℕ) (path : List (List ℕ)) (y : ℕ)

@@ -16,14 +16,14 @@ use Rattle.client_core.specs.View.{View}
 use Rattle.core_facts.specs.Naming.{KnowsRoot}
 use Rattle.core_facts.specs.Reaches.{Reaches}
 
--- A put goes well only so: its last reply answers a WRITE or COMMIT of the file to which its path leads, and COMMIT of that whole file, sent since
--- the put began, was answered 0 (RFC 1813, sections 3.3.7 and 3.3.21).
+-- A put succeeds only so. Its last reply answers a WRITE or COMMIT of the file to which its path leads. COMMIT of that whole file, sent since the
+-- put began, was answered 0 (RFC 1813, sections 3.3.7 and 3.3.21).
 abbrev pub PutsShown : Type 0
 PutsShown = (m : Mounted) (setup : Setup) (h : List Entry) (v : View) → Reaches (machine_of m) setup h v → (terms : Terms) → KnowsRoot terms.origin h m.root
     → (lane x : ℕ) (path : List (List ℕ)) (offset : ℕ) (bytes : List ℕ) (y : ℕ) (value : Value) → IsNamed path
     → Ended h lane x (Put path offset bytes) y (Done value) → OkRow terms h lane x y (Put path offset bytes) value
 
--- A put is refused for the kind of its file only so: its last reply is that to GETATTR of the file to which its path leads, and says another kind
+-- A put is refused for the kind of its file only so. Its last reply is that to GETATTR of the file to which its path leads. It says another kind
 -- than 1 (RFC 1813, section 2.5, ftype3).
 abbrev pub PutKindsShown : Type 0
 PutKindsShown = (m : Mounted) (setup : Setup) (h : List Entry) (v : View) → Reaches (machine_of m) setup h v → (terms : Terms) → KnowsRoot terms.origin h m.root

@@ -13,8 +13,8 @@ use Rattle.client_core.specs.View.{View}
 use Rattle.core_facts.specs.Reaches.{Reaches}
 use Rattle.core_facts.specs.Refusing.{IsRefusedSo}
 
--- A put is refused for rule n only where a record that came since it began, for a call that was first sent since then, breaks that rule of what a
--- reply to this call has to be.
+-- A put is refused for rule n only if a record breaks that rule of what a reply to its call has to be. The record came since the put began, for a
+-- call that was first sent since then.
 abbrev pub PutRulesShown : Type 0
 PutRulesShown = (m : Mounted) (setup : Setup) (h : List Entry) (v : View) → Reaches (machine_of m) setup h v
     → (lane x : ℕ) (path : List (List ℕ)) (offset : ℕ) (bytes : List ℕ) (y n : ℕ) → IsNamed path

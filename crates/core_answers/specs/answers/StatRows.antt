@@ -14,7 +14,8 @@ use Rattle.client_core.specs.View.{View}
 use Rattle.core_facts.specs.Naming.{KnowsRoot}
 use Rattle.core_facts.specs.Reaches.{Reaches}
 
--- A stat goes well only with attributes that a reply before its answer showed of an object to which its path leads (RFC 1813, section 2.6).
+-- A stat succeeds only with attributes that a reply before its answer showed (RFC 1813, section 2.6). They are those of an object to which
+-- its path leads.
 abbrev pub StatsOk : Type 0
 StatsOk = (m : Mounted) (setup : Setup) (h : List Entry) (v : View) → Reaches (machine_of m) setup h v → (terms : Terms) → KnowsRoot terms.origin h m.root
     → (lane x : ℕ) (path : List (List ℕ)) (y : ℕ) (value : Value) → Ended h lane x (Stat path) y (Done value) → OkRow terms h lane x y (Stat path) value

@@ -26,8 +26,8 @@ use Rattle.client_core.specs.View.{View}
 use Rattle.core_facts.specs.Naming.{KnowsRoot}
 use Rattle.core_facts.specs.Reaches.{Reaches}
 
--- RENAME of the last name of the path to a hidden name in the same directory, once a LOOKUP of it gave a file, and one of the hidden name nothing:
--- NFS3ERR_NOENT, 2
+-- RENAME of the last name of the path to a hidden name in the same directory. A LOOKUP of the last name gave a file before. One of the hidden name
+-- gave nothing: NFS3ERR_NOENT, 2.
 pub record IsHiding (terms : Terms) (h : List Entry) (x i : ℕ) (path : List (List ℕ)) (call : Call) : Type 0 where
   pub d : List ℕ
   pub last : List ℕ

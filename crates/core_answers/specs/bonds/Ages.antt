@@ -49,7 +49,7 @@ pub data IsRecent (h : List Entry) (most x n : ℕ) : Type 0 where
   own : x < n → IsRecent h most x n
   young : (ms : ℕ) → HadShown h n ms → began_at h x < ms + most → IsRecent h most x n
 
--- A reply that came before the place y, to a call that was first sent at a recent place or later, showed these attributes of an object.
+-- A reply that came before the place y showed these attributes of an object. Its call was first sent at a recent place or later.
 pub record ShownRecently (h : List Entry) (most x y : ℕ) (attr : Attr) : Type 0 where
   pub object : List ℕ
   pub call : Call

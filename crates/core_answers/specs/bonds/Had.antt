@@ -1,4 +1,4 @@
--- Which attributes an object had, by what the client keeps or a stat shows, where the server is honest (RFC 1813, section 2.6: post_op_attr, wcc_data).
+-- Which attributes an object had, by what the client keeps or a stat shows, if the server is honest (RFC 1813, section 2.6: post_op_attr, wcc_data).
 use Rattle.std.specs.Prelude.{◌≡◌, ◌≤◌, ℕ, List, length, Some}
 use Rattle.attr_cache.specs.declared.kept.KeptAttr.{KeptAttr}
 use Rattle.attr_cache.specs.Attrs.{kept_of}

@@ -27,11 +27,12 @@ pub record HadBegun (h : List Entry) (n : ℕ) : Type 0 where
   pub began : At h x (Began lane line op)
   pub before : x < n
 
--- The clock showed this time before the place n; where it wasn't read before operations began, the time is 0.
+-- The clock showed this time before the place n; if it wasn't read before operations began, the time is 0.
 abbrev pub HadShown : List Entry → ℕ → ℕ → Type 0
 HadShown h n ms = ((ms ≡ 0) × HadBegun h n) ⊎ ((at : ℕ) × At h at (Clock ms) × (at < n))
 
--- Between the places from and to the call was first sent, and a record that came while it waited spells this reply to it, and no other.
+-- The call was first sent between the places from and to. A record that came there while it waited spells this reply to it, and no
+-- other.
 pub record IsAnswered (h : List Entry) (from to : ℕ) (call : Call) (reply : Reply) : Type 0 where
   pub xid : ℕ
   pub bytes : List ℕ

@@ -1,4 +1,4 @@
--- A history each of whose refusals shows its cause is one in which nothing is refused where nothing goes wrong.
+-- A history each of whose refusals shows its cause is one in which nothing is refused if nothing goes wrong.
 use Rattle.std.specs.Prelude.{ℕ, List, []}
 use Rattle.nfs_file_calls.specs.declared.call.FileCall.TheVariants.{Write}
 use Rattle.world_model.specs.declared.answer.Answer.TheVariants.{Refused}
@@ -22,6 +22,6 @@ pub record HasRows (terms : Terms) (h : List Entry) : Type 0 where
   pub numbered : Numbered h
   pub carries : (i xid : ℕ) (bytes f : List ℕ) (offset how : ℕ) → At h i (Sent bytes) → SpellsCall xid (File (Write f offset how [])) bytes → ⊥
 
--- Where nothing disturbs the session, operations then go well, or have a reason of their own why not.
+-- If nothing disturbs the session, operations then succeed, or have a reason of their own why not.
 abbrev pub RowsComplete : Type 0
 RowsComplete = (terms : Terms) (t : History) → HasRows terms t.entries → Completes terms t

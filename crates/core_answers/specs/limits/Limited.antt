@@ -22,7 +22,7 @@ abbrev pub XidsWithin : Type 0
 XidsWithin = (m : Mounted) (setup : Setup) (h : List Entry) (v : View) → Reaches (machine_of m) setup h v
     → (i xid : ℕ) (bytes : List ℕ) → At h i (Sent bytes) → HasXid bytes xid → xid < setup.first_xid + setup.limit
 
--- An operation is answered that no more calls may be made only where as many were made as may be.
+-- An operation is answered that no more calls may be made only if as many were made as may be.
 abbrev pub AllMade : Type 0
 AllMade = (m : Mounted) (setup : Setup) (h : List Entry) (v : View) → Reaches (machine_of m) setup h v
     → (lane x : ℕ) (op : Op) (y : ℕ) → Ended h lane x op y (Refused Spent) → v.calls.made ≡ setup.limit
@@ -33,7 +33,7 @@ AllSent = (m : Mounted) (setup : Setup) (h : List Entry) (v : View) → Reaches 
     → (lane x : ℕ) (op : Op) (y : ℕ) → Ended h lane x op y (Refused Spent) → WereSent v.calls.calls
     → (xid : ℕ) → setup.first_xid ≤ xid → xid < setup.first_xid + setup.limit → WasSent h xid (length h)
 
--- Where a record was sent under each of so many xids from a first one on, and under no other, so many calls were made.
+-- If a record was sent under each of so many xids from a first one on, and under no other, so many calls were made.
 abbrev pub CallsAreAll : Type 0
 CallsAreAll = (h : List Entry) (first calls : ℕ) → ((i xid : ℕ) (bytes : List ℕ) → At h i (Sent bytes) → HasXid bytes xid → (first ≤ xid) × (xid < first + calls))
     → ((xid : ℕ) → first ≤ xid → xid < first + calls → WasSent h xid (length h)) → calls_in h ≡ calls

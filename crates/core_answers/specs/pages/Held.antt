@@ -42,7 +42,7 @@ pub record ReadHeld (machine_of : ℕ → Op → Machine) (setup : Setup) (modes
   pub held : (k v : ℕ) → slice_get server k ≡ Some v → IsHeld t x y file (offset + k) v
   pub each : (k v : ℕ) → slice_get bytes k ≡ Some v → IsShown machine_of setup (take y t.entries) x file server k (offset + k) v
 
--- Each answer to a read is so, where the pages that were kept from the start are true.
+-- Each answer to a read is so, if the pages that were kept from the start are true.
 abbrev pub ReadsHeld : Type 0
 ReadsHeld = (m : Mounted) (terms : Terms) (setup : Setup) (t : History) (v : View) → GoesWith m terms setup t.entries v → Lawful t → Fresh t → GivenTrue setup.pages t
     → (lane x slot offset count y : ℕ) (bytes : List ℕ) → Ended t.entries lane x (Read slot offset count) y (Done (values.Bytes bytes))

@@ -22,8 +22,8 @@ use Rattle.core_facts.specs.Reaches.{Reaches}
 use Rattle.core_answers.specs.bonds.Kept.{IsAnswered}
 use Rattle.law_reads.specs.Kept.{Leads}
 
--- A READ of the file that began at the page or before it was answered with these bytes of it, under the stamp that stands beside them. They fill
--- the page, or the READ reached the file's end.
+-- A READ of the file that began at the page or before it was answered with these bytes of the page. The stamp stands beside them in the reply. They fill the
+-- page, or the READ reached the file's end.
 pub record WasRead (h : List Entry) (file : List ℕ) (stamp : Stamp) (index : ℕ) (bytes : List ℕ) : Type 0 where
   pub offset : ℕ
   pub count : ℕ
@@ -55,8 +55,11 @@ pub record WasCut (h : List Entry) (file : List ℕ) (size : ℕ) (old new : Sta
   pub is : set.size ≡ Some size
   pub leads : Leads wcc old new
 
--- So a page of a file is known under a stamp: it was kept from the start, under this stamp; a READ gave it; or it was known under the stamp before a WRITE or a
--- SETATTR of this client whose reply leads to this stamp, and has the bytes that were written, or the size, since.
+-- So a page of a file is known under a stamp:
+-- - it was kept from the start, under this stamp;
+-- - a READ gave it;
+-- - it was known under another stamp, and the reply to a WRITE or a SETATTR of this client leads from that to this one. It has the bytes that were written, or
+--   the size, since.
 pub data IsPage (first : Pages) (h : List Entry) (file : List ℕ) : Stamp → ℕ → List ℕ → Type 0 where
   from_start : (stamp : Stamp) (index : ℕ) (bytes : List ℕ) → page_of file index first ≡ Some bytes → known_of file first ≡ Some stamp
       → length bytes ≤ 4096 → IsPage first h file stamp index bytes
@@ -72,7 +75,7 @@ pub record IsKeptFrom (first : Pages) (h : List Entry) (c : Pages) (file : List 
   pub known : known_of file c ≡ Some stamp
   pub page : IsPage first h file stamp index bytes
 
--- the same where nothing was kept from the start: a READ gave the page, and this client wrote and cut it since
+-- the same if nothing was kept from the start: a READ gave the page, and this client wrote and cut it since
 abbrev pub IsKept : List Entry → Pages → List ℕ → ℕ → List ℕ → Type 0
 IsKept h c file index bytes = IsKeptFrom nothing_kept h c file index bytes
 

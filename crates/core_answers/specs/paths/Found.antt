@@ -25,8 +25,8 @@ pub record GoesHonestly (m : Mounted) (setup : Setup) (modes : Modes) (origin : 
   pub root : KnowsRoot origin t.entries m.root
   pub reached : Reaches (machine_of m) setup t.entries v
 
--- The file of an open that went well stood under the last name of its path at a moment of the open, in a directory to which the names before it lead
--- by what directories held at recent moments.
+-- The file of an open that succeeded stood under the last name of its path at a moment of the open. The names before it lead to its directory, by
+-- what directories held at recent moments.
 abbrev pub OpensFound : Type 0
 OpensFound = (m : Mounted) (setup : Setup) (modes : Modes) (origin : Origin) (t : History) (v : View) → GoesHonestly m setup modes origin t v
     → (lane slot x y : ℕ) (f : List ℕ) (o : Opens modes t.entries lane slot x y f) → FoundByName modes origin t x y o.path f

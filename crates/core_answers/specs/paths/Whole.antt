@@ -9,8 +9,8 @@ use Rattle.client_core.specs.declared.setup.Setup.{Setup}
 use Rattle.client_core.specs.View.{View}
 use Rattle.core_answers.specs.paths.Found.{GoesHonestly}
 
--- A list shows names in byte order, each once, of which the directory to which its path leads held each at a moment of the list; and each name that it
--- held all the while is among them.
+-- A list shows names in byte order, each once. The directory to which its path leads held each of them at a moment of the list. Each name that it held
+-- all the while is among them.
 abbrev pub ListsWhole : Type 0
 ListsWhole = (m : Mounted) (setup : Setup) (modes : Modes) (origin : Origin) (t : History) (v : View) → GoesHonestly m setup modes origin t v → Rising t
     → ListTrue modes origin t

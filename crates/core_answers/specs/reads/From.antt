@@ -29,7 +29,7 @@ pub data IsFrom (modes : Modes) (h : List Entry) (file server : List ℕ) (k pla
   by_server : slice_get server k ≡ Some v → IsFrom modes h file server k place v
   by_end : v ≡ 0 → length server ≤ k → IsFrom modes h file server k place v
 
--- The answer of a read of the file that its slot holds: each byte is from there, and what the server was found to have, from the offset on, is what kept
+-- The answer of a read of the file that its slot holds: each byte is from there. What the server was found to have, from the offset on, is what kept
 -- pages have and what the read's own READs gave.
 pub record ReadGivenFrom (first : Pages) (modes : Modes) (h : List Entry) (x : ℕ) (op : Op) (offset : ℕ) (bytes : List ℕ) : Type 0 where
   pub file : List ℕ
@@ -38,7 +38,7 @@ pub record ReadGivenFrom (first : Pages) (modes : Modes) (h : List Entry) (x : �
   pub found : (k v : ℕ) → slice_get server k ≡ Some v → IsFound first h x file (offset + k) v
   pub each : (k v : ℕ) → slice_get bytes k ≡ Some v → IsFrom modes h file server k (offset + k) v
 
--- the same where no page was kept from the start
+-- the same if no page was kept from the start
 abbrev pub ReadGiven : Modes → List Entry → ℕ → Op → ℕ → List ℕ → Type 0
 ReadGiven modes h x op offset bytes = ReadGivenFrom nothing_kept modes h x op offset bytes
 
@@ -56,8 +56,7 @@ pub record ReadFrom (modes : Modes) (t : History) (x y : ℕ) (op : Op) (offset 
   pub held : (k v : ℕ) → slice_get server k ≡ Some v → IsHeld t x y file (offset + k) v
   pub each : (k v : ℕ) → slice_get bytes k ≡ Some v → IsFrom modes (take y t.entries) file server k (offset + k) v
 
--- Each answer to a read is so, where the server is honest and gives each change of a file another stamp, and the pages that were kept from the
--- start are true.
+-- Each answer to a read is so, if the server is honest and gives each change of a file another stamp. The pages that were kept from the start are true.
 abbrev pub ReadsFrom : Type 0
 ReadsFrom = (m : Mounted) (terms : Terms) (setup : Setup) (t : History) (v : View) → GoesWith m terms setup t.entries v → Lawful t → Fresh t → GivenTrue setup.pages t
     → (lane x slot offset count y : ℕ) (bytes : List ℕ) → Ended t.entries lane x (Read slot offset count) y (Done (values.Bytes bytes))

@@ -22,7 +22,7 @@ use Rattle.client_core.specs.View.{View}
 use Rattle.core_facts.specs.Naming.{KnowsRoot}
 use Rattle.core_facts.specs.Reaches.{Reaches}
 
--- A list goes well only so: it ends with the last page of the directory to which its path leads, and its names are those of a chain of pages of that
+-- A list succeeds only so. It ends with the last page of the directory to which its path leads. Its names are those of a chain of pages of that
 -- directory, from the first on, which came within it.
 abbrev pub ListsShown : Type 0
 ListsShown = (m : Mounted) (setup : Setup) (h : List Entry) (v : View) → Reaches (machine_of m) setup h v → (terms : Terms) → KnowsRoot terms.origin h m.root

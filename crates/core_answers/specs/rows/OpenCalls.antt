@@ -20,8 +20,8 @@ use Rattle.client_core.specs.View.{View}
 use Rattle.core_facts.specs.Naming.{KnowsRoot}
 use Rattle.core_facts.specs.Reaches.{Reaches}
 
--- The record at the place i is a call, with the session's credential, of an operation that is under way; an open of a path with a name asks for
--- it: it is the LOOKUP of a name of its path, CREATE of the last one where the open makes its file, or GETATTR of the file.
+-- The record at the place i is a call, with the session's credential, of an operation that is under way. An open of a path with a name asks for
+-- it: it is the LOOKUP of a name of its path; CREATE of the last one, if the open makes its file; or GETATTR of the file.
 pub record IsMadeForOpen (terms : Terms) (cred : Cred) (h : List Entry) (i : ℕ) (bytes : List ℕ) : Type 0 where
   pub xid : ℕ
   pub call : Call

@@ -22,7 +22,7 @@ IsOnSlot (Sync slot) = Unit {0}
 IsOnSlot (Close slot) = Unit {0}
 IsOnSlot op = ⊥
 
--- Where one of them goes well, the history shows its row.
+-- If one of them succeeds, the history shows its row.
 abbrev pub SlotRowsShown : Type 0
 SlotRowsShown = (m : Mounted) (terms : Terms) (setup : Setup) (h : List Entry) (v : View) → GoesWith m terms setup h v
     → (lane x y : ℕ) (op : Op) (value : Value) → IsOnSlot op → Ended h lane x op y (Done value) → OkRow terms h lane x y op value

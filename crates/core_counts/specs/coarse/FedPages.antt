@@ -1,5 +1,5 @@
 -- The machine of kept pages: how a page cache goes on along a history (RFC 1813, sections 3.3.2, 3.3.6 and 3.3.7). Its steps are those by which a cache of
--- law_pages is fed, and one more: a file's pages are dropped where no reply tells to which state a change of it led.
+-- law_pages is fed, and one more: a file's pages are dropped if no reply tells to which state a change of it led.
 use Rattle.std.specs.Prelude.{◌≡◌, ℕ, List, [], Some, None, take}
 use Rattle.nfs_types.specs.declared.wcc.Stamp.{Stamp}
 use Rattle.nfs_types.specs.declared.wcc.Wcc.{Wcc}

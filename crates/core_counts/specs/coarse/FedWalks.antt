@@ -1,4 +1,4 @@
--- How operations walk: through each name by a LOOKUP of their own, or by a name that is kept, as the machine of model_walks does (RFC 1813, section 3.3.3;
+-- How operations walk, as the machine of model_walks does: through each name by a LOOKUP of their own, or by a name that is kept (RFC 1813, section 3.3.3;
 -- nfs(5), acregmin to acdirmax).
 use Rattle.std.specs.Prelude.{◌≡◌, ◌<◌, ◌≤◌, ◌-◌, ℕ, List, [], ◌∷◌, ◌++◌, length, take, Option, Some, slice_get}
 use Rattle.nfs_types.specs.declared.attr.Attr.{Attr}

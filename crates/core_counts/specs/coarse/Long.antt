@@ -1,4 +1,4 @@
--- WRITEs are long: as one is made it has as many bytes as a WRITE may have, or its bytes don't go on where it ends (RFC 1813, section 3.3.7).
+-- WRITEs are long (RFC 1813, section 3.3.7). As one is made it has as many bytes as a WRITE may have, or its bytes don't go on where it ends.
 use Rattle.std.specs.Prelude.{◌≡◌, ◌≢◌, ◌<◌, ◌≤◌, ◌⊎◌, ◌+◌, ℕ, List, false, length, Some, None}
 use Rattle.nfs_file_calls.specs.declared.call.FileCall.TheVariants as files
 use Rattle.rpc_retry.specs.declared.waiting.Waiting.{Waiting}
@@ -25,7 +25,7 @@ pub data Stops (of : FilePending) (low next how : ℕ) : Type 0 where
       → (((place : ℕ) (other : Cell) → next ≤ place → rest_at of place ≡ Some other → other.number ≡ cell.number → fly_at of place ≡ None) → ⊥)
       → Stops of low next how
 
--- Each WRITE that waits under an xid from this one on has as many bytes as a WRITE may have, or they don't go on where it ends.
+-- Each WRITE that waits under an xid from this one on has as many bytes as a WRITE may have. Or these bytes don't go on where it ends.
 abbrev pub MakesLong : Setup → ℕ → View → Type 0
 MakesLong setup first v = (x : ℕ) (w : Waiting Purpose) (file : List ℕ) (offset how : ℕ) (bytes : List ℕ) → first ≤ x → waiting_at x v.calls.calls ≡ Some w
     → SpellsCallBy setup.cred x (calls.File (files.Write file offset how bytes)) w.bytes

@@ -1,5 +1,5 @@
--- The machine of written bytes (`model_writes`), as far as it speaks of bytes and calls: of each place the pending byte and the one in flight, and
--- the calls that wait under their xids (RFC 1813, sections 3.3.7, 3.3.21 and 4.8). Its lanes and slots aren't looked at.
+-- The machine of written bytes (`model_writes`), as far as it speaks of bytes and calls (RFC 1813, sections 3.3.7, 3.3.21 and 4.8). It has of each
+-- place the pending byte and the one in flight, and the calls that wait under their xids. Its lanes and slots aren't looked at.
 use Rattle.std.specs.Prelude.{◌≡◌, ◌<◌, ◌⊎◌, ℕ, List, Some, None}
 use Rattle.model_writes.specs.Machine.{Cell, Flight, View, SameCalls, SamePlaces, NewCall, Took, Renews}
 use Rattle.model_writes.specs.Story.{File, Spot, Call, write, commit, resize, plain, Reply}

@@ -47,7 +47,7 @@ pub record Shown (setup : Setup) (v : View) (c : coarse.View) : Type 0 where
   pub places : Shows v.shelf.back c
   pub calls : ShownCalls setup v.calls c
 
--- what a record says of the call that it answers; where no reply is read from it, the call was denied
+-- what a record says of the call that it answers; if no reply is read from it, the call was denied
 abbrev pub heard_as : story.Call → Result Reply Fault → story.Reply
 heard_as call (Ok reply) = reply_of call reply
 heard_as call (Err fault) = story.denied

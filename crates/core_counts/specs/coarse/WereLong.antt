@@ -23,8 +23,8 @@ use Rattle.core_counts.specs.coarse.Runs.{Runs}
 abbrev pub write_call : List ℕ → ℕ → ℕ → List ℕ → Call
 write_call file offset how bytes = calls.File (files.Write file offset how bytes)
 
--- There was a moment, at the place n of the history or before it, after the step that made this WRITE (if a busy server answered it, it may be sent under
--- another xid now). It had as many bytes as a WRITE may have, or they didn't go on where it ends.
+-- There was a moment after the step that made this WRITE, at the place n of the history or before it. Then it had as many bytes as a WRITE may have, or
+-- they didn't go on where it ends. If a busy server answered it, it may be sent under another xid now.
 pub record WasLong (m : Mounted) (setup : Setup) (h : List Entry) (n : ℕ) (file : List ℕ) (offset how : ℕ) (bytes : List ℕ) : Type 0 where
   pub before : List Entry
   pub after : List Entry

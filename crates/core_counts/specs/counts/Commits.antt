@@ -10,7 +10,7 @@ use Rattle.client_core.specs.View.{View}
 use Rattle.core_facts.specs.Notes.{Notes}
 use Rattle.core_session.specs.calls.Whole.{GoesFrom}
 
--- Two for each sync, close and put of the file; and where writes may have waited for room, 32 for each write, fill and put.
+-- Two for each sync, close and put of the file; and if writes may have waited for room, 32 for each write, fill and put.
 abbrev pub FewCommitsMade : Type 0
 FewCommitsMade = (m : Mounted) (terms : Terms) (setup : Setup) (before h : List Entry) (v : View) → GoesFrom m terms setup before h v
     → Notes (machine_of m) setup h v → (f : List ℕ) → FewCommits terms h f

@@ -11,7 +11,7 @@ use Rattle.client_core.specs.View.{View}
 use Rattle.core_facts.specs.Notes.{Notes}
 use Rattle.core_session.specs.calls.Whole.{GoesFrom}
 
--- Of a session that was set up and follows a script, in which no record is sent or received while an answer is ready that wasn't noted.
+-- Of a session that was set up and follows a script. No record is sent or received in it while an answer is ready that wasn't noted.
 abbrev pub FewHiddenMade : Type 0
 FewHiddenMade = (m : Mounted) (terms : Terms) (setup : Setup) (before h : List Entry) (v : View) → GoesFrom m terms setup before h v
     → Notes (machine_of m) setup h v → (script : List Entry) → Follows script h → FewHidden script h

@@ -9,7 +9,7 @@ use Rattle.client_core.specs.View.{View}
 use Rattle.core_session.specs.calls.Whole.{GoesFrom}
 use Rattle.page_cache.specs.Pages.{nothing_kept}
 
--- Where all operations are of one lane, no READ is sent for a page that a READ gave, while nothing shows that the file changed, and none was kept
+-- If all operations are of one lane, no READ is sent for a page that a READ gave, while nothing shows that the file changed. No page was kept
 -- from the start.
 abbrev pub KeptOnce : Type 0
 KeptOnce = (m : Mounted) (terms : Terms) (setup : Setup) (before h : List Entry) (v : View) → GoesFrom m terms setup before h v

@@ -9,8 +9,8 @@ use Rattle.client_core.specs.View.{View}
 use Rattle.core_session.specs.calls.Whole.{GoesFrom}
 use Rattle.page_cache.specs.Pages.{nothing_kept}
 
--- Each READ asks for as many bytes as it may, or up to the end of the last page of a read under way, or up to a page that an earlier READ met, where no page
--- was kept from the start.
+-- If no page was kept from the start, each READ asks for as many bytes as it may; or up to the end of the last page of a read under way; or up to a page
+-- that an earlier READ met.
 abbrev pub ReadsLong : Type 0
 ReadsLong = (m : Mounted) (terms : Terms) (setup : Setup) (before h : List Entry) (v : View) → GoesFrom m terms setup before h v
     → setup.pages ≡ nothing_kept → LongReads terms h

@@ -1,4 +1,4 @@
--- For which pages READs are sent where all operations are of one lane (RFC 1813, section 3.3.6).
+-- For which pages READs are sent if all operations are of one lane (RFC 1813, section 3.3.6).
 use Rattle.std.specs.Prelude.{◌≡◌, ◌++◌, ℕ, List, length, None}
 use Rattle.page_cache.specs.Pages.{page_of}
 use Rattle.world_model.specs.declared.entry.Entry.{Entry}

@@ -48,8 +48,8 @@ pub record ShortPutWrite (setup : Setup) (h : List Entry) (i x : ℕ) (f : List 
   pub some : 1 ≤ length data_
   pub short : length data_ < setup.wsize
 
--- Where all operations are of one lane, and all writers together write no more bytes than a session holds back, a WRITE of the file that was sent earlier
--- covers the place behind it.
+-- A WRITE of the file that was sent earlier covers the place behind it. That is so if all operations are of one lane, and all writers together write no more
+-- bytes than may be dirty at once.
 abbrev pub PutWritesLong : Type 0
 PutWritesLong = (m : Mounted) (setup : Setup) (h : List Entry) (v : View) → Notes (machine_of m) setup h v → OneLane h → NeverFull h
     → (i x end : ℕ) (f : List ℕ) → ShortPutWrite setup h i x f end → CoveredEarlier h i f (end + 1)
@@ -87,8 +87,8 @@ NotAsStable of place = (cell : Cell) → rest_at of place ≡ Some cell → how_
 abbrev pub OfSlot : Op → ℕ → Type 0
 OfSlot op slot = (op ≡ ops.Sync slot) ⊎ (op ≡ ops.Close slot)
 
--- As the operation at the place x began, which is of a slot of the file, the core had no byte behind that place which waited so, or one of the place itself
--- that was to be sent as stable.
+-- The operation at the place x is of a slot of the file. As it began, the core had no byte behind that place which waited so; or a byte of the place itself
+-- was to be sent as stable.
 pub record BeganOtherwise (m : Mounted) (setup : Setup) (h : List Entry) (x : ℕ) (f : List ℕ) (end : ℕ) : Type 0 where
   pub before : List Entry
   pub after : List Entry
@@ -108,7 +108,7 @@ pub record BeganOtherwise (m : Mounted) (setup : Setup) (h : List Entry) (x : �
   pub idle : (n : ℕ) (l : Lane) → slice_get view.lanes n ≡ Some l → ⊥
   pub other : NotAsStable (of_file f view.shelf.back) end → WaitsPlain (of_file f view.shelf.back) (end + 1) → ⊥
 
--- Where all operations are of one lane, a WRITE of the file that was sent earlier covers the place behind it; or as the operation began it was
+-- If all operations are of one lane, a WRITE of the file that was sent earlier covers the place behind it; or as the operation began it was
 -- otherwise.
 abbrev pub SavedWritesLong : Type 0
 SavedWritesLong = (m : Mounted) (setup : Setup) (h : List Entry) (v : View) → Notes (machine_of m) setup h v → OneLane h
@@ -125,7 +125,7 @@ pub data WritesBoth (op : Op) (slot end : ℕ) : Type 0 where
       → WritesBoth op slot end
   fill : (offset count byte : ℕ) → op ≡ ops.Fill slot offset count byte → offset ≤ end → end + 1 < offset + count → WritesBoth op slot end
 
--- The write or fill at the place w, of the same slot, went well before the sync or close began. It wrote the place of the WRITE's last byte and the one behind
+-- The write or fill at the place w, of the same slot, succeeded before the sync or close began. It wrote the place of the WRITE's last byte and the one behind
 -- it. From then on only writes and fills began before the sync or close.
 pub record ShortWrittenWrite (setup : Setup) (h : List Entry) (i x w : ℕ) (f : List ℕ) (end : ℕ) : Type 0 where
   pub saved : ShortSavedWrite setup h i x f end
@@ -139,8 +139,8 @@ pub record ShortWrittenWrite (setup : Setup) (h : List Entry) (i x w : ℕ) (f :
   pub before : y < x
   pub only : (j lane line : ℕ) (o : Op) → At h j (Began lane line o) → w < j → j < x → IsWrite o
 
--- Where all operations are of one lane, and all writers together write no more bytes than a session holds back, a WRITE of the file that was sent earlier
--- covers the place behind it.
+-- A WRITE of the file that was sent earlier covers the place behind it. That is so if all operations are of one lane, and all writers together write no more
+-- bytes than may be dirty at once.
 abbrev pub WrittenWritesLong : Type 0
 WrittenWritesLong = (m : Mounted) (setup : Setup) (h : List Entry) (v : View) → Notes (machine_of m) setup h v → OneLane h → NeverFull h
     → (i x w end : ℕ) (f : List ℕ) → ShortWrittenWrite setup h i x w f end → CoveredEarlier h i f (end + 1)

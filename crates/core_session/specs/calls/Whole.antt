@@ -52,7 +52,7 @@ pub record GoesFrom (m : Mounted) (terms : Terms) (setup : Setup) (before h : Li
 
 -- ---- its calls
 
--- The record at the place i is a call of an operation that is under way, of which it isn't said that the operation asks for it.
+-- The record at the place i is a call of an operation that is under way. That this operation asks for it isn't said.
 pub record IsCausedBeside (terms : Terms) (h : List Entry) (i : ℕ) (bytes : List ℕ) : Type 0 where
   pub xid : ℕ
   pub call : Call
@@ -83,7 +83,7 @@ abbrev pub WritesCarryBytes : Type 0
 WritesCarryBytes = (m : Mounted) (terms : Terms) (setup : Setup) (before h : List Entry) (v : View) → GoesFrom m terms setup before h v
     → (i xid : ℕ) (bytes f : List ℕ) (offset how : ℕ) → At h i (Sent bytes) → SpellsCall xid (calls.File (files.Write f offset how [])) bytes → ⊥
 
--- Where each operation asks for such calls too, each call was asked for.
+-- If each operation asks for such calls too, each call was asked for.
 abbrev pub BesideAsked : Terms → List Entry → Type 0
 BesideAsked terms h = (lane x i : ℕ) (op : Op) (call : Call) → UnderWay h lane x i op → IsBeside terms h x i op call → Asks terms h x i op call
 

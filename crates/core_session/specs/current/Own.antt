@@ -11,8 +11,8 @@ use Rattle.core_facts.specs.SlotAnswers.{GoesWith}
 use Rattle.core_answers.specs.bonds.Kept.{LastAtMost}
 use Rattle.core_session.specs.current.Read.{OwnShown}
 
--- Of a read that goes well, by the history until then: what is pending of its range as it ends is in its answer, and so is what was pending as it began, where
--- nothing is pending at the end. (That a byte which was written before is still pending then isn't said.)
+-- Of a read that succeeds, by the history until then: what is pending of its range as it ends is in its answer. So is what was pending as it began, if nothing
+-- is pending at the end. (That a byte which was written before is still pending then isn't said.)
 abbrev pub PendingRead : Type 0
 PendingRead = (m : Mounted) (terms : Terms) (setup : Setup) (h : List Entry) (v : View) → GoesWith m terms setup h v → m.noac ≡ terms.modes.noac
     → (terms.modes.nocto ≡ true → LastAtMost setup.lives terms.modes.longest)

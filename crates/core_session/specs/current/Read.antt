@@ -24,8 +24,9 @@ use Rattle.core_answers.specs.pages.Passing.{Passes}
 use Rattle.core_answers.specs.pages.Read.{WasPending}
 use Rattle.core_session.specs.current.Seen.{IsSeen, SeenFrom, WasRegular}
 
--- The stamp was shown since each open of the file that went well in a part of the history which goes on at least to the place x (or since the time for which
--- it may go by what is kept), and that the file is a regular one; and where each read asks for attributes anew, since the one that began at x.
+-- By a part of the history which goes on at least to the place x, the stamp is recent. It was shown since each open of the file that succeeded there; or
+-- since the time for which the open may go by what is kept. It was shown, too, that the file is a regular one. If each read asks for attributes anew, the
+-- stamp was shown since the read that began at x.
 pub record RecentThen (modes : Modes) (h : List Entry) (x : ℕ) (file : List ℕ) (stamp : Stamp) : Type 0 where
   pub before : List Entry
   pub after : List Entry
@@ -67,7 +68,7 @@ pub record WasPast (machine_of : ℕ → Op → Machine) (setup : Setup) (h : Li
   pub there : newest_at (of_file file view.shelf.back).segments q ≡ Some byte
   pub clear : newest_at (of_file file view.shelf.back).segments place ≡ None
 
--- A byte of an answer, the k-th: it was pending; or it is what the server was found to have; or it is a zero, past the end of that, where a byte was
+-- A byte of an answer, the k-th: it was pending; or it is what the server was found to have; or it is a zero, past the end of that, if a byte was
 -- pending past it.
 pub data IsShown (machine_of : ℕ → Op → Machine) (setup : Setup) (h : List Entry) (x : ℕ) (file server : List ℕ) (k place v : ℕ) : Type 0 where
   own : WasPending machine_of setup h x file place v → IsShown machine_of setup h x file server k place v
@@ -95,7 +96,7 @@ pub record OwnShown (machine_of : ℕ → Op → Machine) (setup : Setup) (h : L
   pub then_ : (k v : ℕ) → k < count → pending_in last.view file (offset + k) ≡ None → pending_in first.view file (offset + k) ≡ Some v
       → slice_get bytes k ≡ Some v
 
--- The answer of a read of so many bytes of the file that its slot holds: each byte is so, of what the server was found to have from the offset on. Where that
+-- The answer of a read of so many bytes of the file that its slot holds: each byte is so, of what the server was found to have from the offset on. If that
 -- is less than was asked for, the file was found to end there, and the answer is no shorter.
 pub record ReadShown (machine_of : ℕ → Op → Machine) (setup : Setup) (modes : Modes) (h : List Entry) (x : ℕ) (op : Op) (offset count : ℕ) (bytes : List ℕ)
     : Type 0 where

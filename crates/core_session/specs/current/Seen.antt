@@ -1,4 +1,4 @@
--- Which stamps of a file the server showed since a moment, and which the client knows so of the files that it opened (RFC 1813, section 2.6).
+-- Which stamps of a file the server showed since a moment (RFC 1813, section 2.6). Which of them the client knows so, of the files that it opened.
 use Rattle.std.specs.Prelude.{◌≡◌, ◌<◌, ◌≤◌, ◌+◌, ◌⊎◌, ℕ, true, false, List, length, Some}
 use Rattle.nfs_types.specs.declared.attr.Attr.{Attr}
 use Rattle.nfs_types.specs.declared.wcc.Stamp.{Stamp}
@@ -38,8 +38,8 @@ pub record WasRegular (h : List Entry) (file : List ℕ) : Type 0 where
   pub shows : ShowsAttr call reply file attr
   pub kind : attr.kind ≡ 1
 
--- Where an open may go by attributes that are kept: by the place after s the clock had shown a time that was less than the longest keeping before the one
--- at which the open began (nfs(5), nocto).
+-- If an open may go by attributes that are kept (nfs(5), nocto): the clock had shown a time by the place after s. This was less than the longest keeping
+-- before the time at which the open began.
 pub record IsAged (modes : Modes) (h : List Entry) (o s : ℕ) : Type 0 where
   pub may : modes.nocto ≡ true
   pub ms : ℕ
@@ -53,7 +53,7 @@ pub record SeenFrom (modes : Modes) (h : List Entry) (o : ℕ) (file : List ℕ)
   pub seen : IsSeen h s file stamp
   pub age : (s ≡ o) ⊎ IsAged modes h o s
 
--- Of each file that it opened the client knows no stamp that wasn't shown since that open began; or, where opens may go by attributes that are kept, since
+-- Of each file that it opened the client knows no stamp that wasn't shown since that open began; or, if opens may go by attributes that are kept, since
 -- a time for which these are kept.
 abbrev pub KnownSeen : Type 0
 KnownSeen = (m : Mounted) (terms : Terms) (setup : Setup) (h : List Entry) (v : View) → GoesWith m terms setup h v

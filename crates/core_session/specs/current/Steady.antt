@@ -23,14 +23,14 @@ pub record HasByte (t : History) (n : ℕ) (file : List ℕ) (place b : ℕ) : T
   pub has : HasBytes (t.at n) file now stable
   pub holds : slice_get now place ≡ Some b
 
--- The file has the byte at each moment of which the read may show bytes, and no operation of this client that began before the answer gave another to its
+-- The file has the byte at each moment of which the read may show bytes. No operation of this client that began before the answer gave another to its
 -- place.
 pub record IsSteady (modes : Modes) (t : History) (x y o : ℕ) (file : List ℕ) (place b : ℕ) : Type 0 where
   pub held : (n : ℕ) → Since modes t.entries x o n → n ≤ y → HasByte t n file place b
   pub alone : (u : ℕ) → IsWritten modes (take y t.entries) file place u → u ≡ b
 
--- Each such byte of the range is in the answer, where the server is honest and gives each change of a file another stamp, and the pages that were kept
--- from the start are true.
+-- Each such byte of the range is in the answer, if the server is honest and gives each change of a file another stamp. The pages that were kept from the
+-- start are true.
 abbrev pub SteadyRead : Type 0
 SteadyRead = (m : Mounted) (terms : Terms) (setup : Setup) (t : History) (v : View) → GoesWith m terms setup t.entries v → m.noac ≡ terms.modes.noac
     → (terms.modes.nocto ≡ true → KeepsBriefly terms.modes setup t.entries) → Lawful t → Fresh t → GivenTrue setup.pages t
@@ -43,7 +43,7 @@ pub record IsStable (modes : Modes) (t : History) (e y : ℕ) (file : List ℕ) 
   pub stays : (p : ℕ) → e < p → p ≤ y → HoldsStable (t.at p) file place b
   pub alone : (u : ℕ) → IsWritten modes (take y t.entries) file place u → u ≡ b
 
--- Such a byte is in the answer of each read by an open that began after e, in a session in which each open asks for attributes anew.
+-- Such a byte is in the answer of each read by an open that began after e. In this session each open asks for attributes anew.
 abbrev pub StableRead : Type 0
 StableRead = (m : Mounted) (terms : Terms) (setup : Setup) (t : History) (v : View) → GoesWith m terms setup t.entries v → m.noac ≡ terms.modes.noac
     → terms.modes.nocto ≡ false → Lawful t → Fresh t → GivenTrue setup.pages t

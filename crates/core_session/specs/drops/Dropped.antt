@@ -1,5 +1,5 @@
--- What a history and the core's view show once a close that was refused has given up what was pending of its file (a rule of this client: NFS version 3 has
--- no closes, RFC 1813, section 1.5).
+-- What a history and the core's view show once a close that was refused has given up what was pending of its file. (This is a rule of this client: NFS
+-- version 3 has no closes, RFC 1813, section 1.5.)
 use Rattle.std.specs.Prelude.{◌≡◌, ◌⊎◌, ◌<◌, ◌≤◌, ℕ, List, length, Some, slice_get}
 use Rattle.open_files.specs.Slots.{IsOpen}
 use Rattle.world_model.specs.declared.answer.Answer.{Answer}

@@ -50,7 +50,7 @@ pub record IsSaving (v : View) (n : ℕ) (c : CloseFile) (file : List ℕ) (upto
   pub file_is : save.file ≡ file
   pub upto_is : save.upto ≡ upto
 
--- What came with this number is kept: a slot holds the file, and where a close of it is under way, that saves it; or a close of the file was refused, which
+-- What came with this number is kept: a slot holds the file, and if a close of it is under way, that saves it; or a close of the file was refused, which
 -- removes it, and each other close of the file that is under way saves it.
 pub data IsGuarded (number : ℕ) (v : View) (file : List ℕ) : Type 0 where
   slot : (place : Place) (of : Opened) → map.get v.shelf.opens place ≡ Some of → of.file ≡ file

@@ -64,8 +64,8 @@ abbrev pub RefusedClosesAreOwed : Type 0
 RefusedClosesAreOwed = (m : Mounted) (terms : Terms) (setup : Setup) (h : List Entry) (v : View) → GoesWith m terms setup h v → v.lost ≡ false
     → RefusedOwes m terms setup h v
 
--- Until the answers are noted they are owed; once they are, and before a record comes, the history shows that the last close left the file, and that its
--- answer, or one that was noted just before, was a refusal.
+-- Until the answers are noted they are owed. Once they are, and before a record comes, the history shows that the last close left the file. It shows, too,
+-- that its answer, or one that was noted just before, was a refusal.
 pub record OwedLeaves (m : Mounted) (terms : Terms) (setup : Setup) (h : List Entry) (v : View) : Type 0 where
   pub stays : (e : Entry) (w : View) → StepsTo (machine_of m) h v e w → w.lost ≡ false → (from : ℕ) (f : List ℕ) → IsDropped terms.modes from h v f
       → IsDropped terms.modes from (h ++ e ∷ []) w f
@@ -87,7 +87,7 @@ pub data LetsGo (number : ℕ) (f : List ℕ) (old new : View) : Type 0 where
   gave : (at n : ℕ) (c : CloseFile) (fault : Fault) → Turned old new at n (Busy (machines.File (files.Close c))) (Over (answers.Refused fault))
       → file_in c.state ≡ Some f → (IsOpen new.shelf.opens f → ⊥) → LetsGo number f old new
 
--- The operation that begins is a close of a slot that held the file, and so it ends in its first step, or is past its sync.
+-- The operation that begins is a close of a slot that held the file. By this it ends in its first step, or is past its sync.
 pub data BeginsWell (lane : ℕ) (op : Op) (f : List ℕ) (old new : View) : Type 0 where
   begun_saved : (slot : ℕ) (value : Value) → op ≡ ops.Close slot → file_at lane slot old.shelf.opens ≡ Some f
       → new.lanes ≡ old.lanes ++ record { number = lane; state = Over (answers.Done value) } ∷ [] → BeginsWell lane op f old new

@@ -16,7 +16,7 @@ use Rattle.client_core.specs.View.{View}
 use Rattle.core_session.specs.calls.Whole.{GoesFrom}
 use Rattle.core_facts.specs.Notes.{Notes}
 
--- Each operation of a session that is refused has its row, whichever it is and whatever it is refused for; where no record is sent or received while an answer
+-- Each operation of a session that is refused has its row, whichever it is and whatever it is refused for; if no record is sent or received while an answer
 -- is ready that wasn't noted.
 abbrev pub RefusalsAllRowed : Type 0
 RefusalsAllRowed = (m : Mounted) (terms : Terms) (setup : Setup) (before h : List Entry) (v : View) → GoesFrom m terms setup before h v

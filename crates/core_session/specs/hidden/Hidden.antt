@@ -24,7 +24,7 @@ use Rattle.core_session.specs.calls.Sessions.{IsSession}
 
 -- ---- the places that are kept
 
--- Where the core keeps a place of a file, a remove hid the file there.
+-- If the core keeps a place of a file, a remove hid the file there.
 abbrev pub HiddenFilesWereHidden : Type 0
 HiddenFilesWereHidden = (m : Mounted) (terms : Terms) (setup : Setup) (h : List Entry) (v : View) → IsSession m terms setup h v
     → (f d name : List ℕ) → map.get v.shelf.silly f ≡ Some (d, name) → HiddenAt terms.origin h (length h) f d name

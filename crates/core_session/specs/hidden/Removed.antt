@@ -19,7 +19,7 @@ use Rattle.core_answers.specs.asks.PutCalls.{IsForRoom}
 use Rattle.core_session.specs.calls.Whole.{GoesFrom}
 use Rattle.core_facts.specs.Notes.{Notes}
 
--- The record at the place i is WRITE or COMMIT of a file, with which a write, fill or put that is under way makes room.
+-- The record at the place i is WRITE or COMMIT of a file. With it a write, fill or put that is under way makes room.
 pub record IsCausedForRoom (terms : Terms) (h : List Entry) (i : ℕ) (bytes : List ℕ) : Type 0 where
   pub xid : ℕ
   pub call : Call

@@ -1,4 +1,4 @@
--- What becomes of a byte that this client wrote: it is held back, or it was made stable (RFC 1813, sections 3.3.7, 3.3.21 and 4.8).
+-- What becomes of a byte that this client wrote: it is dirty, or it was made stable (RFC 1813, sections 3.3.7, 3.3.21 and 4.8).
 use Rattle.std.specs.Prelude.{◌≡◌, ℕ, false, List, length, Some}
 use Rattle.write_back.specs.Files.{of_file}
 use Rattle.write_back.specs.Segments.{newest_at}
@@ -19,7 +19,7 @@ pub data IsKept (h : List Entry) (v : View) (w : ℕ) (f : List ℕ) (i byte : �
   pending : newest_at (of_file f v.shelf.back).segments i ≡ Some byte → IsKept h v w f i byte
   stable : MadeAndKept h w (length h) (length h) f i byte → IsKept h v w f i byte
 
--- As long as the session isn't lost, and where each answer that is ready was noted: so is each byte of a write, fill or put that went well, unless this client
+-- As long as the session isn't lost, and if each answer that is ready was noted: so is each byte of a write, fill or put that succeeded, unless this client
 -- touched it since. (That a sync, close or put settled it isn't asked for.)
 abbrev pub WrittenKept : Type 0
 WrittenKept = (m : Mounted) (terms : Terms) (setup : Setup) (h : List Entry) (v : View) → GoesWith m terms setup h v → v.lost ≡ false

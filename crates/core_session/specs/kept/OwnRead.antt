@@ -16,14 +16,14 @@ use Rattle.core_session.specs.settled.Settling.{OnlySetsUp}
 use Rattle.core_session.specs.syncs.Synced.{PutsNamed}
 use Rattle.core_answers.specs.pages.True.{GivenTrue}
 
--- Where the server is honest, gives each change of a file another stamp, and executes no late copies: each byte of a write, fill or put that went well before a
--- read began is seen in the range that was asked for, unless it was touched. It needn't have been settled.
+-- Let the server be honest, give each change of a file another stamp, and execute no late copies. Each byte of a write, fill or put that succeeded before a
+-- read began is seen in the range that was asked for. That is so unless it was touched. It needn't have been settled.
 abbrev pub OwnBytesRead : Type 0
 OwnBytesRead = (m : Mounted) (terms : Terms) (setup : Setup) (t : History) (v : View) → GoesWith m terms setup t.entries v → m.noac ≡ terms.modes.noac
     → (terms.modes.nocto ≡ true → KeepsBriefly terms.modes setup t.entries) → KnowsRoot terms.origin t.entries m.root → PutsNamed t.entries
     → OnlySetsUp t.entries → Lawful t → Fresh t → GivenTrue setup.pages t → Once t.entries → ReadOwn terms.modes terms.origin t
 
--- And an answer of fewer bytes than were asked for ends where the file ended at a moment that the read may show, and not before such a byte.
+-- And an answer of fewer bytes than were asked for ends where the file ended at a moment that the read may show. It doesn't end before such a byte.
 abbrev pub ReadsEndRightly : Type 0
 ReadsEndRightly = (m : Mounted) (terms : Terms) (setup : Setup) (t : History) (v : View) → GoesWith m terms setup t.entries v → m.noac ≡ terms.modes.noac
     → (terms.modes.nocto ≡ true → KeepsBriefly terms.modes setup t.entries) → KnowsRoot terms.origin t.entries m.root → PutsNamed t.entries

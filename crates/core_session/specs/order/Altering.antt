@@ -10,7 +10,7 @@ use Rattle.world_model.specs.declared.message.Call.TheVariants as calls
 use Rattle.world_model.specs.Entries.{At}
 use Rattle.world_model.specs.Messages.{HasXid}
 
--- The call is a WRITE of the file whose bytes cover the place, or a SETATTR that sets the file's size to at most the place.
+-- The call is a WRITE of the file whose bytes cover the place; or a SETATTR that sets the file's size to at most the place.
 pub data Alters (f : List ℕ) (i : ℕ) (call : Call) : Type 0 where
   writes : (offset how : ℕ) (bytes : List ℕ) → call ≡ calls.File (files.Write f offset how bytes) → offset ≤ i → i < offset + length bytes → Alters f i call
   sizes : (set : SetAttr) (size : ℕ) (guard : Option Time) → call ≡ calls.File (files.SetAttr f set guard) → set.size ≡ Some size → size ≤ i → Alters f i call

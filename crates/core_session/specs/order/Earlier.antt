@@ -14,7 +14,7 @@ use Rattle.client_core.specs.View.{View}
 use Rattle.core_facts.specs.Reaches.{Reaches}
 use Rattle.core_session.specs.order.Altering.{Alters, HeardBefore}
 
--- Where a WRITE of a file covers a place, each call that may change this place and was first sent before it was answered before it was sent. (Of the records
+-- Let a WRITE of a file cover a place. Each call that may change this place, and was first sent before it, was answered before it was sent. (Of the records
 -- of the set-up, before any operation began, nothing is said.)
 abbrev pub EarlierHeard : Type 0
 EarlierHeard = (m : Mounted) (setup : Setup) (h : List Entry) (v : View) → Reaches (machine_of m) setup h v → (f : List ℕ) (i s xid : ℕ) (sent : List ℕ) (call : Call)

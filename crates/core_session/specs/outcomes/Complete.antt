@@ -1,4 +1,4 @@
--- Where nothing goes wrong, each operation goes well, or has a reason of its own why not.
+-- If nothing goes wrong, each operation succeeds, or has a reason of its own why not.
 use Rattle.std.specs.Prelude.{◌≡◌, ℕ, List, []}
 use Rattle.rpc_message.specs.Reply.{SpellsRefusal}
 use Rattle.nfs_file_calls.specs.declared.call.FileCall.TheVariants.{Write}
@@ -39,13 +39,14 @@ pub record IsServed (t : History) : Type 0 where
   pub done : (n xid : ℕ) (call : Call) (reply : Reply) → At t.entries n (Executed xid call reply) → status_of reply ≡ 0
   pub unrefused : (n xid code : ℕ) (bytes : List ℕ) → At t.entries n (Delivered bytes) → SpellsRefusal xid code bytes → ⊥
 
--- So served, each operation goes well, or finds its slot taken or free, no right, no file, too many names, no calls left, or no memory.
+-- So served, each operation succeeds, or has one of these reasons why not: its slot is taken or free; it has no right; it finds no file, or too many
+-- names; no calls are left, or no memory.
 abbrev pub ServedComplete : Type 0
 ServedComplete = (m : Mounted) (terms : Terms) (setup : Setup) (before : List Entry) (t : History) (v : View) → GoesFrom m terms setup before t.entries v
     → Notes (machine_of m) setup t.entries v → CarriesBytes t.entries → IsServed t
     → (lane x y : ℕ) (op : Op) (answer : Answer) → Ended t.entries lane x op y answer → IsOwn answer
 
--- The same in a session that nothing disturbs (`claims`), where operations may go on from a status; but for refusals by a status that have no row yet.
+-- The same in a session that nothing disturbs (`claims`), if operations may go on from a status; but for refusals by a status that have no row yet.
 abbrev pub UndisturbedComplete : Type 0
 UndisturbedComplete = (m : Mounted) (terms : Terms) (setup : Setup) (before : List Entry) (t : History) (v : View) → GoesFrom m terms setup before t.entries v
     → Notes (machine_of m) setup t.entries v → CarriesBytes t.entries → Undisturbed terms t

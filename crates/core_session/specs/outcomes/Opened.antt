@@ -1,4 +1,4 @@
--- What an open shows that goes well, in any session.
+-- What an open shows that succeeds, in any session.
 use Rattle.std.specs.Prelude.{ℕ, List}
 use Rattle.nfs_types.specs.declared.mode.Mode.{Mode}
 use Rattle.world_model.specs.declared.answer.Answer.TheVariants.{Done}
@@ -15,8 +15,8 @@ use Rattle.client_core.specs.View.{View}
 use Rattle.core_facts.specs.Naming.{KnowsRoot}
 use Rattle.core_facts.specs.SlotAnswers.{GoesWith}
 
--- An open goes well only so: it ends with the reply to GETATTR of its file, of kind 1; or, where the session may go by kept attributes, with the reply to the
--- LOOKUP or CREATE that gave the file, of which a reply before showed kind 1 (RFC 1813, sections 3.3.1, 3.3.3 and 3.3.8).
+-- An open succeeds only so (RFC 1813, sections 3.3.1, 3.3.3 and 3.3.8). It ends with the reply to GETATTR of its file, of kind 1. If the session may go by
+-- kept attributes, it may end with the reply to the LOOKUP or CREATE that gave the file. Then a reply before showed kind 1 of it.
 abbrev pub OpensWell : Type 0
 OpensWell = (m : Mounted) (terms : Terms) (setup : Setup) (h : List Entry) (v : View) → GoesWith m terms setup h v
     → KnowsRoot terms.origin h m.root

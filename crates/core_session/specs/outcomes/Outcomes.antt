@@ -1,4 +1,4 @@
--- What any operation shows that goes well.
+-- What any operation shows that succeeds.
 use Rattle.std.specs.Prelude.{ℕ, List}
 use Rattle.world_model.specs.declared.answer.Answer.TheVariants.{Done}
 use Rattle.world_model.specs.declared.answer.Value.{Value}
@@ -14,7 +14,7 @@ use Rattle.client_core.specs.View.{View}
 use Rattle.core_facts.specs.Naming.{KnowsRoot}
 use Rattle.core_facts.specs.SlotAnswers.{GoesWith}
 
--- Each operation of a script that goes well has its row.
+-- Each operation of a script that succeeds has its row.
 abbrev pub OksRowed : Type 0
 OksRowed = (m : Mounted) (terms : Terms) (setup : Setup) (h : List Entry) (v : View) → GoesWith m terms setup h v
     → KnowsRoot terms.origin h m.root

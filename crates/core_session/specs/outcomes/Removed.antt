@@ -1,4 +1,4 @@
--- What a remove shows that goes well.
+-- What a remove shows that succeeds.
 use Rattle.std.specs.Prelude.{ℕ, List}
 use Rattle.world_model.specs.declared.answer.Answer.TheVariants.{Done, Refused}
 use Rattle.world_model.specs.declared.answer.Fault.{Fault}
@@ -17,8 +17,10 @@ use Rattle.core_facts.specs.Naming.{KnowsRoot}
 use Rattle.core_facts.specs.SlotAnswers.{GoesWith}
 use Rattle.core_answers.specs.refusals.Rowed.{IsFinal}
 
--- A remove goes well only so: it ends with the reply, of status 0, to REMOVE of the name to which its path leads; or to RENAME of that name to a hidden one
--- in the same directory, of a file that a slot held meanwhile, after a LOOKUP of that hidden name found nothing (RFC 1813, sections 3.3.12 and 3.3.14).
+-- A remove succeeds only so: it ends with a reply of status 0 (RFC 1813, sections 3.3.12 and 3.3.14). That is one of these:
+-- - the reply to REMOVE of the name to which its path leads;
+-- - the reply to RENAME of that name to a hidden one in the same directory. A slot held the file meanwhile, and a LOOKUP of that hidden name had found
+--   nothing.
 abbrev pub RemovesWell : Type 0
 RemovesWell = (m : Mounted) (terms : Terms) (setup : Setup) (h : List Entry) (v : View) → GoesWith m terms setup h v → KnowsRoot terms.origin h m.root
     → (lane x y : ℕ) (path : List (List ℕ)) (value : Value) → IsNamed path → Ended h lane x (ops.Remove path) y (Done value)

@@ -23,7 +23,7 @@ abbrev pub IsNoJukebox : Fault → Type 0
 IsNoJukebox (faults.Nfs n) = n ≢ jukebox
 IsNoJukebox fault = Unit {0}
 
--- A record refused so a WRITE or COMMIT of some file, which was first sent for the write, fill or put in this lane, as that was under way, to make room.
+-- A record refused so a WRITE or COMMIT of some file. It was first sent to make room for the write, fill or put in this lane, as that was under way.
 pub record RefusedForRoom (h : List Entry) (lane x y : ℕ) (op : Op) (fault : Fault) : Type 0 where
   pub call : Call
   pub refused : RefusedSo h x y call fault

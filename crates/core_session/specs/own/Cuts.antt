@@ -18,13 +18,13 @@ use Rattle.core_session.specs.settled.Settling.{OnlySetsUp}
 use Rattle.core_session.specs.syncs.Synced.{PutsNamed}
 use Rattle.core_answers.specs.pages.True.{GivenTrue}
 
--- Of a session in which answers are noted before records are sent and received: where a truncate went well, an honest server that executes no late copies has
--- no byte but zeros past its size from then on, as long as nothing of this client, and no other client, may have changed the place.
+-- Of a session in which answers are noted before records are sent and received. Let a truncate succeed. From then on an honest server that executes no late
+-- copies has no byte but zeros past its size. That lasts as long as nothing of this client, and no other client, may have changed the place.
 abbrev pub CutsStayBare : Type 0
 CutsStayBare = (m : Mounted) (terms : Terms) (setup : Setup) (t : History) (v : View) → m.nocto ≡ terms.modes.nocto → Notes (machine_of m) setup t.entries v
     → KnowsRoot terms.origin t.entries m.root → PutsNamed t.entries → OnlySetsUp t.entries → Lawful t → Once t.entries → CutsStay terms.modes terms.origin t
 
--- So a read shows zeros past the size of each truncate that went well before it began, by `claims`, where the server gives each change of a file another
+-- So a read shows zeros past the size of each truncate that succeeded before it began, by `claims`. For that the server gives each change of a file another
 -- stamp.
 abbrev pub CutsRead : Type 0
 CutsRead = (m : Mounted) (terms : Terms) (setup : Setup) (t : History) (v : View) → m.nocto ≡ terms.modes.nocto → m.noac ≡ terms.modes.noac

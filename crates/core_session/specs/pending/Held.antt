@@ -1,4 +1,4 @@
--- Which bytes the client holds back: whose they are, and what has happened since.
+-- Which bytes of the client are dirty: whose they are, and what has happened since.
 use Rattle.std.specs.Prelude.{◌≡◌, ◌<◌, ◌≤◌, ℕ, List, length, Some, false}
 use Rattle.write_back.specs.Files.{of_file}
 use Rattle.write_back.specs.Segments.{newest_at}
@@ -18,8 +18,10 @@ use Rattle.core_session.specs.syncs.Synced.{PutsNamed}
 use Rattle.claims.specs.Pending.{Pending, PutSucceeded}
 
 -- Before the moment n an operation w began that writes the byte to the place of the file. It is no write or fill that was refused, and no put that succeeded
--- before n. Since w was answered, and before n, no write, fill or put that began then and succeeded covers the place, no truncate cut the file there, and no
--- sync, close or put of it succeeded.
+-- before n. Since w was answered, and before n:
+-- - no write, fill or put that began then and succeeded covers the place;
+-- - no truncate cut the file there;
+-- - no sync, close or put of it succeeded.
 pub record IsUnsettled (m : Modes) (origin : Origin) (h : List Entry) (f : List ℕ) (i n v : ℕ) : Type 0 where
   pub w : ℕ
   pub before : w < n
@@ -36,7 +38,7 @@ PendingUnsettled = (m : Mounted) (terms : Terms) (setup : Setup) (h : List Entry
     → KnowsRoot terms.origin h m.root → PutsNamed h → (f : List ℕ) (i byte : ℕ)
     → newest_at (of_file f v.shelf.back).segments i ≡ Some byte → IsUnsettled terms.modes terms.origin h f i (length h) byte
 
--- Where each answer that is ready was noted, it may be pending at this moment, in `claims`'s words.
+-- If each answer that is ready was noted, it may be pending at this moment, in `claims`'s words.
 abbrev pub PendingHeldBack : Type 0
 PendingHeldBack = (m : Mounted) (terms : Terms) (setup : Setup) (h : List Entry) (v : View) → GoesWith m terms setup h v → v.lost ≡ false
     → KnowsRoot terms.origin h m.root → PutsNamed h → NoneReady v → (f : List ℕ) (i byte : ℕ)

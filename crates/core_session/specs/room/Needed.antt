@@ -1,4 +1,4 @@
--- For which operation each call of a session is made: where it makes room for bytes, there is need of it.
+-- For which operation each call of a session is made: if it makes room for bytes, there is need of it.
 use Rattle.std.specs.Prelude.{◌≡◌, ◌≤◌, ◌<◌, ◌+◌, ◌⊎◌, ℕ, List}
 use Rattle.world_model.specs.declared.entry.Entry.{Entry}
 use Rattle.world_model.specs.declared.entry.Entry.TheVariants.{Sent}
@@ -22,8 +22,10 @@ use Rattle.core_answers.specs.asks.SlotCalls.{IsRemoval}
 use Rattle.core_session.specs.calls.Sessions.{IsSession}
 use Rattle.core_session.specs.calls.Whole.{GoesFrom}
 
--- What isn't said to be asked for: WRITE or COMMIT of a file, with which a write, fill or put makes room, as those that began before the call, but for
--- refused writes and fills, have more bytes than a session holds back; and the REMOVE of a close.
+-- What isn't said to be asked for:
+-- - WRITE or COMMIT of a file, with which a write, fill or put makes room. Those that began before the call, but for refused writes and fills, have
+--   more bytes than may be dirty at once.
+-- - The REMOVE of a close.
 pub data IsLeft (terms : Terms) (h : List Entry) (x i : ℕ) (op : Op) (call : Call) : Type 0 where
   makes_room : IsWriter op → NeedsRoom h x i → IsForRoom call → IsLeft terms h x i op call
   removes : (slot : ℕ) → op ≡ ops.Close slot → IsRemoval call → IsLeft terms h x i op call
@@ -46,7 +48,7 @@ RoomIsNeeded = (m : Mounted) (terms : Terms) (setup : Setup) (h : List Entry) (v
 
 -- ---- a session that was set up
 
--- The record at the place i is a call of an operation that is under way, of which it isn't said that the operation asks for it.
+-- The record at the place i is a call of an operation that is under way. That this operation asks for it isn't said.
 pub record IsCausedInNeed (terms : Terms) (h : List Entry) (i : ℕ) (bytes : List ℕ) : Type 0 where
   pub xid : ℕ
   pub call : Call

@@ -17,7 +17,7 @@ use Rattle.world_model.specs.Heard.{Asked}
 use Rattle.world_model.specs.Commits.{commit_call}
 use Rattle.write_back.specs.Segments.{covers}
 
--- Between two places a WRITE of the file, which has the byte at the place, was first sent and answered 0 with a count that reaches it.
+-- Between two places a WRITE of the file, which has the byte at the place, was first sent. It was answered 0 with a count that reaches it.
 pub record WroteByte (h : List Entry) (from to : ℕ) (file : List ℕ) (place byte : ℕ) (firm : ℕ) (verf : Verf) : Type 0 where
   pub offset : ℕ
   pub how : ℕ

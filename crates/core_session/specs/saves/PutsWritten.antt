@@ -1,4 +1,4 @@
--- A put that went well, as the only operation until then: what the history shows of each of its bytes (RFC 1813, sections 3.3.7 and 3.3.21).
+-- A put that succeeded, as the only operation until then: what the history shows of each of its bytes (RFC 1813, sections 3.3.7 and 3.3.21).
 use Rattle.std.specs.Prelude.{◌≡◌, ◌<◌, ◌-◌, ℕ, true, List, length, slice_index, false}
 use Rattle.world_model.specs.declared.answer.Answer.TheVariants as answers
 use Rattle.world_model.specs.declared.answer.Value.{Value}

@@ -1,4 +1,4 @@
--- The bytes of a put that went well by itself stay on the server (RFC 1813, sections 3.3.7, 3.3.21 and 4.8).
+-- The bytes of a put that succeeded by itself stay on the server (RFC 1813, sections 3.3.7, 3.3.21 and 4.8).
 use Rattle.std.specs.Prelude.{◌≡◌, ◌≢◌, ◌<◌, ◌≤◌, ◌⊎◌, ℕ, List, length, Some}
 use Rattle.nfs_file_calls.specs.declared.call.FileCall.TheVariants as files
 use Rattle.world_model.specs.declared.answer.Answer.TheVariants.{Done}
@@ -53,20 +53,20 @@ WritesGiven = (m : Mounted) (terms : Terms) (setup : Setup) (h : List Entry) (v 
 
 -- ---- a put by itself
 
--- Before the place p no other operation than the one at the place w began that gives a byte to the place i of the file, or cuts it off.
+-- Before the place p nothing but the operation at the place w began that writes the place i of the file, or cuts it off.
 pub record NoOther (m : Modes) (h : List Entry) (w p : ℕ) (f : List ℕ) (i : ℕ) : Type 0 where
   pub gives : (x lane line b : ℕ) (op : Op) → At h x (Began lane line op) → x ≢ w → x < p → byte_by op i ≡ Some b → IsAtFile m h x op f → ⊥
   pub cuts : (x : ℕ) → x ≢ w → x < p → Cuts m h x f i → ⊥
 
--- The put's path leads to a file by its answer, where it has a name and the put has bytes. At each moment after the answer the file holds each of them, and
--- stable, as long as no other operation of this client, and no other client, changes its place.
+-- The put's path leads to a file by its answer, if it has a name and the put has bytes. At each moment after the answer the file holds each of them, and
+-- stable. That lasts as long as no other operation of this client, and no other client, changes its place.
 pub record PutStays (m : Modes) (origin : Origin) (t : History) (path : List (List ℕ)) (x y offset : ℕ) (bytes : List ℕ) : Type 0 where
   pub file : List ℕ
   pub led : IsNamed path → 1 ≤ length bytes → Leads origin t.entries y path file
   pub each : (i b p : ℕ) → Covers offset bytes i b → y < p → p ≤ length t.entries → NoOther m t.entries x p file i → NoForeign t x p file i
       → HoldsStable (t.at p) file i b
 
--- So it is of a put that went well, where no other operation began before its answer; also where the session is lost later.
+-- So it is of a put that succeeded, if no other operation began before its answer; also if the session is lost later.
 abbrev pub LonePutsStay : Type 0
 LonePutsStay = (m : Mounted) (terms : Terms) (setup : Setup) (t : History) (v : View) → GoesWith m terms setup t.entries v
     → KnowsRoot terms.origin t.entries m.root → OnlySetsUp t.entries → Lawful t → Once t.entries → (lane x y : ℕ) (path : List (List ℕ)) (offset : ℕ) (bytes : List ℕ) (value : Value)

@@ -1,4 +1,4 @@
--- Bytes that a sync, a close or a put made stable stay on the server, where what the history shows of them is given.
+-- Bytes that a sync, a close or a put made stable stay on the server, if what the history shows of them is given.
 use Rattle.std.specs.Prelude.{◌≡◌, ◌<◌, ◌≤◌, ◌+◌, ℕ, suc, List, length, Some, slice_get}
 use Rattle.nfs_file_calls.specs.declared.call.FileCall.TheVariants as files
 use Rattle.world_model.specs.declared.entry.Entry.{Entry}
@@ -43,8 +43,8 @@ OnlySetsUp h = (s : ℕ) (sent : List ℕ) → At h s (Sent sent) → NoneBegan 
 
 -- ---- what the history shows
 
--- A byte of the write at the place w was made stable by the place `to`, by calls that were first sent from a place after w on; and from there to the
--- place p each WRITE of its place has it.
+-- A byte of the write at the place w was made stable by the place `to`. The calls of that were first sent from a place after w on. From there to the place p
+-- each WRITE of its place has it.
 pub record IsSaved (h : List Entry) (w to p : ℕ) (f : List ℕ) (i v : ℕ) : Type 0 where
   pub from : ℕ
   pub after : w < from
@@ -52,8 +52,8 @@ pub record IsSaved (h : List Entry) (w to p : ℕ) (f : List ℕ) (i v : ℕ) : 
   pub alike : (s xid : ℕ) (sent : List ℕ) (offset how k b : ℕ) (bytes : List ℕ) → At h s (Sent sent)
       → SpellsCall xid (calls.File (files.Write f offset how bytes)) sent → from ≤ s → s < p → i ≡ offset + k → slice_get bytes k ≡ Some b → b ≡ v
 
--- Each byte that was settled, and wasn't touched, can't but be saved so, where no last close of its file gave anything up between the write and its settling.
--- (Where one did, an earlier settling has the byte, or it was touched: `SavedStay` needs no more than this.)
+-- Each byte that was settled, and wasn't touched, can't but be saved so. That is so if no last close of its file gave anything up between the write and its
+-- settling. (If one did, an earlier settling has the byte, or it was touched: `SavedStay` needs no more than this.)
 abbrev pub AreSaved : Modes → Origin → History → Type 0
 AreSaved m origin t = (w y : ℕ) (f : List ℕ) (i v j : ℕ) → Wrote m t.entries w y f i v → SettledBy m t.entries w y f j → (p : ℕ) → j < p → p ≤ length t.entries
     → (Touched m origin t w p f i → ⊥) → ((k : ℕ) → w < k → k < j → Left m t.entries k f → GivesUp m t.entries k f → ⊥)
@@ -61,7 +61,7 @@ AreSaved m origin t = (w y : ℕ) (f : List ℕ) (i v j : ℕ) → Wrote m t.ent
 
 -- ---- the law
 
--- Where each is saved so, they stay;
+-- If each is saved so, they stay;
 abbrev pub SavedStay : Type 0
 SavedStay = (m : Mounted) (terms : Terms) (setup : Setup) (t : History) (v : View) → GoesWith m terms setup t.entries v → OnlySetsUp t.entries
     → Lawful t → Once t.entries → AreSaved terms.modes terms.origin t → Settled terms.modes terms.origin t

@@ -1,5 +1,5 @@
--- Bytes that a write, fill or put wrote, and that a later sync, close or put settled, or the put itself, stay on the server (RFC 1813, sections 3.3.7, 3.3.21
--- and 4.8).
+-- Bytes that a write, fill or put wrote stay on the server once they were settled (RFC 1813, sections 3.3.7, 3.3.21 and 4.8). A later sync, close or put
+-- settled them, or the put itself.
 use Rattle.std.specs.Prelude.{◌<◌, ◌≤◌, ℕ, List, length}
 use Rattle.world_model.specs.History.{History}
 use Rattle.world_model.specs.Lawful.{Lawful}
@@ -17,9 +17,10 @@ use Rattle.core_session.specs.syncs.Synced.{PutsNamed}
 use Rattle.core_session.specs.syncs.Until.{TouchedUntil}
 use Rattle.core_session.specs.settled.Settling.{OnlySetsUp}
 
--- Where the server is honest and executes no late copies: at each moment after the answer of a sync, close or put that began after the write's answer, or after
--- that of a put that wrote it, the file holds the byte, and stable, unless another operation of this client, or another client, may have changed its place; or,
--- before it was settled, the last close left the file, and a refusal went with it.
+-- Let the server be honest, and execute no late copies. A byte is settled by the answer of a sync, close or put that began after the write's answer; or by
+-- that of the put that wrote it. At each moment after that answer the file holds the byte, and stable, unless one of these happened:
+-- - another operation of this client, or another client, may have changed its place;
+-- - before it was settled, the last close left the file, and a refusal went with it.
 abbrev pub SyncedStay : Type 0
 SyncedStay = (m : Mounted) (terms : Terms) (setup : Setup) (t : History) (v : View) → GoesWith m terms setup t.entries v
     → KnowsRoot terms.origin t.entries m.root → PutsNamed t.entries → OnlySetsUp t.entries → Lawful t → Once t.entries

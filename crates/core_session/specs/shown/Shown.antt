@@ -1,4 +1,5 @@
--- What reads show: bytes that this client held back during the read, bytes that the server's file had, and zeros in holes (RFC 1813, sections 2.6 and 3.3.6).
+-- What reads show (RFC 1813, sections 2.6 and 3.3.6): bytes that were dirty in this client during the read, bytes that the server's file had, and zeros in
+-- holes.
 use Rattle.std.specs.Prelude.{◌≡◌, true}
 use Rattle.world_model.specs.Fresh.{Fresh}
 use Rattle.world_model.specs.History.{History}
@@ -14,8 +15,8 @@ use Rattle.core_session.specs.current.Recent.{KeepsBriefly}
 use Rattle.core_session.specs.syncs.Synced.{PutsNamed}
 use Rattle.core_answers.specs.pages.True.{GivenTrue}
 
--- Each byte of each answer to a read is current, by `claims`, where the server is honest and gives each change of a file another stamp, the root's handle is
--- known and the paths of puts name a file.
+-- Each byte of each answer to a read is current, by `claims`. For that the server is honest and gives each change of a file another stamp. The root's handle
+-- is known, and the paths of puts name a file. The pages that were kept from the start are true.
 abbrev pub ReadsCurrent : Type 0
 ReadsCurrent = (m : Mounted) (terms : Terms) (setup : Setup) (t : History) (v : View) → GoesWith m terms setup t.entries v → m.noac ≡ terms.modes.noac
     → (terms.modes.nocto ≡ true → KeepsBriefly terms.modes setup t.entries) → KnowsRoot terms.origin t.entries m.root → PutsNamed t.entries → Lawful t → Fresh t

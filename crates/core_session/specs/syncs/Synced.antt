@@ -25,7 +25,8 @@ abbrev pub WritesCarry : List Entry → ℕ → ℕ → List ℕ → ℕ → ℕ
 WritesCarry h from to f i byte = (j xid offset how : ℕ) (bytes sent : List ℕ) → At h j (Sent sent) → SpellsCall xid (calls.File (files.Write f offset how bytes)) sent → from ≤ j → j < to
     → covers offset (length bytes) i ≡ true → slice_index bytes (i - offset) ≡ byte
 
--- After the write at the place w the byte was made stable by the place `to`; and from its first flight on each WRITE of its place carries it, before the place p.
+-- After the write at the place w the byte was made stable by the place `to`; and from its first flight on each WRITE of its place carries it, before the place
+-- p.
 pub record MadeAndKept (h : List Entry) (w to p : ℕ) (f : List ℕ) (i byte : ℕ) : Type 0 where
   pub from : ℕ
   pub after : w < from
@@ -36,8 +37,8 @@ pub record MadeAndKept (h : List Entry) (w to p : ℕ) (f : List ℕ) (i byte : 
 abbrev pub PutsNamed : List Entry → Type 0
 PutsNamed h = (x lane line offset : ℕ) (path : List (List ℕ)) (bytes : List ℕ) → At h x (Began lane line (ops.Put path offset bytes)) → IsNamed path
 
--- As long as the session isn't lost: of a byte that a write, fill or put wrote, and that a sync, close or put settled which began after its answer, or the put
--- itself, at each later moment up to which nothing of this client touched it.
+-- As long as the session isn't lost: a write, fill or put wrote a byte, and a sync, close or put that began after its answer settled it, or the put itself. So
+-- it is of this byte at each later moment up to which nothing of this client touched it.
 abbrev pub SyncedBytes : Type 0
 SyncedBytes = (m : Mounted) (terms : Terms) (setup : Setup) (h : List Entry) (v : View) → GoesWith m terms setup h v → v.lost ≡ false
     → KnowsRoot terms.origin h m.root → PutsNamed h → (w y : ℕ) (f : List ℕ) (i byte j p : ℕ)
