@@ -3,6 +3,7 @@ pub mod Laws
 pub mod MoreLaws
 pub mod Written
 pub mod Marked
+pub mod Parts
 pub mod WholeLaws
 pub mod Hex
 pub mod Rows

@@ -1,6 +1,6 @@
 //! Owned bytes.
 
-ghost use Rattle.std.specs.Prelude.{◌≡◌, ◌+◌, ◌≤◌, length, OnOk, IfOk};
+ghost use Rattle.std.specs.Prelude.{◌≡◌, ◌+◌, ◌<◌, ◌≤◌, ◌^◌, length, take, OnOk, IfErr, IfOk, IfSome};
 ghost use Rattle.xdr_codec.specs.Blobs.{part_of};
 
 use std::alloc::{AllocError, AllocFailed, Global};
@@ -50,6 +50,20 @@ impl Part {
         &self.all.as_slice()[self.from..self.from + self.len]
     }
 
+    /// How many bytes there are in all that it is a part of, with room for more.
+    fn footprint(&self) -> usize {
+        self.all.capacity()
+    }
+
+    /// Keeps the first bytes alone.
+    fn shorten(&mut self, len: usize)
+        ensures { self.new ≡ take len self.old }
+    {
+        if len < self.len {
+            self.len = len;
+        }
+    }
+
     /// The same bytes, which aren't copied.
     fn again(&self) -> Result<Part, Memory>
         ensures { IfOk result (λ p. p ≡ self.now) }
@@ -59,6 +73,19 @@ impl Part {
             from: self.from,
             len: self.len,
         })
+    }
+
+    /// So many of the bytes from a place on, which aren't copied. None if there are fewer, or too many share them.
+    fn share(&self, alloc: Global, from: usize, len: usize) -> Option<Blob>
+        ensures { IfSome result (λ b. b ≡ part_of from len self.now) }
+    {
+        if self.len < len || self.len - len < from {
+            return None;
+        }
+        match Blob::share(alloc, &self.all, self.from + from, len) {
+            Ok(blob) => Some(blob),
+            Err(_) => None,
+        }
     }
 }
 
@@ -124,13 +151,63 @@ impl Blob {
         Ok(Blob::over(alloc, part))
     }
 
-    /// The same bytes: shared where they are shared, else a copy.
+    /// Holds these bytes so that they can be shared, as `shared` does. If there is no memory they come back.
+    pub fn try_shared(alloc: Global, bytes: Vec<u8>) -> Result<Blob, Vec<u8>>
+        ensures ok { IfOk result (λ b. b ≡ bytes.items) }
+        ensures back { IfErr result (λ b. b ≡ bytes) }
+    {
+        let len = bytes.len();
+        match Rc::new(alloc, bytes) {
+            Ok(all) => Ok(Blob::over(alloc, Part { all, from: 0, len })),
+            Err(failed) => Err(failed.value),
+        }
+    }
+
+    /// So many of the bytes from a place on, which aren't copied. None if there are fewer, they are its own, or too many share
+    /// them.
+    pub fn part(&self, alloc: Global, from: usize, len: usize) -> Option<Blob>
+        ensures { IfSome result (λ b. b ≡ part_of from len self.now) }
+    {
+        match &self.part {
+            Some(part) => part.share(alloc, from, len),
+            None => None,
+        }
+    }
+
+    /// The same bytes: shared if they are shared, else a copy.
     pub fn again(&self, alloc: Global) -> Result<Blob, Memory>
         ensures { IfOk result (λ b. b ≡ self.now) }
     {
         match &self.part {
             Some(part) => Ok(Blob::over(alloc, part.again()?)),
             None => Blob::copy(alloc, self.own.as_slice()),
+        }
+    }
+
+    /// How many bytes there are.
+    pub fn len(&self) -> usize
+        ensures len { result ≡ length self.now }
+        ensures small { result < 2 ^ 63 }
+    {
+        let bytes = self.bytes();
+        bytes.len()
+    }
+
+    /// How many bytes of memory are kept for them: if they are shared, of all that they are a part of.
+    pub fn footprint(&self) -> usize {
+        match &self.part {
+            Some(part) => part.footprint(),
+            None => self.own.capacity(),
+        }
+    }
+
+    /// Keeps the first bytes alone, in the same memory.
+    pub fn shorten(&mut self, len: usize)
+        ensures { self.new ≡ take len self.old }
+    {
+        match &mut self.part {
+            Some(part) => part.shorten(len),
+            None => self.own.truncate(len),
         }
     }
 

@@ -4,6 +4,7 @@
 mod blob;
 mod codec_fault;
 mod fits;
+mod lent;
 mod reader;
 mod record;
 mod writer;
@@ -11,6 +12,7 @@ mod writer;
 pub use blob::{Blob, Memory};
 pub use codec_fault::CodecFault;
 pub use fits::{fits_u32, fits_u64};
+pub use lent::Lent;
 pub use reader::{Reader, XdrFault};
 pub use record::Record;
 pub use writer::Writer;
