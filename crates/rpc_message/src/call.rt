@@ -8,6 +8,7 @@ ghost use Rattle.rpc_message.specs.Call.{xid_at, call_at, head_at, call_head_byt
 
 use crate::cred::{Cred, write_cred, write_none};
 use crate::front::{after_auth, word};
+use crate::kept_cred::KeptCred;
 use xdr_codec::{Memory, Reader, Writer, XdrFault};
 
 /// The message type of a call (RFC 5531, section 9, msg_type).
@@ -51,16 +52,16 @@ impl From<XdrFault> for CallFault {
     }
 }
 
-/// The first word, which is the xid of a call or reply; None exactly where there are fewer than 4 bytes.
+/// The first word, which is the xid of a call or reply; None exactly if there are fewer than 4 bytes.
 pub fn xid_of(rec: &[u8]) -> Option<u32>
     ensures { result ≡ xid_at rec.now }
 {
     Reader::new(rec).u32().ok()
 }
 
-/// The head of a call and its arguments, which are the rest of the record, for any credential and verifier
-/// of at most 400 bytes each (RFC 5531, section 9). NotCall comes exactly where the second word is there and isn't 0;
-/// of Xdr and Version the first in order of spelling comes, and neither comes otherwise.
+/// The head of a call and its arguments, which are the rest of the record (RFC 5531, section 9). The credential and
+/// the verifier may be any of at most 400 bytes each. NotCall comes exactly if the second word is there and isn't 0.
+/// Of Xdr and Version the first in order of spelling comes, and neither comes otherwise.
 pub fn read_call<'a>(rec: &'a [u8]) -> Result<(CallHead, &'a [u8]), CallFault>
     ensures exact { GivesCall (λ call. (call.0, call.1.now)) result (call_at rec.entry.now) }
     ensures spelled { FindsCall (λ call. (call.0, call.1.now)) result rec.entry.now }
@@ -117,6 +118,19 @@ pub fn write_call(w: &mut Writer, head: &CallHead, cred: &Cred) -> Result<(), Me
     write_program(w, head.prog, head.vers, head.proc)?;
     write_cred(w, cred)?;
     write_none(w)?;
+    Ok(())
+}
+
+/// As `write_call`, by a credential whose spelling may be kept.
+#[tactic(auto, using(xdr_codec::proofs::Begins::after_a, xdr_codec::proofs::Begins::after_b, xdr_codec::proofs::Begins::grown_c), unfolding(crate::specs::Call::call_head_bytes))]
+pub fn write_call_by(w: &mut Writer, head: &CallHead, cred: &KeptCred) -> Result<(), Memory>
+    ensures ok { OnOk result (w.new ≡ w.old ++ call_head_bytes head.now cred.now) }
+    ensures err { OnErr result (BeginsWith w.old w.new) }
+    ensures spelled { OnOk result ((args : List ℕ) → SpellsCallHead head.now args (call_head_bytes head.now cred.now ++ args)) }
+{
+    write_opening(w, head.xid)?;
+    write_program(w, head.prog, head.vers, head.proc)?;
+    cred.append(w)?;
     Ok(())
 }
 

@@ -106,6 +106,16 @@ module _ {P : Type 0} where
       let with_sent : Held P → Held P = λ h. record h { calls = sent h.calls } in
       ap with_calls e ∙ ap with_sent v
 
+  -- the call that is lent has one more attempt
+  pub lent : (inside now : Held P) (xid : ℕ) (call new : Waiting P) → inside ≡ now → first_due inside.calls ≡ Some (xid, call) → new ≡ sent_call call
+      → Some new ≡ option_map (λ (e : ℕ × Waiting P). sent_call e.1) (first_due now.calls)
+  lent inside now xid call new v f is =
+      ap Some is ∙ sym (ap (λ (h : Held P). option_map (λ (e : ℕ × Waiting P). sent_call e.1) (first_due h.calls)) (sym v) ∙ ap (option_map (λ (e : ℕ × Waiting P). sent_call e.1)) f)
+
+  pub none_lent : (inside now : Held P) → inside ≡ now → first_due inside.calls ≡ None → None ≡ option_map (λ (e : ℕ × Waiting P). sent_call e.1) (first_due now.calls)
+  none_lent inside now v f =
+      sym (ap (λ (h : Held P). option_map (λ (e : ℕ × Waiting P). sent_call e.1) (first_due h.calls)) (sym v) ∙ ap (option_map (λ (e : ℕ × Waiting P). sent_call e.1)) f)
+
   -- what sending the call at the place of the oldest one that is due does
   pub record Sends (es : List (ℕ × Waiting P)) (at : ℕ) (call : Waiting P) : Type 0 where
     pub xid : ℕ

@@ -1,11 +1,11 @@
 //! The calls that wait, in order of making.
 
-ghost use Rattle.std.specs.Prelude.{◌≡◌, ◌+◌, ◌-◌, ◌≤◌, ◌^◌, length, [], ◌∷◌, ◌++◌, None, OnOk, OnErr, IfOk, IfSome, IfNone, option_map, List, ℕ};
+ghost use Rattle.std.specs.Prelude.{◌≡◌, ◌+◌, ◌-◌, ◌≤◌, ◌^◌, length, [], ◌∷◌, ◌++◌, None, Ok, OnOk, OnErr, IfOk, IfSome, IfNone, option_map, List, ℕ};
 ghost use Rattle.std.specs.Borrow.{sem};
 ghost use Rattle.rpc_message.specs.Call.{xid_at, call_head_bytes, SpellsCallHead};
 ghost use Rattle.rpc_retry.specs.Held.{Held, next_xid, KeepsSettings};
 ghost use Rattle.rpc_retry.specs.Sound.{IsRecord, IsSound};
-ghost use Rattle.rpc_retry.specs.Waiting.{made_call, first_due, sent, first_given_up, waiting_at};
+ghost use Rattle.rpc_retry.specs.Waiting.{made_call, first_due, sent, sent_call, first_given_up, waiting_at};
 ghost use Rattle.rpc_retry.specs.Put.{check_of, AnswersPut, call_head, call_bytes};
 ghost use Rattle.rpc_retry.specs.Take.{Takes, TakesPurpose, after_taking, IfDropped};
 ghost use Rattle.rpc_retry.specs.Records.{KeepsRecords, IsGone};
@@ -18,7 +18,7 @@ use crate::waiting::Waiting;
 use indexmap::IndexMap;
 use limits::CALLS_IN_FLIGHT;
 use nfs_types::PROGRAM_VERSION;
-use rpc_message::{CallHead, Cred, read_reply, write_call, xid_of};
+use rpc_message::{CallHead, Cred, KeptCred, read_reply, write_call_by, xid_of};
 use std::alloc::Global;
 use std::marker::Model;
 use xdr_codec::{Memory, Record, Writer};
@@ -32,7 +32,7 @@ pub struct Calls<P> {
     alloc: Global,
     first_xid: u32,
     limit: u32,
-    cred: Cred,
+    cred: KeptCred,
     made: u32,
     calls: IndexMap<u32, Waiting<P>>,
 }
@@ -54,6 +54,15 @@ impl<P: Drop> Calls<P> {
     /// No calls yet. The first has this xid; at most so many can be made. The first xid is at least 1, and with the
     /// limit added at most 2^32 - 1.
     pub fn new(alloc: Global, first_xid: u32, limit: u32, cred: Cred) -> Calls<P>
+        requires first { 1 ≤ first_xid }
+        requires last { first_xid + limit ≤ 2 ^ 32 - 1 }
+        ensures { result ≡ record { first_xid = first_xid; limit = limit; cred = cred; made = 0; calls = [] } }
+    {
+        Calls::with_cred(alloc, first_xid, limit, KeptCred::of(cred))
+    }
+
+    /// As `new`, by a credential whose spelling may be kept.
+    pub fn with_cred(alloc: Global, first_xid: u32, limit: u32, cred: KeptCred) -> Calls<P>
         requires first { 1 ≤ first_xid }
         requires last { first_xid + limit ≤ 2 ^ 32 - 1 }
         ensures { result ≡ record { first_xid = first_xid; limit = limit; cred = cred; made = 0; calls = [] } }
@@ -96,20 +105,21 @@ impl<P: Drop> Calls<P> {
         let _first = self.first_xid;
     }
 
-    /// What became of each xid, where they came from no calls by what the calls below do: a fact for proofs. It was
-    /// never made; or it waits, was sent as often as its attempts count, always with the record with which it was made,
-    /// and no reply to it was taken; or one reply was taken, and it waits no more.
+    /// What became of the call of each xid, if they came from no calls by what the calls below do: a fact for proofs.
+    /// - It was never made; or
+    /// - it waits, was sent as often as its attempts count, always with the same record, and no reply to it was taken; or
+    /// - one reply was taken, and it waits no more.
     pub fn have_stories(&self)
         ensures { (ds : List Done) → Runs ds self.now → (xid : ℕ) → Story ds self.now xid }
     {}
 
-    /// Between two transmissions of a call the attempts that ran have failed, and an attempt of a call that waits runs
-    /// exactly where it was sent since the last failure: a fact for proofs.
+    /// Between two transmissions of a call the attempts that ran have failed. An attempt of a call that waits runs
+    /// exactly if it was sent since the last failure. A fact for proofs.
     pub fn are_sent_apart(&self)
         ensures { (ds : List Done) → Runs ds self.now → (xid : ℕ) → SentApart ds self.now xid }
     {}
 
-    /// Whether a call can be made now. Spent exactly where the calls made equal the limit; else Crowded exactly where
+    /// Whether a call can be made now. Spent exactly if the calls made equal the limit; else Crowded exactly if
     /// 32 calls wait.
     pub fn check(&self) -> Result<(), PutRefusal>
         ensures { result ≡ check_of self.now }
@@ -137,10 +147,11 @@ impl<P: Drop> Calls<P> {
     {
         self.check()?;
         let bytes = self.spell(prog, proc, args)?;
-        self.put_record(bytes, purpose)
+        let xid = self.put_checked(bytes, purpose)?;
+        Ok(xid)
     }
 
-    /// The record of the next call, up to its arguments: they are appended to it, and `put_record` takes it.
+    /// The record of the next call, up to its arguments: they are appended to it, and `put_checked` takes it.
     pub fn begin(&self, prog: u32, proc: u32) -> Result<Writer, Memory>
         ensures head { IfOk result (λ w. w ≡ call_head_bytes (call_head (next_xid self.now) prog proc) self.now.cred) }
         ensures spelled { OnOk result ((args : List ℕ) → SpellsCallHead (call_head (next_xid self.now) prog proc) args (call_bytes self.now.cred (next_xid self.now) prog proc args)) }
@@ -152,14 +163,16 @@ impl<P: Drop> Calls<P> {
             proc,
         };
         let mut record = Writer::record(self.alloc, ROOM)?;
-        write_call(&mut record, &head, &self.cred)?;
+        write_call_by(&mut record, &head, &self.cred)?;
         Ok(record)
     }
 
-    /// As `put`, of a call whose record is spelled already: it is taken as it is, and not copied.
-    pub fn put_record(&mut self, bytes: Record, purpose: P) -> Result<u32, PutFault>
+    /// As `put`, of a call that may be made, by `check`, and whose record is spelled already: the record is taken as it is, and not
+    /// copied. The xid of the call; an error is want of memory.
+    pub fn put_checked(&mut self, bytes: Record, purpose: P) -> Result<u32, Memory>
+        requires may { check_of self.old ≡ Ok tt }
         requires spelled { IsRecord self.old.cred (next_xid self.old) bytes }
-        ensures answer { AnswersPut self.old (check_of self.old) result }
+        ensures answer { IfOk result (λ xid. xid ≡ next_xid self.old) }
         ensures settings { KeepsSettings self.old self.new }
         ensures made { OnOk result (self.new.made ≡ self.old.made + 1) }
         ensures calls { OnOk result (self.new.calls ≡ self.old.calls ++ (next_xid self.old, made_call bytes purpose) ∷ []) }
@@ -167,28 +180,28 @@ impl<P: Drop> Calls<P> {
         ensures step { IfOk result (λ xid. DoesMake self.old xid bytes self.new) }
         ensures err { OnErr result (self.new ≡ self.old) }
     {
-        self.check()?;
         let xid = self.next_xid();
         self.calls.insert(xid, Waiting::new(bytes, purpose))?;
         self.made += 1;
         Ok(xid)
     }
 
-    /// Gives the oldest record that is due, and counts one attempt for it: it is due no more. None exactly where none
-    /// is due.
-    pub fn next_send(&mut self) -> Option<&Record>
+    /// Lends the oldest call that is due, so that its record is sent, and counts one attempt for it: it is due no more. None exactly
+    /// if none is due.
+    pub fn next_send(&mut self) -> Option<&Waiting<P>>
         ensures* ends { sem 𝓛 (ends_with P.row self.entry (sent self.old.calls)) }
-        ensures gives { option_map (λ bytes. bytes.now) result ≡ option_map (λ e. e.1.bytes) (first_due self.old.calls) }
+        ensures lends { option_map (λ call. call.now) result ≡ option_map (λ e. sent_call e.1) (first_due self.old.calls) }
+        ensures gives { option_map (λ call. call.now.bytes) result ≡ option_map (λ e. e.1.bytes) (first_due self.old.calls) }
         ensures records { KeepsRecords self.old (sent self.old.calls) }
-        ensures step { DoesGive self.old (option_map (λ bytes. bytes.now) result) }
+        ensures step { DoesGive self.old (option_map (λ call. call.now.bytes) result) }
     {
         let at = place_of_due(&self.calls)?;
         let call = &mut self.calls[at];
         call.send();
-        Some(&call.bytes)
+        Some(call)
     }
 
-    /// Takes the reply to a call that waits, which waits no more (RFC 5531, section 9). Dropped exactly where the
+    /// Takes the reply to a call that waits, which waits no more (RFC 5531, section 9). Dropped exactly if the
     /// record has fewer than 4 bytes or its first word is no xid that waits; nothing is changed then.
     pub fn take<'a>(&mut self, rec: &'a [u8]) -> Taken<'a, P>
         ensures answer { Takes self.old.calls rec.entry.now result }
@@ -210,7 +223,7 @@ impl<P: Drop> Calls<P> {
         }
     }
 
-    /// As `take`, for a caller that reads the record itself: the xid of the call, and what it was made for. None exactly where
+    /// As `take`, for a caller that reads the record itself: the xid of the call, and what it was made for. None exactly if
     /// `take` drops the record.
     pub fn take_purpose(&mut self, rec: &[u8]) -> Option<(u32, P)>
         ensures answer { TakesPurpose self.old.calls rec.now result }
@@ -231,7 +244,7 @@ impl<P: Drop> Calls<P> {
         }
     }
 
-    /// Ends the attempt that runs of each call that waits (RFC 5531, section 5). GivenUp exactly where one of them has
+    /// Ends the attempt that runs of each call that waits (RFC 5531, section 5). GivenUp exactly if one of them has
     /// ended its fourth attempt, and then with the xid of the oldest: it waits on, and none becomes due. Else Resend,
     /// and all are due.
     pub fn failed(&mut self) -> AfterFailure

@@ -1,15 +1,15 @@
-use Rattle.std.proofs.Common.{◌∙◌, sym, ap, subst, refl}
+use Rattle.std.proofs.Common.{◌∙◌, ap, subst, refl}
 use Rattle.rpc_retry.specs.Sound.{IsSound}
 use Rattle.rpc_retry.proofs.Order.{sound_inside, put_calls}
 use Rattle.rpc_retry.proofs.Steps.{does_make}
 use Rattle.rpc_retry.proofs.Records.{keeps_same, keeps_made}
-use Rattle.rpc_retry.proofs.calls.Calls.put_record.Goals as goal
+use Rattle.rpc_retry.proofs.calls.Calls.put_checked.Goals as goal
 
 pub invariant_of-self-2 : goal.invariant_of-self-2
 invariant_of-self-2 g c =
     let sound = subst IsSound c.self.view_is c.self.invariant in
     let calls = put_calls c.args.self.now c.self.inside.calls.entries _ _ _ _ sound.each (ap (λ h. h.calls) c.self.view_is) c.in_ok-insert.ensures.entries c.next_xid-xid.ensures c.new.ensures in
-    sound_inside _ c.args.self.now c.insert.new.self.entries c.args.bytes c.args.purpose c.self.view_is c.requires.spelled c.self.invariant (sym c.in_ok-check.ensures) calls
+    sound_inside _ c.args.self.now c.insert.new.self.entries c.args.bytes c.args.purpose c.self.view_is c.requires.spelled c.self.invariant c.requires.may calls
 
 pub returns-clause-calls : goal.returns-clause-calls
 returns-clause-calls g c =
