@@ -6,15 +6,15 @@ ghost use Rattle.write_back.specs.Sound.{most_pending};
 
 use nfs_types::Handle;
 use write_back::{AddFault, WriteBack};
-use xdr_codec::Memory;
+use xdr_codec::{Blob, Memory};
 
-/// Writes bytes to a file under the next number, and answers whether there was room. Without room, or memory, nothing is
-/// changed.
+/// Writes bytes to a file under the next number, and answers whether there was room. What the blob shares isn't copied. Without
+/// room, or memory, nothing is changed.
 pub fn write_if_room(
     back: &mut WriteBack,
     file: &Handle,
     offset: u64,
-    bytes: &[u8],
+    bytes: &Blob,
     number: u64,
 ) -> Result<bool, Memory>
     requires newest { IsNewest number back.old }

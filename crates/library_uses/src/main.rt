@@ -25,7 +25,7 @@ use std::alloc::Global;
 use std::io;
 use world_link::ScheduleFault;
 use write_back::WriteBack;
-use xdr_codec::{Memory, Reader, Record, Writer};
+use xdr_codec::{Blob, Memory, Reader, Record, Writer};
 
 /// An entry that is written and read again.
 fn show_entry(rt: &impl Print, alloc: Global) -> io::Result<()> {
@@ -76,11 +76,22 @@ fn show_kept(rt: &impl Print, alloc: Global, file: &Handle) -> io::Result<()> {
     println!(rt; "kept {late}")
 }
 
+/// Bytes that are to be written.
+fn greeting(alloc: Global) -> Result<Blob, Memory> {
+    let mut bytes = Vec::new(alloc);
+    bytes.extend_from_slice(b"hello")?;
+    Blob::shared(alloc, bytes)
+}
+
 /// Bytes that have room.
 fn show_dirty(rt: &impl Print, alloc: Global, file: &Handle) -> io::Result<()> {
     let mut back = WriteBack::new(alloc);
-    match write_if_room(&mut back, file, 0, b"hello", 1) {
-        Ok(room) => println!(rt; "room {room}"),
+    let Ok(bytes) = greeting(alloc) else {
+        return println!(rt; "out of memory");
+    };
+    let count = bytes.len();
+    match write_if_room(&mut back, file, 0, &bytes, 1) {
+        Ok(room) => println!(rt; "room {room} for {count} bytes"),
         Err(Memory) => println!(rt; "out of memory"),
     }
 }

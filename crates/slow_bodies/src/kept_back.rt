@@ -9,7 +9,7 @@ use nfs_types::{Handle, Verf};
 use std::alloc::Global;
 use std::marker::Model;
 use write_back::{AddFault, WriteBack};
-use xdr_codec::Memory;
+use xdr_codec::{Blob, Memory};
 
 /// No write ends past this place, and there are no more writes than this.
 const FARTHEST: u64 = 1 << 32;
@@ -55,8 +55,9 @@ impl KeptBack {
     }
 
     /// Adds bytes, with the next number.
-    pub fn add(&mut self, file: &Handle, offset: u64, bytes: &[u8]) -> Result<(), AddFault> {
-        if offset > FARTHEST || bytes.len() as u64 > FARTHEST || self.number > FARTHEST {
+    pub fn add(&mut self, file: &Handle, offset: u64, bytes: &Blob) -> Result<(), AddFault> {
+        let size = bytes.len() as u64;
+        if offset > FARTHEST || size > FARTHEST || self.number > FARTHEST {
             return Err(AddFault::Full);
         }
         self.number += 1;

@@ -196,14 +196,19 @@ fn new_pair(alloc: Global, seed: u64, room: usize) -> Result<Pair, Fault>
     })
 }
 
-/// How many made calls were answered alike, of so many.
+/// How many made calls were answered alike, of so many that begin with nothing kept.
 fn run(alloc: Global, seed: u64, count: u64, room: usize) -> Result<u64, Fault>
     requires least { 1 ≤ room }
     requires most { room ≤ 65536 }
 {
     let mut pair = new_pair(alloc, seed, room)?;
+    step_all(&mut pair, count)
+}
+
+/// How many made calls of both were answered alike, of so many.
+fn step_all(pair: &mut Pair, count: u64) -> Result<u64, Fault> {
     for done in 0..count {
-        if !step(&mut pair)? {
+        if !step(pair)? {
             return Ok(done);
         }
     }
@@ -253,12 +258,17 @@ pub fn evicted(alloc: Global, count: u64, room: usize) -> Result<bool, Fault>
     requires most { room ≤ 65536 }
 {
     let mut pair = new_pair(alloc, 7, room)?;
+    offer_all(&mut pair, count)
+}
+
+/// Offers so many pages of a file to both; whether they keep the same ones.
+fn offer_all(pair: &mut Pair, count: u64) -> Result<bool, Fault> {
     let file = file(1)?;
     pair.cache.opened(&file, &stamp(1), 5)?;
     pair.slow.opened(&file, &stamp(1), 5)?;
-    let mut same = fill(&mut pair, &file, count)?;
+    let mut same = fill(pair, &file, count)?;
     for index in 0..count {
-        same = same_page(&mut pair, &file, index)? && same;
+        same = same_page(pair, &file, index)? && same;
     }
     Ok(same)
 }

@@ -7,6 +7,7 @@ use crate::made::Made;
 use nfs_types::{Handle, Verf};
 use std::alloc::{AllocError, Global};
 use write_back::AddFault;
+use xdr_codec::Blob;
 
 /// How many files there are.
 const FILES: u64 = 2;
@@ -83,8 +84,10 @@ fn bytes(alloc: Global, made: &mut Made, count: u64) -> Result<Vec<u8>, AllocErr
     Ok(bytes)
 }
 
-/// Whether both show the same of a file: its bytes, their end, what is in flight under each xid and whether anything is, how
-/// many bytes are pending in all, and which file has the oldest.
+/// Whether both show the same of a file:
+/// - its bytes, and their end;
+/// - what is in flight under each xid, and whether anything is;
+/// - how many bytes are pending in all, and which file has the oldest.
 fn same_file(pair: &Pair, file: &Handle) -> Result<bool, Fault> {
     let mut fast = [0xee; PLACES];
     let mut slow = [0xee; PLACES];
@@ -125,9 +128,10 @@ fn add(pair: &mut Pair, file: &Handle) -> Result<bool, Fault> {
     let offset = pair.made.below(65);
     let count = pair.made.below(17);
     let put = bytes(pair.alloc, &mut pair.made, count)?;
-    let added = pair.back.add(file, offset, put.as_slice());
+    let put = Blob::shared(pair.alloc, put)?;
+    let added = pair.back.add(file, offset, &put);
     let number = pair.back.number();
-    let fits = pair.slow.add(file, offset, put.as_slice(), number)?;
+    let fits = pair.slow.add(file, offset, put.bytes(), number)?;
     Ok(match added {
         Ok(()) => fits,
         Err(AddFault::Full) => !fits,
@@ -180,7 +184,7 @@ fn returned(pair: &mut Pair, file: &Handle) -> Result<bool, Fault> {
     Ok(true)
 }
 
-/// A piece gets another xid, where there is one and that xid is free.
+/// A piece gets another xid, if there is one and that xid is free.
 fn renumber(pair: &mut Pair, file: &Handle) -> Result<bool, Fault> {
     let from = flying(pair, file)?;
     let to = xid(&mut pair.made);
@@ -207,7 +211,7 @@ fn settle(pair: &mut Pair, file: &Handle) -> bool {
     }
 }
 
-/// Bytes go that aren't to be written any more, where nothing is in flight.
+/// Bytes go that aren't to be written any more, if nothing is in flight.
 fn cut(pair: &mut Pair, file: &Handle) -> Result<bool, Fault> {
     let still = is_still(pair, file)?;
     let upto = upto(pair);
@@ -240,15 +244,18 @@ fn step(pair: &mut Pair) -> Result<bool, Fault> {
     Ok(same && same_file(pair, &file)?)
 }
 
-/// How many made calls were answered alike, of so many, and then one more where every file is as it was left.
+/// How many made calls were answered alike, of so many, and then one more if every file is as it was left.
 fn run(alloc: Global, seed: u64, count: u64) -> Result<u64, Fault> {
-    let mut pair = new_pair(alloc, seed);
+    step_all(&mut new_pair(alloc, seed), count)
+}
+
+fn step_all(pair: &mut Pair, count: u64) -> Result<u64, Fault> {
     for done in 0..count {
-        if !step(&mut pair)? {
+        if !step(pair)? {
             return Ok(done);
         }
     }
-    let alike = u64::from(same_files(&pair)?);
+    let alike = u64::from(same_files(pair)?);
     Ok(count.saturating_add(alike))
 }
 
@@ -273,9 +280,10 @@ pub fn compare(
 fn has_room(pair: &mut Pair, file: &Handle, offset: u64, count: usize) -> Result<bool, Fault> {
     let mut put = Vec::new(pair.alloc);
     put.resize(count, 0x5a)?;
-    let added = pair.back.add(file, offset, put.as_slice());
+    let put = Blob::shared(pair.alloc, put)?;
+    let added = pair.back.add(file, offset, &put);
     let number = pair.back.number();
-    let fits = pair.slow.add(file, offset, put.as_slice(), number)?;
+    let fits = pair.slow.add(file, offset, put.bytes(), number)?;
     match added {
         Ok(()) if fits => Ok(true),
         Err(AddFault::Full) if !fits => Ok(false),
@@ -294,13 +302,16 @@ const ADDED: [(u64, usize, bool); 5] = [
 
 /// Whether both are full at the same byte, the last one of 4,194,304.
 pub fn full(alloc: Global) -> Result<bool, Fault> {
-    let mut pair = new_pair(alloc, 7);
+    fill_up(&mut new_pair(alloc, 7))
+}
+
+fn fill_up(pair: &mut Pair) -> Result<bool, Fault> {
     let file = file(1)?;
     let mut same = true;
     for (offset, count, room) in ADDED {
-        same = has_room(&mut pair, &file, offset, count)? == room && same;
+        same = has_room(pair, &file, offset, count)? == room && same;
     }
-    Ok(same_file(&pair, &file)? && same)
+    Ok(same_file(pair, &file)? && same)
 }
 
 /// Whether the file of the least number is this one, in both.
@@ -316,23 +327,40 @@ fn cuts(pair: &mut Pair, file: &Handle, size: u64, upto: u64) -> Result<bool, Fa
 
 /// Whether both tell the same file as that of the least number, by hand, as bytes of two files are added, cut and given up.
 pub fn oldest(alloc: Global) -> Result<bool, Fault> {
-    let mut pair = new_pair(alloc, 7);
+    oldest_of(&mut new_pair(alloc, 7))
+}
+
+fn oldest_of(pair: &mut Pair) -> Result<bool, Fault> {
     let (a, b) = (file(2)?, file(3)?);
-    let mut same = is_oldest(&pair, None);
+    let before = is_oldest(pair, None);
+    let added = add_by_hand(pair, a, b)?;
+    let cut = cut_by_hand(pair, a, b)?;
+    pair.slow.give_up(&a);
+    let gone = pair.back.give_up(&a);
+    Ok(is_oldest(pair, Some(b)) && pair.back.pending() == 1 && before && added && cut && gone)
+}
+
+/// Bytes of two files are added: the second one has the oldest.
+fn add_by_hand(pair: &mut Pair, a: Handle, b: Handle) -> Result<bool, Fault> {
+    let mut same = true;
     for (file, offset, count, oldest) in [
         (a, 0, 0, None),
         (b, 0, 4, Some(b)),
         (a, 0, 4, Some(b)),
         (b, 2, 3, Some(b)),
     ] {
-        same = has_room(&mut pair, &file, offset, count)? && same;
-        same = is_oldest(&pair, oldest) && same;
+        same = has_room(pair, &file, offset, count)? && same;
+        same = is_oldest(pair, oldest) && same;
     }
+    Ok(same)
+}
+
+/// Bytes of the second file go, the oldest last.
+fn cut_by_hand(pair: &mut Pair, a: Handle, b: Handle) -> Result<bool, Fault> {
+    let mut same = true;
     for (size, upto, oldest) in [(1, 3, b), (3, 4, b), (2, 2, b), (0, 2, a)] {
-        same = cuts(&mut pair, &b, size, upto)? && same;
-        same = is_oldest(&pair, Some(oldest)) && same;
+        same = cuts(pair, &b, size, upto)? && same;
+        same = is_oldest(pair, Some(oldest)) && same;
     }
-    pair.slow.give_up(&a);
-    same = pair.back.give_up(&a) && same;
-    Ok(is_oldest(&pair, Some(b)) && pair.back.pending() == 1 && same)
+    Ok(same)
 }

@@ -23,7 +23,7 @@ use crate::spans::Spans;
 use nfs_types::Handle;
 use std::alloc::Global;
 use std::marker::Model;
-use xdr_codec::Memory;
+use xdr_codec::{Blob, Memory};
 
 /// What is pending of one file: the newest bytes, and what is in flight. At most 4,194,304 bytes are.
 #[derive(Drop)]
@@ -101,7 +101,7 @@ impl FileBytes {
         ages: &mut Ages,
         file: &Handle,
         offset: u64,
-        bytes: &[u8],
+        bytes: &Blob,
         number: u64,
     ) -> Result<(), Memory>
         requires some { 0 < length bytes.now }
@@ -283,7 +283,7 @@ impl FileBytes {
     }
 }
 
-/// A place before which nothing waits with a number up to `upto`: the one for another number where that is no less,
+/// A place before which nothing waits with a number up to `upto`: the one for another number if that is no less,
 /// else the one before which nothing waits at all.
 fn passed_before(passed: u64, passed_upto: u64, resume: u64, upto: u64) -> u64
     ensures { result ≡ (if nat_le upto passed_upto then passed else resume) }

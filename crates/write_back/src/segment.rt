@@ -3,16 +3,16 @@
 ghost use Rattle.std.specs.Prelude.{◌≡◌, ◌^◌, ◌<◌, ◌≤◌, length, take, IfOk};
 ghost use Rattle.write_back.specs.Segments.{head_of, tail_of, with_state, own_size};
 
-use crate::run::Run;
+use crate::run::rest_of;
 use crate::state::State;
 use std::alloc::Global;
 use std::marker::Model;
-use xdr_codec::Memory;
+use xdr_codec::{Blob, Memory};
 
 /// Bytes of a file that stand next to each other and came by one write.
 #[derive(Drop)]
 pub struct Segment {
-    bytes: Run,
+    bytes: Blob,
     number: u64,
     state: State,
 }
@@ -26,12 +26,12 @@ impl Model for Segment {
 }
 
 impl Segment {
-    /// A copy of these bytes, with the number of their write and what became of them.
-    pub fn copy(alloc: Global, bytes: &[u8], number: u64, state: State) -> Result<Segment, Memory>
+    /// These bytes, with the number of their write and what became of them. They are shared or copied as by `rest_of`.
+    pub fn of(alloc: Global, bytes: &Blob, number: u64, state: State) -> Result<Segment, Memory>
         ensures { IfOk result (λ s. s ≡ record { bytes = bytes.now; number = number; state = state }) }
     {
         Ok(Segment {
-            bytes: Run::copy(alloc, bytes)?,
+            bytes: rest_of(alloc, bytes, 0)?,
             number,
             state,
         })
@@ -86,10 +86,12 @@ impl Segment {
     }
 
     /// Its first bytes, which aren't copied.
-    pub fn head(&self, len: usize) -> Result<Run, Memory>
-        ensures { IfOk result (λ r. r ≡ take len self.now.bytes) }
+    pub fn head(&self, alloc: Global, len: usize) -> Result<Blob, Memory>
+        ensures { IfOk result (λ b. b ≡ take len self.now.bytes) }
     {
-        self.bytes.head(len)
+        let mut head = self.bytes.again(alloc)?;
+        head.shorten(len);
+        Ok(head)
     }
 
     /// Its bytes from a place on.
@@ -98,7 +100,7 @@ impl Segment {
         ensures { IfOk result (λ s. s ≡ tail_of from self.now) }
     {
         Ok(Segment {
-            bytes: self.bytes.tail(alloc, from)?,
+            bytes: rest_of(alloc, &self.bytes, from)?,
             number: self.number,
             state: self.state,
         })

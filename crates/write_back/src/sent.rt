@@ -5,7 +5,7 @@ ghost use Rattle.std.specs.Vec.{vec_capacity};
 ghost use Rattle.write_back.specs.Pieces.{end_of_sent, overlaps};
 ghost use Rattle.write_back.specs.Segments.{head_of};
 
-use crate::run::{Run, Runs};
+use crate::run::Runs;
 use crate::segment::Segment;
 use crate::state::{Ready, State};
 use std::alloc::Global;
@@ -88,7 +88,7 @@ impl SentPiece {
         self.bytes.bytes()
     }
 
-    /// The bytes as a blob, in room that was taken for them where they have to be copied.
+    /// The bytes as a blob, in room that was taken for them if they have to be copied.
     pub fn blob(&self, alloc: Global, room: Vec<u8>) -> Blob
         requires empty { room.items ≡ [] }
         requires fits { length self.now.bytes ≤ vec_capacity room }
@@ -127,7 +127,7 @@ impl SentPiece {
     }
 
     /// Takes bytes of one segment after those that it has. After an error it isn't to be used.
-    pub fn take(&mut self, bytes: Run, number: u64, before: Ready) -> Result<(), Memory>
+    pub fn take(&mut self, bytes: Blob, number: u64, before: Ready) -> Result<(), Memory>
         ensures { OnOk result (self.new ≡ record { xid = self.old.xid; offset = self.old.offset; how = self.old.how; bytes = self.old.bytes ++ bytes; parts = self.old.parts ++ record { size = length bytes; number = number; before = before } ∷ [] }) }
     {
         let size = bytes.len() as u64;

@@ -19,7 +19,7 @@ use crate::state::{Ready, State};
 use crate::walks;
 use std::alloc::Global;
 use std::marker::Model;
-use xdr_codec::Memory;
+use xdr_codec::{Blob, Memory};
 
 /// The newest pending bytes of one file, as segments in order of their offsets. Each has bytes, and no two share a
 /// place. A look-up takes time in the logarithm of their number.
@@ -82,7 +82,7 @@ impl Spans {
         &mut self,
         alloc: Global,
         offset: u64,
-        bytes: &[u8],
+        bytes: &Blob,
         number: u64,
     ) -> Result<(), Memory>
         requires some { 0 < length bytes.now }
@@ -91,7 +91,7 @@ impl Spans {
         ensures err { OnErr result (self.new ≡ self.old) }
     {
         let end = offset + bytes.len() as u64;
-        let segment = Segment::copy(alloc, bytes, number, State::Waiting(Ready::Unsent))?;
+        let segment = Segment::of(alloc, bytes, number, State::Waiting(Ready::Unsent))?;
         let tail = self.tail_past(alloc, end)?;
         let cut = self.passing_at(offset);
         self.map.lay_both(offset, segment, end, tail)?;
@@ -145,7 +145,7 @@ impl Spans {
         Ok(Some(segment.tail(alloc, (place - at) as usize)?))
     }
 
-    /// The segment that goes on past a place is cut there. Where it isn't in flight it stays if `flying` is said. When
+    /// The segment that goes on past a place is cut there. If it isn't in flight it stays if `flying` is said. When
     /// out of memory nothing is changed.
     pub fn split(&mut self, alloc: Global, place: u64, flying: bool) -> Result<(), Memory>
         ensures ok { OnOk result (self.new ≡ split_as flying place self.old) }
@@ -197,7 +197,7 @@ impl Spans {
     }
 
     /// Where the first segment begins, from a place on, that may be sent by its state and whose number is at most
-    /// `upto`; past all where there is none.
+    /// `upto`; past all if there is none.
     pub fn first_waiting(&self, from: u64, upto: u64) -> u64
         ensures { result ≡ place_of (first_that (λ e. waits_upto upto e.1) from self.now) }
     {
@@ -238,8 +238,8 @@ impl Spans {
         walks::covered(&self.map, alloc, low, high)
     }
 
-    /// What is kept of the writes loses the bytes of the segments that begin between two places, the second left out,
-    /// and that a change takes away.
+    /// What is kept of the writes loses the bytes of some segments. They begin between two places, the second left out,
+    /// and a change takes them away.
     pub fn lessen_gone(&self, low: u64, high: u64, change: Change, ages: &mut Ages)
         requires { low ≤ high }
         ensures { Lessens (λ n. gone_by change low high n self.now) ages.old ages.new }
@@ -256,8 +256,8 @@ impl Spans {
     }
 }
 
-/// What is kept of its write loses the bytes of a segment, if there is one, past a place that it goes on past, if its
-/// number is at most another.
+/// What is kept of its write loses the bytes of a segment past a place, if there is one that goes on past it. That is
+/// so if its number is at most another.
 fn lessen_tail(segment: Option<(u64, &Segment)>, place: u64, upto: u64, ages: &mut Ages)
     requires { IfSome segment (λ p. (p.0 < place) × (place < p.0 + length p.1.now.bytes)) }
     ensures { Lessens (λ n. cut_by place upto n (one_of (option_map (λ p. (p.0, p.1.now)) segment.entry))) ages.old ages.new }

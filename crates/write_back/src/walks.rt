@@ -33,7 +33,7 @@ pub fn first_ready(map: &SegmentMap, from: u64) -> Option<u64>
 }
 
 /// Where the first segment begins, from a place on, that may be sent by its state and whose number is at most `upto`; past
-/// all where there is none. No two share a place.
+/// all if there is none. No two share a place.
 pub fn first_waiting(map: &SegmentMap, from: u64, upto: u64) -> u64
     requires { AreApart 0 map.now }
     ensures { result ≡ place_of (first_that (λ e. waits_upto upto e.1) from map.now) }
@@ -89,7 +89,7 @@ pub fn gather(
         if !goes_on(piece.end(), segment, how, left, upto, sent) {
             return Ok(piece);
         }
-        take_from(&mut piece, segment, left)?;
+        take_from(alloc, &mut piece, segment, left)?;
     }
     Ok(piece)
 }
@@ -103,11 +103,16 @@ fn goes_on(at: u64, segment: &Segment, how: u32, room: usize, upto: u64, sent: &
 }
 
 /// Takes the first bytes of a segment, at most `room`, into a piece.
-fn take_from(piece: &mut SentPiece, segment: &Segment, room: usize) -> Result<(), Memory>
+fn take_from(
+    alloc: Global,
+    piece: &mut SentPiece,
+    segment: &Segment,
+    room: usize,
+) -> Result<(), Memory>
     ensures { OnOk result (piece.new ≡ with_run piece.old ((end_of_sent piece.old, head_of room segment.now) ∷ [])) }
 {
     piece.take(
-        segment.head(room)?,
+        segment.head(alloc, room)?,
         segment.number(),
         segment.state().ready(),
     )
@@ -176,8 +181,8 @@ fn push_covered(
     Ok(())
 }
 
-/// What is kept of the writes loses the bytes of the segments that begin between two places, the second left out, and
-/// that a change takes away. No two share a place.
+/// What is kept of the writes loses the bytes of some segments. They begin between two places, the second left out, and a
+/// change takes them away. No two share a place.
 pub fn lessen_gone(map: &SegmentMap, low: u64, high: u64, change: Change, ages: &mut Ages)
     requires apart { AreApart 0 map.now }
     requires forward { low ≤ high }

@@ -70,14 +70,15 @@ impl WriteBack {
     }
 
     /// Adds bytes that were written to a file, with a number. What is pending there and isn't in flight is gone; what
-    /// is in flight stays so. No bytes add nothing. Full exactly where with them more than 4,194,304 bytes would be
+    /// is in flight stays so. No bytes add nothing. Full exactly if with them more than 4,194,304 bytes would be
     /// pending, those in flight among them. After Full and Memory nothing is changed. The number is above all earlier
-    /// ones, and the offset plus the length is at most 2^63 - 1.
+    /// ones, and the offset plus the length is at most 2^63 - 1. Bytes that the blob shares
+    /// aren't copied, unless they are less than half of the memory that is kept for them.
     pub fn add(
         &mut self,
         file: &Handle,
         offset: u64,
-        bytes: &[u8],
+        bytes: &Blob,
         seq: u64,
     ) -> Result<(), AddFault>
         requires newest { IsNewest seq self.old }
@@ -88,10 +89,11 @@ impl WriteBack {
         ensures total { OnOk result (all_pending self.new ≤ all_pending self.old + length bytes.now) }
         ensures err { OnErr result (self.new ≡ self.old) }
     {
-        if self.total + bytes.len() as u64 > MOST {
+        let size = bytes.len() as u64;
+        if self.total + size > MOST {
             return Err(AddFault::Full);
         }
-        if bytes.is_empty() {
+        if size == 0 {
             return Ok(());
         }
         self.lay(file, offset, bytes, seq)?;
@@ -99,7 +101,7 @@ impl WriteBack {
     }
 
     /// Lays bytes, at least one, over those of a file. When out of memory nothing is changed.
-    fn lay(&mut self, file: &Handle, offset: u64, bytes: &[u8], seq: u64) -> Result<(), Memory>
+    fn lay(&mut self, file: &Handle, offset: u64, bytes: &Blob, seq: u64) -> Result<(), Memory>
         requires some { 0 < length bytes.now }
         requires last { offset + length bytes.now ≤ 2 ^ 63 - 1 }
         requires room { all_pending self.old + length bytes.now ≤ most_pending }
@@ -128,7 +130,7 @@ impl WriteBack {
     /// Puts a piece of a file in flight under an xid, and shows it. It begins at the lowest offset of a segment that
     /// may go: one that the server doesn't have, with a number up to `upto`, which shares no place with what is in
     /// flight. It goes on through segments that touch it, may go and are to be sent alike, until it has `wsize` bytes.
-    /// None exactly where no segment may go. When out of memory nothing is changed. `wsize` is at least 1, and nothing
+    /// None exactly if no segment may go. When out of memory nothing is changed. `wsize` is at least 1, and nothing
     /// is in flight under that xid.
     pub fn next_to_send(
         &mut self,
@@ -173,8 +175,8 @@ impl WriteBack {
         Some(shown_piece(piece))
     }
 
-    /// The bytes of the piece of a file that was sent last, none where none was. Those that come of one segment aren't
-    /// copied where they can be shared, else they are into room that was taken for them.
+    /// The bytes of the piece of a file that was sent last, none if none was. Those that come of one segment aren't
+    /// copied if they can be shared, else they are into room that was taken for them.
     pub fn last_bytes(&self, file: &Handle, room: Vec<u8>) -> Blob
         requires empty { room.items ≡ [] }
         requires fits { length (bytes_sent (last_of (of_file file.now self.now).pieces)) ≤ vec_capacity room }
@@ -193,7 +195,7 @@ impl WriteBack {
         self.files.get(file)?.last_sent()
     }
 
-    /// The piece of a file that is in flight under an xid. None where there is none.
+    /// The piece of a file that is in flight under an xid. None if there is none.
     pub fn in_flight(&self, file: &Handle, xid: u32) -> Option<Piece<'_>>
         ensures { ShowsSent (piece_under xid (of_file file.now self.now).pieces) result }
     {
@@ -222,7 +224,7 @@ impl WriteBack {
         }
     }
 
-    /// The server has the first `count` bytes of a piece: under this verifier where `committed` is 0, else they are
+    /// The server has the first `count` bytes of a piece: under this verifier if `committed` is 0, else they are
     /// stable and pending no more (RFC 1813, section 3.3.7). The others are as before they were sent, and what newer
     /// bytes cover is pending no more. When out of memory all of the piece is as before it was sent; a whole count
     /// takes no memory. An unknown xid changes nothing.
@@ -348,7 +350,7 @@ impl WriteBack {
         }
     }
 
-    /// Where the last pending byte of a file ends. None where it has none.
+    /// Where the last pending byte of a file ends. None if it has none.
     pub fn end(&self, file: &Handle) -> Option<u64>
         ensures { result ≡ last_end (of_file file.now self.now).segments }
     {
@@ -383,9 +385,10 @@ impl WriteBack {
         }
     }
 
-    /// How many bytes are pending in all, those in flight among them. At most 4,194,304 are. The pending bytes of each
-    /// file are sound: its segments share no place, nor do its pieces in flight, and each byte in flight is the newest
-    /// of its place or stands under one that wasn't sent yet.
+    /// How many bytes are pending in all, those in flight among them. At most 4,194,304 are. The pending bytes of each file
+    /// are sound:
+    /// - its segments share no place, nor do its pieces in flight;
+    /// - each byte in flight is the newest of its place, or stands under one that wasn't sent yet.
     pub fn pending(&self) -> u64
         ensures count { result ≡ all_pending self.now }
         ensures most { result ≤ most_pending }
@@ -401,7 +404,7 @@ impl WriteBack {
         let _files = self.files.iter();
     }
 
-    /// The file of the least number that is pending. None exactly where nothing is.
+    /// The file of the least number that is pending. None exactly if nothing is.
     pub fn oldest(&self) -> Option<Handle>
         ensures file { TellsOldest self.now result }
         ensures nothing { (result ≡ None) ↔ (all_pending self.now ≡ 0) }
@@ -431,7 +434,7 @@ impl WriteBack {
     }
 }
 
-/// The change of bytes that the server has: they are stable where `committed` is at least 1 (RFC 1813, section 3.3.7).
+/// The change of bytes that the server has: they are stable if `committed` is at least 1 (RFC 1813, section 3.3.7).
 fn acked_by(committed: u32, verf: Verf) -> Change
     ensures { result ≡ acked_by committed verf }
 {

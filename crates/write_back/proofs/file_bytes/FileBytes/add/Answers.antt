@@ -20,4 +20,4 @@ pub returns-clause-takes : goal.returns-clause-takes
 returns-clause-takes c =
     let fresh = rw (← c.self.view_is) at c.requires.fresh in
     rw (← c.self.view_is) (takes-added c.args.offset c.args.bytes.now c.args.number c.args.file.now (record { segments = c.self.inside.spans; pieces = c.self.inside.sent.items }) c.put.new.self c.as_slice.result.now c.args.ages.now c.enter.new.self c.lessen_parts.new.self c.self.invariant.kept.sound.apart fresh c.in_default.ensures.ok
-    (c.as_slice.ensures.value ∙ c.in_ok-older.ensures) c.in_ok-enter.ensures.ok c.lessen_parts.ensures)
+    (rw c.len-size.ensures.len at (c.as_slice.ensures.value ∙ c.in_ok-older.ensures)) (rw c.len-size.ensures.len at c.in_ok-enter.ensures.ok) c.lessen_parts.ensures)
