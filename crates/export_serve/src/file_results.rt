@@ -5,7 +5,7 @@ ghost use Rattle.xdr_codec.specs.Spells.{Wrote};
 ghost use Rattle.nfs_file_calls.specs.Replies.{kept_of, reply_proc, HasSpellingReply, SpellsFileResults, file_reply_bytes};
 
 use nfs_file_calls::{FileKept, FileReply, write_file_reply};
-use xdr_codec::{Memory, Writer};
+use xdr_codec::{Lent, Memory, Writer};
 
 /// Appends the results of a reply.
 pub(crate) fn write_file_results(w: &mut Writer, reply: &FileKept) -> Result<(), Memory>
@@ -38,7 +38,7 @@ fn file_reply<'a>(reply: &'a FileKept) -> FileReply<'a>
             attr,
             count,
             eof,
-            bytes: bytes.bytes(),
+            bytes: Lent::of(bytes.bytes()),
         },
         FileKept::ReadFail { status, attr } => FileReply::ReadFail { status, attr },
         FileKept::Write {

@@ -151,117 +151,53 @@ pub enum DirKept {
 pub fn kept(alloc: Global, reply: &DirReply<'_>) -> Result<DirKept, Memory>
     ensures { IfOk result (λ k. k ≡ kept_of reply.now) }
 {
-    Ok(match reply {
-        DirReply::Lookup { found, attr, dir } => DirKept::Lookup {
-            found: *found,
-            attr: *attr,
-            dir: *dir,
-        },
-        DirReply::LookupFail { status, dir } => DirKept::LookupFail {
-            status: *status,
-            dir: *dir,
-        },
+    Ok(match *reply {
+        DirReply::Lookup { found, attr, dir } => DirKept::Lookup { found, attr, dir },
+        DirReply::LookupFail { status, dir } => DirKept::LookupFail { status, dir },
         DirReply::ReadLink { attr, text } => DirKept::ReadLink {
-            attr: *attr,
+            attr,
             text: Blob::copy(alloc, text)?,
         },
-        DirReply::ReadLinkFail { status, attr } => DirKept::ReadLinkFail {
-            status: *status,
-            attr: *attr,
-        },
-        DirReply::Create { found, attr, wcc } => DirKept::Create {
-            found: *found,
-            attr: *attr,
-            wcc: *wcc,
-        },
-        DirReply::CreateFail { status, wcc } => DirKept::CreateFail {
-            status: *status,
-            wcc: *wcc,
-        },
-        DirReply::MkDir { found, attr, wcc } => DirKept::MkDir {
-            found: *found,
-            attr: *attr,
-            wcc: *wcc,
-        },
-        DirReply::MkDirFail { status, wcc } => DirKept::MkDirFail {
-            status: *status,
-            wcc: *wcc,
-        },
-        DirReply::SymLink { found, attr, wcc } => DirKept::SymLink {
-            found: *found,
-            attr: *attr,
-            wcc: *wcc,
-        },
-        DirReply::SymLinkFail { status, wcc } => DirKept::SymLinkFail {
-            status: *status,
-            wcc: *wcc,
-        },
-        DirReply::MkNod { found, attr, wcc } => DirKept::MkNod {
-            found: *found,
-            attr: *attr,
-            wcc: *wcc,
-        },
-        DirReply::MkNodFail { status, wcc } => DirKept::MkNodFail {
-            status: *status,
-            wcc: *wcc,
-        },
-        DirReply::Remove { wcc } => DirKept::Remove { wcc: *wcc },
-        DirReply::RemoveFail { status, wcc } => DirKept::RemoveFail {
-            status: *status,
-            wcc: *wcc,
-        },
-        DirReply::RmDir { wcc } => DirKept::RmDir { wcc: *wcc },
-        DirReply::RmDirFail { status, wcc } => DirKept::RmDirFail {
-            status: *status,
-            wcc: *wcc,
-        },
-        DirReply::Rename { from, to } => DirKept::Rename {
-            from: *from,
-            to: *to,
-        },
-        DirReply::RenameFail { status, from, to } => DirKept::RenameFail {
-            status: *status,
-            from: *from,
-            to: *to,
-        },
-        DirReply::Link { attr, wcc } => DirKept::Link {
-            attr: *attr,
-            wcc: *wcc,
-        },
-        DirReply::LinkFail { status, attr, wcc } => DirKept::LinkFail {
-            status: *status,
-            attr: *attr,
-            wcc: *wcc,
-        },
+        DirReply::ReadLinkFail { status, attr } => DirKept::ReadLinkFail { status, attr },
+        DirReply::Create { found, attr, wcc } => DirKept::Create { found, attr, wcc },
+        DirReply::CreateFail { status, wcc } => DirKept::CreateFail { status, wcc },
+        DirReply::MkDir { found, attr, wcc } => DirKept::MkDir { found, attr, wcc },
+        DirReply::MkDirFail { status, wcc } => DirKept::MkDirFail { status, wcc },
+        DirReply::SymLink { found, attr, wcc } => DirKept::SymLink { found, attr, wcc },
+        DirReply::SymLinkFail { status, wcc } => DirKept::SymLinkFail { status, wcc },
+        DirReply::MkNod { found, attr, wcc } => DirKept::MkNod { found, attr, wcc },
+        DirReply::MkNodFail { status, wcc } => DirKept::MkNodFail { status, wcc },
+        DirReply::Remove { wcc } => DirKept::Remove { wcc },
+        DirReply::RemoveFail { status, wcc } => DirKept::RemoveFail { status, wcc },
+        DirReply::RmDir { wcc } => DirKept::RmDir { wcc },
+        DirReply::RmDirFail { status, wcc } => DirKept::RmDirFail { status, wcc },
+        DirReply::Rename { from, to } => DirKept::Rename { from, to },
+        DirReply::RenameFail { status, from, to } => DirKept::RenameFail { status, from, to },
+        DirReply::Link { attr, wcc } => DirKept::Link { attr, wcc },
+        DirReply::LinkFail { status, attr, wcc } => DirKept::LinkFail { status, attr, wcc },
         DirReply::ReadDir {
             attr,
             verf,
-            page,
+            ref page,
             eof,
         } => DirKept::ReadDir {
-            attr: *attr,
-            verf: *verf,
+            attr,
+            verf,
             page: page.rows(alloc)?,
-            eof: *eof,
+            eof,
         },
-        DirReply::ReadDirFail { status, attr } => DirKept::ReadDirFail {
-            status: *status,
-            attr: *attr,
-        },
+        DirReply::ReadDirFail { status, attr } => DirKept::ReadDirFail { status, attr },
         DirReply::ReadDirPlus {
             attr,
             verf,
-            page,
+            ref page,
             eof,
         } => DirKept::ReadDirPlus {
-            attr: *attr,
-            verf: *verf,
+            attr,
+            verf,
             page: page.rows(alloc)?,
-            eof: *eof,
+            eof,
         },
-        DirReply::ReadDirPlusFail { status, attr } => DirKept::ReadDirPlusFail {
-            status: *status,
-            attr: *attr,
-        },
+        DirReply::ReadDirPlusFail { status, attr } => DirKept::ReadDirPlusFail { status, attr },
     })
 }

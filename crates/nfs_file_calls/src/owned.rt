@@ -1,14 +1,14 @@
 //! Replies that own their data.
 
 ghost use Rattle.std.specs.Prelude.{◌≡◌, IfOk};
-ghost use Rattle.nfs_file_calls.specs.Replies.{kept_of};
+ghost use Rattle.nfs_file_calls.specs.Replies.{kept_of, reply_proc};
 
 use crate::reply::FileReply;
 use nfs_types::{Attr, Status, Time, Verf, Wcc};
 use std::alloc::Global;
 use xdr_codec::{Blob, Memory};
 
-/// A reply that owns its data: the variants and fields of FileReply, with a Blob in place of each slice.
+/// A reply that owns its data: the variants and fields of FileReply, with a Blob in place of lent bytes.
 #[derive(Debug, Drop)]
 pub enum FileKept {
     /// As FileReply::Null.
@@ -126,7 +126,6 @@ pub enum FileKept {
     },
 }
 
-// One arm a reply, field by field: longer than other functions, but a split would only hide the table.
 /// A copy of a reply that owns its data.
 pub fn kept(alloc: Global, reply: &FileReply<'_>) -> Result<FileKept, Memory>
     ensures { IfOk result (λ k. k ≡ kept_of reply.now) }
@@ -143,12 +142,12 @@ pub fn kept(alloc: Global, reply: &FileReply<'_>) -> Result<FileKept, Memory>
             attr,
             count,
             eof,
-            bytes,
+            ref bytes,
         } => FileKept::Read {
             attr,
             count,
             eof,
-            bytes: Blob::copy(alloc, bytes)?,
+            bytes: Blob::copy(alloc, bytes.bytes())?,
         },
         FileReply::ReadFail { status, attr } => FileKept::ReadFail { status, attr },
         FileReply::Write {
@@ -163,6 +162,20 @@ pub fn kept(alloc: Global, reply: &FileReply<'_>) -> Result<FileKept, Memory>
             verf,
         },
         FileReply::WriteFail { status, wcc } => FileKept::WriteFail { status, wcc },
+        FileReply::FsStat { .. } | FileReply::FsStatFail { .. } => kept_fs_stat(reply),
+        FileReply::FsInfo { .. } | FileReply::FsInfoFail { .. } => kept_fs_info(reply),
+        FileReply::PathConf { .. } | FileReply::PathConfFail { .. } => kept_path_conf(reply),
+        FileReply::Commit { wcc, verf } => FileKept::Commit { wcc, verf },
+        FileReply::CommitFail { status, wcc } => FileKept::CommitFail { status, wcc },
+    })
+}
+
+/// A copy of a reply to FSSTAT (RFC 1813, section 3.3.18).
+fn kept_fs_stat(reply: &FileReply<'_>) -> FileKept
+    requires { reply_proc (kept_of reply.now) ≡ 18 }
+    ensures { result ≡ kept_of reply.now }
+{
+    match *reply {
         FileReply::FsStat {
             attr,
             tbytes,
@@ -183,6 +196,16 @@ pub fn kept(alloc: Global, reply: &FileReply<'_>) -> Result<FileKept, Memory>
             invarsec,
         },
         FileReply::FsStatFail { status, attr } => FileKept::FsStatFail { status, attr },
+        _ => unreachable!(),
+    }
+}
+
+/// A copy of a reply to FSINFO (RFC 1813, section 3.3.19).
+fn kept_fs_info(reply: &FileReply<'_>) -> FileKept
+    requires { reply_proc (kept_of reply.now) ≡ 19 }
+    ensures { result ≡ kept_of reply.now }
+{
+    match *reply {
         FileReply::FsInfo {
             attr,
             rtmax,
@@ -209,6 +232,16 @@ pub fn kept(alloc: Global, reply: &FileReply<'_>) -> Result<FileKept, Memory>
             properties,
         },
         FileReply::FsInfoFail { status, attr } => FileKept::FsInfoFail { status, attr },
+        _ => unreachable!(),
+    }
+}
+
+/// A copy of a reply to PATHCONF (RFC 1813, section 3.3.20).
+fn kept_path_conf(reply: &FileReply<'_>) -> FileKept
+    requires { reply_proc (kept_of reply.now) ≡ 20 }
+    ensures { result ≡ kept_of reply.now }
+{
+    match *reply {
         FileReply::PathConf {
             attr,
             linkmax,
@@ -227,7 +260,6 @@ pub fn kept(alloc: Global, reply: &FileReply<'_>) -> Result<FileKept, Memory>
             case_preserving,
         },
         FileReply::PathConfFail { status, attr } => FileKept::PathConfFail { status, attr },
-        FileReply::Commit { wcc, verf } => FileKept::Commit { wcc, verf },
-        FileReply::CommitFail { status, wcc } => FileKept::CommitFail { status, wcc },
-    })
+        _ => unreachable!(),
+    }
 }

@@ -6,7 +6,7 @@ ghost use Rattle.nfs_types.specs.Fields.{opt_attr_bytes};
 ghost use Rattle.xdr_codec.specs.Spells.{Wrote};
 ghost use Rattle.xdr_codec.specs.Whole.{Gives, FindsWhole};
 ghost use Rattle.nfs_file_calls.specs.Calls.{IsFileProc};
-ghost use Rattle.nfs_file_calls.specs.Replies.{kept_of, HasSpellingReply, file_reply_at, file_reply_bytes, SpellsFileResults, SpellsFileReply};
+ghost use Rattle.nfs_file_calls.specs.Replies.{kept_of, reply_proc, HasSpellingReply, file_reply_at, file_reply_bytes, SpellsFileResults, SpellsFileReply};
 
 use crate::attributes::{
     read_access_reply, read_get_attr_reply, read_null_reply, read_set_attr_reply, write_access_done,
@@ -24,12 +24,12 @@ use nfs_types::nfs_proc::{
     ACCESS, COMMIT, FSINFO, FSSTAT, GETATTR, NULL, PATHCONF, READ, SETATTR, WRITE,
 };
 use nfs_types::{Attr, Status, Time, Verf, Wcc, write_attr, write_opt_attr, write_wcc};
-use xdr_codec::{Memory, Reader, Writer, XdrFault};
+use xdr_codec::{Lent, Memory, Reader, Writer, XdrFault};
 
 /// A reply to a call on a file (RFC 1813, section 3.3): one variant for the status 0, and one, with the ending Fail,
-/// for any other status. `attr` are the file's attributes after the call, where the server gives them, and `wcc`
+/// for any other status. `attr` are the file's attributes after the call, if the server gives them, and `wcc`
 /// those before and after it. Data lie in the record that the reply was read from.
-#[derive(Clone, Copy, Debug)]
+#[derive(Debug, Drop)]
 pub enum FileReply<'a> {
     /// To NULL, which has no results (section 3.3.0).
     Null,
@@ -65,7 +65,7 @@ pub enum FileReply<'a> {
         attr: Option<Attr>,
         count: u32,
         eof: bool,
-        bytes: &'a [u8],
+        bytes: Lent<'a>,
     },
     /// The READ failed.
     ReadFail {
@@ -101,8 +101,9 @@ pub enum FileReply<'a> {
         status: Status,
         attr: Option<Attr>,
     },
-    /// The most, the preferred and the suggested multiple of the bytes of a READ, the same of a WRITE, the preferred
-    /// bytes of a READDIR, the size of the greatest file, how fine times are, and properties (section 3.3.19).
+    /// What the server says of its sizes (section 3.3.19): the most, the preferred and the suggested multiple of the
+    /// bytes of a READ, and the same of a WRITE. Then come the preferred bytes of a READDIR, the size of the
+    /// greatest file, how fine times are, and properties.
     FsInfo {
         attr: Option<Attr>,
         rtmax: u32,
@@ -121,9 +122,11 @@ pub enum FileReply<'a> {
         status: Status,
         attr: Option<Attr>,
     },
-    /// The most links of a file, the most bytes of a name, whether a longer name is refused, whether only the
-    /// superuser may change owners, and whether names in other case are the same and keep their case
-    /// (section 3.3.20).
+    /// What the server says of files and names (section 3.3.20):
+    /// - the most links of a file, and the most bytes of a name;
+    /// - whether a longer name is refused;
+    /// - whether only the superuser may change owners;
+    /// - whether names in other case are the same, and whether they keep their case.
     PathConf {
         attr: Option<Attr>,
         linkmax: u32,
@@ -192,8 +195,7 @@ pub fn write_file_reply(w: &mut Writer, reply: &FileReply<'_>) -> Result<(), Mem
     file_reply_into(w, reply)
 }
 
-// One arm a reply, field by field: longer than other functions, but a split would only hide the table.
-#[tactic(auto, using(xdr_codec::proofs::Begins::after_a, xdr_codec::proofs::Begins::after_b, xdr_codec::proofs::Begins::begins_c, std::proofs::Common::append_assoc), unfolding(crate::specs::Replies::file_reply_bytes, crate::specs::FileSystem::fs_stat_done_bytes, crate::specs::FileSystem::fs_info_done_bytes, crate::specs::FileSystem::path_conf_done_bytes))]
+#[tactic(auto, using(xdr_codec::proofs::Begins::after_a, xdr_codec::proofs::Begins::after_b, xdr_codec::proofs::Begins::begins_c, std::proofs::Common::append_assoc), unfolding(crate::specs::Replies::file_reply_bytes))]
 fn file_reply_into(w: &mut Writer, reply: &FileReply<'_>) -> Result<(), Memory>
     requires { HasSpellingReply (kept_of reply.now) }
     ensures ok { OnOk result (w.new ≡ w.old ++ file_reply_bytes (kept_of reply.now)) }
@@ -217,10 +219,10 @@ fn file_reply_into(w: &mut Writer, reply: &FileReply<'_>) -> Result<(), Memory>
             attr,
             count,
             eof,
-            bytes,
+            ref bytes,
         } => {
             w.u32(0)?;
-            write_read_done(w, &attr, count, eof, bytes)
+            write_read_done(w, &attr, count, eof, bytes.bytes())
         }
         FileReply::Write {
             wcc,
@@ -231,6 +233,38 @@ fn file_reply_into(w: &mut Writer, reply: &FileReply<'_>) -> Result<(), Memory>
             w.u32(0)?;
             write_write_done(w, &wcc, count, committed, &verf)
         }
+        FileReply::FsStat { .. } | FileReply::FsStatFail { .. } => write_fs_stat(w, reply),
+        FileReply::FsInfo { .. } | FileReply::FsInfoFail { .. } => write_fs_info(w, reply),
+        FileReply::PathConf { .. } | FileReply::PathConfFail { .. } => write_path_conf(w, reply),
+        FileReply::Commit { wcc, verf } => {
+            w.u32(0)?;
+            write_commit_done(w, &wcc, &verf)
+        }
+        FileReply::GetAttrFail { status } => {
+            w.u32(status.0)?;
+            Ok(())
+        }
+        FileReply::SetAttrFail { status, wcc }
+        | FileReply::WriteFail { status, wcc }
+        | FileReply::CommitFail { status, wcc } => {
+            w.u32(status.0)?;
+            write_wcc(w, &wcc)
+        }
+        FileReply::AccessFail { status, attr } | FileReply::ReadFail { status, attr } => {
+            w.u32(status.0)?;
+            write_opt_attr(w, &attr)
+        }
+    }
+}
+
+/// Appends a reply to FSSTAT (RFC 1813, section 3.3.18).
+#[tactic(auto, using(xdr_codec::proofs::Begins::after_a, xdr_codec::proofs::Begins::after_b, xdr_codec::proofs::Begins::begins_c, std::proofs::Common::append_assoc), unfolding(crate::specs::Replies::file_reply_bytes, crate::specs::FileSystem::fs_stat_done_bytes))]
+fn write_fs_stat(w: &mut Writer, reply: &FileReply<'_>) -> Result<(), Memory>
+    requires { reply_proc (kept_of reply.now) ≡ 18 }
+    ensures ok { OnOk result (w.new ≡ w.old ++ file_reply_bytes (kept_of reply.now)) }
+    ensures err { OnErr result (BeginsWith w.old w.new) }
+{
+    match *reply {
         FileReply::FsStat {
             attr,
             tbytes,
@@ -247,6 +281,22 @@ fn file_reply_into(w: &mut Writer, reply: &FileReply<'_>) -> Result<(), Memory>
             w.u32(invarsec)?;
             Ok(())
         }
+        FileReply::FsStatFail { status, attr } => {
+            w.u32(status.0)?;
+            write_opt_attr(w, &attr)
+        }
+        _ => unreachable!(),
+    }
+}
+
+/// Appends a reply to FSINFO (RFC 1813, section 3.3.19).
+#[tactic(auto, using(xdr_codec::proofs::Begins::after_a, xdr_codec::proofs::Begins::after_b, xdr_codec::proofs::Begins::begins_c, std::proofs::Common::append_assoc), unfolding(crate::specs::Replies::file_reply_bytes, crate::specs::FileSystem::fs_info_done_bytes))]
+fn write_fs_info(w: &mut Writer, reply: &FileReply<'_>) -> Result<(), Memory>
+    requires { reply_proc (kept_of reply.now) ≡ 19 }
+    ensures ok { OnOk result (w.new ≡ w.old ++ file_reply_bytes (kept_of reply.now)) }
+    ensures err { OnErr result (BeginsWith w.old w.new) }
+{
+    match *reply {
         FileReply::FsInfo {
             attr,
             rtmax,
@@ -265,6 +315,22 @@ fn file_reply_into(w: &mut Writer, reply: &FileReply<'_>) -> Result<(), Memory>
             write_sizes(w, wtmax, wtpref, wtmult)?;
             write_limits(w, dtpref, maxfilesize, &time_delta, properties)
         }
+        FileReply::FsInfoFail { status, attr } => {
+            w.u32(status.0)?;
+            write_opt_attr(w, &attr)
+        }
+        _ => unreachable!(),
+    }
+}
+
+/// Appends a reply to PATHCONF (RFC 1813, section 3.3.20).
+#[tactic(auto, using(xdr_codec::proofs::Begins::after_a, xdr_codec::proofs::Begins::after_b, xdr_codec::proofs::Begins::begins_c, std::proofs::Common::append_assoc), unfolding(crate::specs::Replies::file_reply_bytes, crate::specs::FileSystem::path_conf_done_bytes))]
+fn write_path_conf(w: &mut Writer, reply: &FileReply<'_>) -> Result<(), Memory>
+    requires { reply_proc (kept_of reply.now) ≡ 20 }
+    ensures ok { OnOk result (w.new ≡ w.old ++ file_reply_bytes (kept_of reply.now)) }
+    ensures err { OnErr result (BeginsWith w.old w.new) }
+{
+    match *reply {
         FileReply::PathConf {
             attr,
             linkmax,
@@ -284,28 +350,11 @@ fn file_reply_into(w: &mut Writer, reply: &FileReply<'_>) -> Result<(), Memory>
                 case_preserving,
             )
         }
-        FileReply::Commit { wcc, verf } => {
-            w.u32(0)?;
-            write_commit_done(w, &wcc, &verf)
-        }
-        FileReply::GetAttrFail { status } => {
-            w.u32(status.0)?;
-            Ok(())
-        }
-        FileReply::SetAttrFail { status, wcc }
-        | FileReply::WriteFail { status, wcc }
-        | FileReply::CommitFail { status, wcc } => {
-            w.u32(status.0)?;
-            write_wcc(w, &wcc)
-        }
-        FileReply::AccessFail { status, attr }
-        | FileReply::ReadFail { status, attr }
-        | FileReply::FsStatFail { status, attr }
-        | FileReply::FsInfoFail { status, attr }
-        | FileReply::PathConfFail { status, attr } => {
+        FileReply::PathConfFail { status, attr } => {
             w.u32(status.0)?;
             write_opt_attr(w, &attr)
         }
+        _ => unreachable!(),
     }
 }
 

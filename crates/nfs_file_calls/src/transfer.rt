@@ -15,7 +15,7 @@ use nfs_types::{
     write_opt_attr, write_verf, write_wcc,
 };
 use std::alloc::Global;
-use xdr_codec::{Blob, CodecFault, Memory, Reader, Writer, XdrFault};
+use xdr_codec::{Blob, CodecFault, Lent, Memory, Reader, Writer, XdrFault};
 
 /// The most bytes of data that a call or a reply is read with.
 const MAX_DATA: u32 = 65_536;
@@ -152,7 +152,7 @@ pub(crate) fn read_read_reply<'a>(results: &'a [u8]) -> Result<FileReply<'a>, Xd
         attr,
         count,
         eof,
-        bytes,
+        bytes: Lent::of(bytes),
     })
 }
 

@@ -30,3 +30,4 @@ pub mod Clocked
 pub mod Lost
 pub mod LanesTogether
 pub mod Chains
+pub mod Copying

@@ -1,6 +1,7 @@
 //! The operations of a script.
 
 ghost use Rattle.std.specs.Prelude.{◌≡◌, IfOk};
+ghost use Rattle.world_model.specs.Copying.{copied_as};
 
 use nfs_types::{Mode, Name};
 use std::alloc::Global;
@@ -61,7 +62,7 @@ pub enum Op {
         offset: u64,
         count: u32,
     },
-    /// Writes the bytes at the offset. They are held back until a sync, a close or want of room.
+    /// Writes the bytes at the offset. They stay dirty until a sync, a close or want of room.
     Write {
         slot: u8,
         offset: u64,
@@ -140,95 +141,146 @@ pub enum Op {
 }
 
 impl Op {
-    // One arm an operation: longer than other functions, but a split would only hide the table.
     /// An equal operation.
     pub fn copy(&self, alloc: Global) -> Result<Op, Memory>
         ensures { IfOk result (λ op. op ≡ self.now) }
     {
-        Ok(match self {
-            Op::OpenFile { slot, mode, path } => Op::OpenFile {
-                slot: *slot,
-                mode: *mode,
-                path: path.copy(alloc)?,
-            },
+        match *self {
             Op::Read {
                 slot,
                 offset,
                 count,
-            } => Op::Read {
-                slot: *slot,
-                offset: *offset,
-                count: *count,
-            },
+            } => Ok(Op::Read {
+                slot,
+                offset,
+                count,
+            }),
             Op::Write {
                 slot,
                 offset,
-                bytes,
-            } => Op::Write {
-                slot: *slot,
-                offset: *offset,
+                ref bytes,
+            } => Ok(Op::Write {
+                slot,
+                offset,
                 bytes: bytes.again(alloc)?,
-            },
+            }),
             Op::Fill {
                 slot,
                 offset,
                 count,
                 byte,
-            } => Op::Fill {
-                slot: *slot,
-                offset: *offset,
-                count: *count,
-                byte: *byte,
-            },
-            Op::Put {
-                path,
+            } => Ok(Op::Fill {
+                slot,
                 offset,
-                bytes,
-            } => Op::Put {
+                count,
+                byte,
+            }),
+            Op::Sync { slot } => Ok(Op::Sync { slot }),
+            Op::Close { slot } => Ok(Op::Close { slot }),
+            Op::Truncate { slot, size } => Ok(Op::Truncate { slot, size }),
+            Op::OpenFile { .. } | Op::Put { .. } | Op::SymLink { .. } => self.copy_filled(alloc),
+            Op::Stat { .. } | Op::Access { .. } | Op::ReadLink { .. } | Op::List { .. } => {
+                self.copy_look(alloc)
+            }
+            Op::MakeDir { .. } | Op::RemoveDir { .. } | Op::Remove { .. } => {
+                self.copy_change(alloc)
+            }
+            Op::Rename { .. } | Op::Link { .. } => self.copy_pair(alloc),
+        }
+    }
+
+    /// The same of one that brings more than a path.
+    fn copy_filled(&self, alloc: Global) -> Result<Op, Memory>
+        requires { copied_as self.now ≡ 1 }
+        ensures { IfOk result (λ op. op ≡ self.now) }
+    {
+        match *self {
+            Op::OpenFile {
+                slot,
+                mode,
+                ref path,
+            } => Ok(Op::OpenFile {
+                slot,
+                mode,
                 path: path.copy(alloc)?,
-                offset: *offset,
+            }),
+            Op::Put {
+                ref path,
+                offset,
+                ref bytes,
+            } => Ok(Op::Put {
+                path: path.copy(alloc)?,
+                offset,
                 bytes: bytes.again(alloc)?,
-            },
-            Op::Sync { slot } => Op::Sync { slot: *slot },
-            Op::Close { slot } => Op::Close { slot: *slot },
-            Op::Truncate { slot, size } => Op::Truncate {
-                slot: *slot,
-                size: *size,
-            },
-            Op::Stat { path } => Op::Stat {
-                path: path.copy(alloc)?,
-            },
-            Op::Access { path, bits } => Op::Access {
-                path: path.copy(alloc)?,
-                bits: *bits,
-            },
-            Op::MakeDir { path } => Op::MakeDir {
-                path: path.copy(alloc)?,
-            },
-            Op::RemoveDir { path } => Op::RemoveDir {
-                path: path.copy(alloc)?,
-            },
-            Op::Remove { path } => Op::Remove {
-                path: path.copy(alloc)?,
-            },
-            Op::Rename { from, to } => Op::Rename {
-                from: from.copy(alloc)?,
-                to: to.copy(alloc)?,
-            },
-            Op::Link { from, to } => Op::Link {
-                from: from.copy(alloc)?,
-                to: to.copy(alloc)?,
-            },
-            Op::SymLink { path, target } => Op::SymLink {
+            }),
+            Op::SymLink {
+                ref path,
+                ref target,
+            } => Ok(Op::SymLink {
                 path: path.copy(alloc)?,
                 target: Blob::copy(alloc, target.bytes())?,
-            },
-            Op::ReadLink { path } => Op::ReadLink {
+            }),
+            _ => unreachable!(),
+        }
+    }
+
+    /// The same of one that looks at what a path leads to.
+    fn copy_look(&self, alloc: Global) -> Result<Op, Memory>
+        requires { copied_as self.now ≡ 2 }
+        ensures { IfOk result (λ op. op ≡ self.now) }
+    {
+        match *self {
+            Op::Stat { ref path } => Ok(Op::Stat {
                 path: path.copy(alloc)?,
-            },
-            Op::List { path } => Op::List {
+            }),
+            Op::Access { ref path, bits } => Ok(Op::Access {
                 path: path.copy(alloc)?,
-            },
-        })
+                bits,
+            }),
+            Op::ReadLink { ref path } => Ok(Op::ReadLink {
+                path: path.copy(alloc)?,
+            }),
+            Op::List { ref path } => Ok(Op::List {
+                path: path.copy(alloc)?,
+            }),
+            _ => unreachable!(),
+        }
+    }
+
+    /// The same of one that makes or removes what a path names.
+    fn copy_change(&self, alloc: Global) -> Result<Op, Memory>
+        requires { copied_as self.now ≡ 3 }
+        ensures { IfOk result (λ op. op ≡ self.now) }
+    {
+        match *self {
+            Op::MakeDir { ref path } => Ok(Op::MakeDir {
+                path: path.copy(alloc)?,
+            }),
+            Op::RemoveDir { ref path } => Ok(Op::RemoveDir {
+                path: path.copy(alloc)?,
+            }),
+            Op::Remove { ref path } => Ok(Op::Remove {
+                path: path.copy(alloc)?,
+            }),
+            _ => unreachable!(),
+        }
+    }
+
+    /// The same of one with two paths.
+    fn copy_pair(&self, alloc: Global) -> Result<Op, Memory>
+        requires { copied_as self.now ≡ 4 }
+        ensures { IfOk result (λ op. op ≡ self.now) }
+    {
+        match *self {
+            Op::Rename { ref from, ref to } => Ok(Op::Rename {
+                from: from.copy(alloc)?,
+                to: to.copy(alloc)?,
+            }),
+            Op::Link { ref from, ref to } => Ok(Op::Link {
+                from: from.copy(alloc)?,
+                to: to.copy(alloc)?,
+            }),
+            _ => unreachable!(),
+        }
     }
 }
