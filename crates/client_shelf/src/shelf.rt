@@ -77,22 +77,45 @@ impl Shelf {
         ensures counter { IfOk result (λ s. s.counter ≡ 0) }
     {
         // What may fail comes first, so that a failure has no caches but the pages to drop.
-        let repeats = Repeats::new(alloc)?;
-        let puts = LaneFiles::new(alloc)?;
-        let order = LaneFiles::new(alloc)?;
-        let names = NameCache::new(alloc)?;
+        let bounded = Bounded::new(alloc)?;
         Ok(Shelf {
             pages,
             attrs: AttrCache::new(alloc),
-            names,
+            names: bounded.names,
             back: WriteBack::new(alloc),
             opens: OpenFiles::new(alloc),
             silly: Silly::new(alloc),
-            order,
-            puts,
-            repeats,
+            order: bounded.order,
+            puts: bounded.puts,
+            repeats: bounded.repeats,
             seq: 0,
             counter: 0,
+        })
+    }
+}
+
+/// The parts of a shelf whose memory is taken at once.
+#[derive(Drop)]
+struct Bounded {
+    repeats: Repeats,
+    puts: LaneFiles,
+    order: LaneFiles,
+    names: NameCache,
+}
+
+impl Bounded {
+    /// Nothing is kept.
+    fn new(alloc: Global) -> Result<Bounded, Memory>
+        ensures repeats { IfOk result (λ b. b.repeats ≡ []) }
+        ensures puts { IfOk result (λ b. b.puts ≡ []) }
+        ensures order { IfOk result (λ b. b.order ≡ []) }
+        ensures names { IfOk result (λ b. b.names ≡ []) }
+    {
+        Ok(Bounded {
+            repeats: Repeats::new(alloc)?,
+            puts: LaneFiles::new(alloc)?,
+            order: LaneFiles::new(alloc)?,
+            names: NameCache::new(alloc)?,
         })
     }
 }

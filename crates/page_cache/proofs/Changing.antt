@@ -1,6 +1,6 @@
 -- Pages of a file are changed, one slot after the other, and the file's other pages are what the change leaves as it is.
 use Rattle.std.proofs.Common.{◌≡◌, ◌≢◌, ◌<◌, ◌≤◌, ℕ, ◌+◌, ◌/◌, min, inl, inr, Bool, true, false, not, ◌&&◌, nat_eq, nat_lt, if◌then◌else◌, List, [], ◌∷◌, length, map, set, get_or, Option, Some, None, refl, sym, ap, ◌∙◌, subst, arith}
-use Rattle.std.proofs.lemmas.List.{get_or_default, get_or-set_other, get_or-set_same, length-set}
+use Rattle.std.proofs.lemmas.List.{get_or-set_other, get_or-set_same, length-set}
 use Rattle.std.proofs.lemmas.Bool.{cases_eq, cases_lt}
 use Rattle.std.proofs.lemmas.Bool.Decides.{nat_tests}
 use Rattle.std.proofs.lemmas.Option.{same_Some}
@@ -54,13 +54,11 @@ module _ (file : List ℕ) (low : ℕ) (high : Option ℕ) (change : ℕ → Lis
       ahead = λ t other. get_or-set_other now slot t changed [] (λ same. other upto (omega arith) within (sym same)) ∙ c.ahead t (λ i low inside. other i (omega arith) inside);
     }
 
-    -- the same of what was read and came out
-    pub changes-on : (old after : List ℕ) (index : Option ℕ) → index ≡ index_in file (get_or held slot None) → old ≡ get_or now slot old
-        → after ≡ option_map_or (λ i. change i old) index old → Changes (upto + 1) (set now slot after)
-    changes-on old after index of_slot was is =
-        let read : get_or now slot [] ≡ old = get_or_default now slot [] old slot-low ∙ sym was in
-        let came : changed ≡ after = ap (becomes slot) read ∙ ap (λ i. option_map_or (λ k. change k old) i old) (sym of_slot) ∙ sym is in
-        subst (λ v. Changes (upto + 1) (set now slot v)) came changes-step
+    -- the same by the index of the page that the slot holds
+    pub changes-on : (index : Option ℕ) → index ≡ index_in file (get_or held slot None)
+        → Changes (upto + 1) (set now slot (option_map_or (λ i. change i (get_or now slot [])) index (get_or now slot [])))
+    changes-on index of_slot =
+        subst (λ i. Changes (upto + 1) (set now slot (option_map_or (λ k. change k (get_or now slot [])) i (get_or now slot [])))) (sym of_slot) changes-step
 
   -- where the change leaves the file's other pages as they are
   module _ {V : Type 0} {count : ℕ} (r : IsRun count file low high held run) (order : List (ℕ × V)) (upto : ℕ) (all : length run ≤ upto) (now : List (List ℕ)) (sound : IsSound count order held before)

@@ -25,3 +25,5 @@ pub mod Believed
 pub mod Rows
 pub mod Nth
 pub mod InSlot
+pub mod Made
+pub mod Later

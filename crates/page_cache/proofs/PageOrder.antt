@@ -13,7 +13,7 @@ use Rattle.page_cache.specs.Slots.{index_in}
 use Rattle.page_cache.specs.Sorted.{is_below, before_by, stands_before, is_before, is_within}
 use Rattle.page_cache.proofs.Shown.{same_place}
 
-abbrev files : List ℕ → List ℕ → Ordering
+abbrev pub files : List ℕ → List ℕ → Ordering
 files f g = slice_cmp nat_cmp f g
 
 -- no page stands before itself
@@ -41,7 +41,7 @@ before-then p q file bound first then_ = by (files p.file q.file) (files q.file 
     by Equal Greater ea eb x y = cc
     by Greater b ea eb x y = cc
 
-tied-files : (f g : List ℕ) → files f g ≡ Equal → pointwise nat_eq f g ≡ true
+pub tied-files : (f g : List ℕ) → files f g ≡ Equal → pointwise nat_eq f g ≡ true
 tied-files f g e = texts_ties f g ∙ ap is_eq e
 
 -- of two pages one stands before the other, or they are one

@@ -5,3 +5,4 @@ pub mod Ends
 pub mod Sorted
 pub mod Full
 pub mod Sound
+pub mod Unmade

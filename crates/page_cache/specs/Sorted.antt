@@ -1,10 +1,10 @@
 -- Slots in the order of the pages that they hold: by the bytes of the file, then by the page's number.
-use Rattle.std.specs.Prelude.{◌≡◌, ◌≢◌, ◌<◌, ◌≤◌, ℕ, Bool, true, false, not, ◌&&◌, nat_lt, List, [], ◌∷◌, length, set, get_or, Option, Some, None, is_some, if◌then◌else◌}
+use Rattle.std.specs.Prelude.{◌≡◌, ◌≢◌, ◌<◌, ◌≤◌, ℕ, Bool, true, false, not, ◌&&◌, nat_eq, nat_lt, List, [], ◌∷◌, length, set, get_or, Option, Some, None, is_some, if◌then◌else◌}
 use Rattle.std.specs.Option.{option_map_or}
 use Rattle.std.specs.Ordering.{nat_cmp}
 use Rattle.std.specs.declared.cmp.Ordering.{Ordering}
 use Rattle.std.specs.declared.cmp.Ordering.TheVariants.{Less, Equal, Greater}
-use Rattle.std.specs.Cmp.Lexicographic.{slice_cmp}
+use Rattle.std.specs.Cmp.Lexicographic.{pointwise, slice_cmp}
 use Rattle.page_cache.specs.declared.place.PagePlace.{PagePlace}
 use Rattle.page_cache.specs.Slots.{index_in}
 
@@ -12,7 +12,7 @@ use Rattle.page_cache.specs.Slots.{index_in}
 abbrev pub is_below : ℕ → Option ℕ → Bool
 is_below index bound = option_map_or (λ b. nat_lt index b) bound true
 
--- by how the files compare, and by the numbers where they are one
+-- by how the files compare, and by the numbers if they are one
 abbrev pub before_by : Ordering → Bool → Bool
 before_by Less below = true
 before_by Equal below = below
@@ -33,6 +33,14 @@ held_at held sorted i = get_or held (get_or sorted i 0) None
 -- the same of the slot at a place of the order; false past the last one
 abbrev pub is_before_at : List ℕ → Option ℕ → List (Option PagePlace) → List ℕ → ℕ → Bool
 is_before_at file bound held sorted i = nat_lt i (length sorted) && is_before file bound (held_at held sorted i)
+
+-- whether a slot holds a page of this file
+abbrev pub is_of_file : List ℕ → Option PagePlace → Bool
+is_of_file file held = option_map_or (λ place. pointwise nat_eq place.file file) held false
+
+-- the same of the slot at a place of the order; false past the last one
+abbrev pub is_of_file_at : List ℕ → List (Option PagePlace) → List ℕ → ℕ → Bool
+is_of_file_at file held sorted i = nat_lt i (length sorted) && is_of_file file (held_at held sorted i)
 
 -- The slots that hold pages, in the order of the pages, each once.
 pub record IsSorted (count : ℕ) (held : List (Option PagePlace)) (sorted : List ℕ) : Type 0 where

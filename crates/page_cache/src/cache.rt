@@ -1,5 +1,6 @@
 //! The pages of files.
 
+ghost use Rattle.std.specs.Bool.{OnFalse};
 ghost use Rattle.std.specs.Prelude.{◌≡◌, ◌<◌, ◌≤◌, ◌/◌, length, IfOk, IfSome, OnOk, OnErr, None, Some, List, ℕ, [], option_map};
 ghost use Rattle.std.specs.Borrow.{sem};
 ghost use Rattle.page_cache.specs.Bytes.{resized, put_at, page_at, put_page, cut_page};
@@ -23,8 +24,8 @@ use xdr_codec::Memory;
 /// nothing else changes anything.
 ///
 /// `new` and `with_room` take all memory but that of the table of files. Kept pages stand in the order of their files and
-/// numbers. A page is found there by halving, in ten to sixteen comparisons, or in two if it is the same page as before or the
-/// next one; to keep a new one moves the slot numbers of the pages behind it, of two bytes each.
+/// numbers. A page is found there by halving, in ten to sixteen comparisons. Two are enough if it is the same page as before or
+/// the next one. To keep a new page moves the slot numbers of the pages behind it, of two bytes each.
 /// To drop a file's pages looks at these alone. `wrote` and `cut` look at the pages that may change, as they say.
 /// `stamp`, `mark` and `closed` look at no page.
 #[derive(Drop)]
@@ -81,8 +82,10 @@ impl PageCache {
         self.slots.room()
     }
 
-    /// What holds of it at any time: a fact for proofs. No page has more than 4,096 bytes or is kept twice, there are
-    /// at most so many as there is room for, and each is of a file whose state is known.
+    /// What holds of it at any time: a fact for proofs.
+    /// - No page has more than 4,096 bytes or is kept twice.
+    /// - There are at most so many as there is room for.
+    /// - Each is of a file whose state is known.
     pub fn is_sound(&self)
         ensures { IsSound self.now }
     {
@@ -91,7 +94,7 @@ impl PageCache {
     }
 
     /// A file was opened in the state of `stamp`, in an operation that began at the moment `mark`. Its pages are
-    /// dropped exactly where another stamp is known, or none. Then the stamp is known and the mark is kept, unless it
+    /// dropped exactly if another stamp is known, or none. Then the stamp is known and the mark is kept, unless it
     /// is below the file's. When out of memory, which comes at a file that wasn't known alone, nothing is changed.
     pub fn opened(&mut self, file: &Handle, stamp: &Stamp, mark: u64) -> Result<(), Memory>
         ensures ok { OnOk result (self.new ≡ opened file.now stamp.now mark self.old) }
@@ -116,7 +119,7 @@ impl PageCache {
         Ok(())
     }
 
-    /// The state of a file under which its pages are believed; None exactly where the file was never opened, or its
+    /// The state of a file under which its pages are believed; None exactly if the file was never opened, or its
     /// state isn't known.
     pub fn stamp(&self, file: &Handle) -> Option<Stamp>
         ensures { result ≡ known_of file.now self.now }
@@ -125,14 +128,14 @@ impl PageCache {
     }
 
     /// The file's mark: a reply to a call that was made at this moment or before tells nothing of the file. None
-    /// exactly where the file was never opened.
+    /// exactly if the file was never opened.
     pub fn mark(&self, file: &Handle) -> Option<u64>
         ensures { result ≡ mark_of file.now self.now }
     {
         Some(self.files.state(file)?.mark)
     }
 
-    /// Shows a page of a file, and moves it to the front; None exactly where it isn't kept. The page begins at 4,096
+    /// Shows a page of a file, and moves it to the front; None exactly if it isn't kept. The page begins at 4,096
     /// times `index` in the file.
     pub fn page(&mut self, file: &Handle, index: u64) -> Option<&[u8]>
         ensures* ends { sem 𝓛 (ends_with self.entry (after_page file.now index self.old)) }
@@ -141,7 +144,16 @@ impl PageCache {
         self.slots.show(file, index)
     }
 
-    /// The n-th kept page whose file's stamp is known, from 0 on and from the front; None exactly where there are at
+    /// Whether a page of a file with this number or a higher one is kept. No page moves. It takes about as long as to show one page. So a
+    /// reader which goes on where nothing is kept needn't ask for each page.
+    pub fn keeps_from(&mut self, file: &Handle, index: u64) -> bool
+        ensures none { OnFalse result ((i : ℕ) → index ≤ i → page_of file.now i self.old ≡ None) }
+        ensures same { self.new ≡ self.old }
+    {
+        self.slots.keeps_from(file, index)
+    }
+
+    /// The n-th kept page whose file's stamp is known, from 0 on and from the front; None exactly if there are at
     /// most n such pages. The order stays. It takes as many steps as n says.
     pub fn nth(&self, n: usize) -> Option<KeptPage<'_>>
         ensures { option_map shows_page result ≡ nth_handed n self.now }
@@ -160,7 +172,7 @@ impl PageCache {
         }
     }
 
-    /// The page in a slot, whose number is from 0 on and below `room`; None where the slot is free. So all pages are found in as
+    /// The page in a slot, whose number is from 0 on and below `room`; None if the slot is free. So all pages are found in as
     /// many steps as there are slots, in no order. It is a page that `nth` gives, too.
     pub fn slot_page(&self, slot: usize) -> Option<KeptPage<'_>>
         ensures { IfSome result (λ page. (n : ℕ) × (nth_handed n self.now ≡ Some (shows_page page))) }
@@ -210,7 +222,7 @@ impl PageCache {
         Keep::Kept
     }
 
-    /// A reply showed the state of a file; `sent` is the moment at which the call was made. Nothing changes where that
+    /// A reply showed the state of a file; `sent` is the moment at which the call was made. Nothing changes if that
     /// is at or below the mark, or the stamp is the known one. Else the file's pages are dropped, and the stamp is
     /// known.
     pub fn saw(&mut self, file: &Handle, stamp: &Stamp, sent: u64)
@@ -231,12 +243,14 @@ impl PageCache {
         self.files.change(file, known, u64::MAX);
     }
 
-    /// The client's own WRITE put these bytes at this offset; `wcc` tells the file's state before and after it. Where
-    /// the first is the known one and the second is there, each kept page becomes that page of the file so written, and
-    /// the second is known. Else the file's pages are dropped, and no state is known. The mark is `moment` then.
+    /// The client's own WRITE put these bytes at this offset; `wcc` tells the file's state before and after it. If the first is
+    /// the known one and the second is there, each kept page becomes that page of the file so written. The second is known then.
+    /// Else the file's pages are dropped, and no state is known. The mark is `moment` then.
     ///
-    /// The pages that are looked at are those from the first one written to the last, and those before it from the
-    /// first one on that may be short of 4,096 bytes: in a file that is read and written in order there is none.
+    /// These pages are looked at:
+    /// - from the first one written to the last;
+    /// - before it, from the first one on that may be short of 4,096 bytes. In a file that is read and written in order there is
+    ///   none.
     pub fn wrote(&mut self, file: &Handle, wcc: &Wcc, offset: u64, bytes: &[u8], moment: u64)
         ensures after { self.new ≡ wrote file.now wcc.now offset bytes.now moment self.old }
         ensures of_the_file { (index : ℕ) (old : List ℕ) → put_page index offset bytes.now (page_at index old) ≡ page_at index (put_at offset bytes.now old) }
@@ -267,8 +281,9 @@ impl PageCache {
         }
     }
 
-    /// The client's own SETATTR gave the file this size. Else as `wrote`. The pages that are looked at are those from
-    /// the one in which the file ends then, and those before it from the first one on that may be short of 4,096 bytes.
+    /// The client's own SETATTR gave the file this size. Else as `wrote`. These pages are looked at:
+    /// - from the one in which the file ends then;
+    /// - before it, from the first one on that may be short of 4,096 bytes.
     pub fn cut(&mut self, file: &Handle, wcc: &Wcc, size: u64, moment: u64)
         ensures after { self.new ≡ cut file.now wcc.now size moment self.old }
         ensures of_the_file { (index : ℕ) (old : List ℕ) → cut_page index size (page_at index old) ≡ page_at index (resized size old) }
@@ -319,7 +334,7 @@ fn full_with(full_below: u64, index: u64, bytes: &[u8]) -> u64
     }
 }
 
-/// The same once these bytes were written at an offset: where there are any, the pages before them are whole then.
+/// The same once these bytes were written at an offset: if there are any, the pages before them are whole then.
 fn full_after(full_below: u64, offset: u64, bytes: &[u8]) -> u64
     ensures below { (i : ℕ) → i < result → full_below ≤ i → (0 < length bytes.now) × (i < offset / 4096) }
     ensures least { (full_below ≤ result) × (0 < length bytes.now → offset / 4096 ≤ result) }

@@ -1,11 +1,14 @@
 //! Which page of which file each slot holds.
 
+ghost use Rattle.std.specs.Bool.{OnFalse};
 ghost use Rattle.std.specs.Prelude.{◌≡◌, ◌≢◌, ◌<◌, ◌≤◌, ℕ, IfOk, IfSome, None, Some, get_or, length, set, replicate, map};
-ghost use Rattle.page_cache.specs.Slots.{index_in, FindsPage};
+ghost use Rattle.page_cache.specs.Slots.{holds_page, index_in, FindsPage, HoldsNone};
 ghost use Rattle.page_cache.specs.Sorted.{freed, IsRun};
 
 use crate::place::PagePlace;
-use crate::sorted::{count_near, free_run, free_slot, give_slot, holder_at, holds, run_of};
+use crate::sorted::{
+    count_near, free_run, free_slot, give_slot, holder_at, holds, is_of_file_at, run_of,
+};
 use nfs_types::Handle;
 use std::alloc::Global;
 use std::marker::Model;
@@ -54,7 +57,7 @@ impl Places {
         })
     }
 
-    /// The slot that holds a page; None exactly where none does.
+    /// The slot that holds a page; None exactly if none does.
     pub(crate) fn find(&mut self, file: &Handle, index: u64) -> Option<usize>
         ensures found { FindsPage (length self.old) file.now index self.old result }
         ensures same { self.new ≡ self.old }
@@ -62,6 +65,16 @@ impl Places {
         let at = count_near(&self.by_slot, &self.sorted, file, Some(index), self.near);
         self.near = at;
         holder_at(&self.by_slot, &self.sorted, at, file, index)
+    }
+
+    /// Whether a slot holds a page of a file with this number or a higher one. It takes about as long as to find one page.
+    pub(crate) fn keeps_from(&mut self, file: &Handle, low: u64) -> bool
+        ensures none { OnFalse result ((index : ℕ) → low ≤ index → HoldsNone (length self.old) (holds_page file.now index) self.old) }
+        ensures same { self.new ≡ self.old }
+    {
+        let at = count_near(&self.by_slot, &self.sorted, file, Some(low), self.near);
+        self.near = at;
+        is_of_file_at(&self.by_slot, &self.sorted, at, file)
     }
 
     /// The page that a slot holds.
@@ -82,7 +95,7 @@ impl Places {
         &self.sorted[from..to]
     }
 
-    /// The number of the page of a file that a slot holds; None where it holds none of the file.
+    /// The number of the page of a file that a slot holds; None if it holds none of the file.
     pub(crate) fn index_in(&self, slot: usize, file: &Handle) -> Option<u64>
         requires { slot < length self.now }
         ensures { result ≡ index_in file.now (get_or self.now slot None) }

@@ -1,6 +1,7 @@
 //! Pages in slots, by their last use.
 
-ghost use Rattle.std.specs.Prelude.{◌≡◌, ◌≤◌, ◌<◌, ℕ, Some, length, map, slice_get, option_map, IfOk, IfSome};
+ghost use Rattle.std.specs.Bool.{OnFalse};
+ghost use Rattle.std.specs.Prelude.{◌≡◌, ◌≤◌, ◌<◌, ℕ, None, Some, length, map, slice_get, option_map, IfOk, IfSome};
 ghost use Rattle.std.specs.Borrow.{sem};
 ghost use Rattle.std.specs.List.{IsDistinct};
 ghost use Rattle.std.specs.Map.{lookup, keys_of};
@@ -12,6 +13,7 @@ ghost use Rattle.page_cache.specs.Full.{FullBelow};
 ghost use Rattle.page_cache.specs.Sound.{same_place};
 
 use crate::page::Page;
+use crate::page_room::PageRoom;
 use crate::place::PagePlace;
 use crate::places::Places;
 use lru::LruCache;
@@ -28,7 +30,7 @@ pub(crate) struct Slots {
     // By their last use, free ones at the end. All slots are always there, so that no call adds one.
     order: LruCache<usize, ()>,
     places: Places,
-    pages: Vec<Page>,
+    pages: PageRoom,
 }
 
 impl Model for Slots {
@@ -37,9 +39,9 @@ impl Model for Slots {
 
     ghost Value = { SlotPages };
 
-    ghost view = { λ s. record { room = length s.places; pages = shown s.order.entries s.places s.pages.items } };
+    ghost view = { λ s. record { room = length s.places; pages = shown s.order.entries s.places s.pages } };
 
-    ghost invariant = { λ s. IsSound (length s.places) s.order.entries s.places s.pages.items × (0 < length s.places) };
+    ghost invariant = { λ s. IsSound (length s.places) s.order.entries s.places s.pages × (0 < length s.places) };
 }
 
 impl Slots {
@@ -54,7 +56,7 @@ impl Slots {
         Ok(Slots {
             order: all_slots(alloc, room)?,
             places: Places::new(alloc, room)?,
-            pages: empty_pages(alloc, room)?,
+            pages: PageRoom::for_pages(alloc, room)?,
         })
     }
 
@@ -73,26 +75,34 @@ impl Slots {
         let _order = &self.order;
     }
 
-    /// Shows a page, and moves it to the front; None exactly where it isn't there.
+    /// Shows a page, and moves it to the front; None exactly if it isn't there.
     pub(crate) fn show(&mut self, file: &Handle, index: u64) -> Option<&[u8]>
         ensures* ends { sem 𝓛 (shows_with self.entry (record self.old { pages = promoted (is_place file.now index) self.old.pages })) }
         ensures gives { option_map (λ bytes. bytes.now) result ≡ lookup (is_place file.now index) self.old.pages }
     {
         let slot = self.places.find(file, index)?;
         self.order.promote(&slot);
-        Some(self.pages[slot].bytes())
+        Some(self.pages.bytes(slot))
     }
 
-    /// The n-th page from the front, from 0 on; None exactly where there are at most so many.
+    /// Whether there is a page of a file with this number or a higher one.
+    pub(crate) fn keeps_from(&mut self, file: &Handle, low: u64) -> bool
+        ensures none { OnFalse result ((index : ℕ) → low ≤ index → lookup (is_place file.now index) self.old.pages ≡ None) }
+        ensures same { self.new ≡ self.old }
+    {
+        self.places.keeps_from(file, low)
+    }
+
+    /// The n-th page from the front, from 0 on; None exactly if there are at most so many.
     pub(crate) fn nth(&self, n: usize) -> Option<(PagePlace, &[u8])>
         ensures { option_map (λ p. (p.0, p.1.now)) result ≡ slice_get self.now.pages n }
     {
         let slot = slot_at(&self.order, n)?;
         let place = self.places.at(slot)?;
-        Some((place, self.pages[slot].bytes()))
+        Some((place, self.pages.bytes(slot)))
     }
 
-    /// The page in a slot, by its number from 0 on; None where the slot is free or isn't there.
+    /// The page in a slot, by its number from 0 on; None if the slot is free or isn't there.
     pub(crate) fn in_slot(&self, slot: usize) -> Option<(PagePlace, &[u8])>
         ensures { IfSome result (λ p. (n : ℕ) × (slice_get self.now.pages n ≡ Some (p.0, p.1.now))) }
     {
@@ -100,7 +110,7 @@ impl Slots {
             return None;
         }
         let place = self.places.at(slot)?;
-        Some((place, self.pages[slot].bytes()))
+        Some((place, self.pages.bytes(slot)))
     }
 
     /// Puts a page in front, in place of an earlier one. If each slot has another page, the last one goes.
@@ -110,7 +120,7 @@ impl Slots {
     {
         let slot = slot_for(&mut self.places, &self.order, &place);
         self.places.hold(slot, place);
-        self.pages[slot].put(bytes);
+        self.pages.put(slot, bytes);
         self.order.promote(&slot);
     }
 
@@ -137,7 +147,7 @@ impl Slots {
         for slot in run {
             let slot = *slot as usize;
             let index = self.places.index_in(slot, file);
-            self.pages[slot].write_at(index, offset, bytes);
+            self.pages.write_at(slot, index, offset, bytes);
         }
     }
 
@@ -152,7 +162,7 @@ impl Slots {
         for slot in run {
             let slot = *slot as usize;
             let index = self.places.index_in(slot, file);
-            self.pages[slot].cut_at(index, size);
+            self.pages.cut_at(slot, index, size);
         }
     }
 }
@@ -190,15 +200,4 @@ fn all_slots(alloc: Global, count: usize) -> Result<LruCache<usize, ()>, Memory>
         order.put(slot, ())?;
     }
     Ok(order)
-}
-
-/// The memory of all pages.
-fn empty_pages(alloc: Global, count: usize) -> Result<Vec<Page>, Memory>
-    ensures { IfOk result (λ pages. length pages.items ≡ count) }
-{
-    let mut pages = Vec::with_capacity(alloc, count)?;
-    for _ in 0..count {
-        pages.push(Page::empty())?;
-    }
-    Ok(pages)
 }

@@ -4,7 +4,7 @@ ghost use Rattle.std.specs.Prelude.{◌≡◌, ◌≢◌, ◌<◌, ◌≤◌, �
 ghost use Rattle.std.specs.List.{remove_range};
 ghost use Rattle.std.specs.Vec.{vec_capacity};
 ghost use Rattle.page_cache.specs.Slots.{holds_page, FindsPage};
-ghost use Rattle.page_cache.specs.Sorted.{is_below, stands_before, is_before, is_before_at, freed, freeing, IsSorted, IsGap, AreEnds};
+ghost use Rattle.page_cache.specs.Sorted.{is_below, stands_before, is_before, is_before_at, is_of_file, is_of_file_at, freed, freeing, IsSorted, IsGap, AreEnds};
 
 use crate::place::PagePlace;
 use nfs_types::Handle;
@@ -147,6 +147,34 @@ pub(crate) fn holder_at(
         Some(slot)
     } else {
         None
+    }
+}
+
+/// Whether a slot holds a page of a file.
+fn is_of_file(by_slot: &[Option<PagePlace>], slot: usize, file: &Handle) -> bool
+    ensures { result ≡ is_of_file file.now (get_or by_slot.now slot None) }
+{
+    match by_slot.get(slot) {
+        Some(held) => match held {
+            Some(place) => place.file == *file,
+            None => false,
+        },
+        None => false,
+    }
+}
+
+/// The same of the slot at a place of the order; false past the last one.
+pub(crate) fn is_of_file_at(
+    by_slot: &[Option<PagePlace>],
+    sorted: &[u16],
+    at: usize,
+    file: &Handle,
+) -> bool
+    ensures { result ≡ is_of_file_at file.now by_slot.now sorted.now at }
+{
+    match sorted.get(at) {
+        Some(slot) => is_of_file(by_slot, *slot as usize, file),
+        None => false,
     }
 }
 

@@ -5,24 +5,23 @@ use Rattle.page_cache.proofs.Changing.{changes-start, changes-on, sound-changed,
 use Rattle.page_cache.proofs.slots.Slots.write_file.Goals as goal
 
 pub loop-slot-init : goal.loop-slot-init
-loop-slot-init c = changes-start c.args.file.now c.min-low.result (Some c.after-high.result) (λ index. put_page index c.args.offset c.args.bytes.now) c.self.inside.places c.self.inside.pages.items c.slots_of-run.result.now
+loop-slot-init c = changes-start c.args.file.now c.min-low.result (Some c.after-high.result) (λ index. put_page index c.args.offset c.args.bytes.now) c.self.inside.places c.self.inside.pages c.slots_of-run.result.now
 
-pub index_mut-requires : goal.index_mut-requires
-index_mut-requires c =
+pub write_at-requires : goal.write_at-requires
+write_at-requires c =
     let low = c.slots_of-run.ensures.low_slots c.loop-slot.slot-index c.loop-slot-test.true in
-    omega (arith, low, c.loop-slot.invariant.same, c.self.invariant.0.bytes, (front (others (others (others c.loop-slot.self-inside)))).ok.0)
+    omega (arith, low, c.loop-slot.invariant.same, c.self.invariant.0.bytes)
 
 pub loop-slot-preserved : goal.loop-slot-preserved
-loop-slot-preserved c = changes-on c.args.file.now c.min-low.result (Some c.after-high.result) (λ index. put_page index c.args.offset c.args.bytes.now) c.self.inside.places c.self.inside.pages.items c.slots_of-run.result.now c.slots_of-run.ensures
-    c.self.invariant.0.bytes c.loop-slot.slot-index c.loop-slot-test.true (front (others (others (others c.loop-slot.self-inside)))).items c.loop-slot.invariant
-    c.index_mut.result.now c.write_at.new.self c.index_in-index.result
-    c.index_in-index.ensures c.index_mut.ensures.value c.write_at.ensures
+loop-slot-preserved c = rw c.write_at.ensures (changes-on c.args.file.now c.min-low.result (Some c.after-high.result) (λ index. put_page index c.args.offset c.args.bytes.now) c.self.inside.places c.self.inside.pages c.slots_of-run.result.now c.slots_of-run.ensures
+    c.self.invariant.0.bytes c.loop-slot.slot-index c.loop-slot-test.true (front (others (others (others c.loop-slot.self-inside)))) c.loop-slot.invariant
+    c.index_in-index.result c.index_in-index.ensures)
 
 pub invariant_of-self : goal.invariant_of-self
 invariant_of-self c = (
-  sound-changed c.args.file.now c.min-low.result (Some c.after-high.result) (λ index. put_page index c.args.offset c.args.bytes.now) c.self.inside.places c.self.inside.pages.items c.slots_of-run.result.now c.slots_of-run.ensures c.self.inside.order.entries
-      c.loop-slot.slot-index (omega (arith, c.loop-slot-test.false)) (front (others (others (others c.loop-slot.self-inside)))).items c.self.invariant.0 c.loop-slot.invariant
-      (outside-write c.args.file.now c.args.full_below c.self.inside.order.entries c.self.inside.places c.self.inside.pages.items c.self.invariant.0 (rw (← c.self.view_is) at c.requires)
+  sound-changed c.args.file.now c.min-low.result (Some c.after-high.result) (λ index. put_page index c.args.offset c.args.bytes.now) c.self.inside.places c.self.inside.pages c.slots_of-run.result.now c.slots_of-run.ensures c.self.inside.order.entries
+      c.loop-slot.slot-index (omega (arith, c.loop-slot-test.false)) (front (others (others (others c.loop-slot.self-inside)))) c.self.invariant.0 c.loop-slot.invariant
+      (outside-write c.args.file.now c.args.full_below c.self.inside.order.entries c.self.inside.places c.self.inside.pages c.self.invariant.0 (rw (← c.self.view_is) at c.requires)
       c.min-low.result c.after-high.result c.args.offset c.args.bytes.now (c.min-low.ensures ∙ ap (min c.args.full_below) c.holding.ensures) c.after-high.ensures),
   c.self.invariant.1,
 )
@@ -30,7 +29,7 @@ invariant_of-self c = (
 pub returns : goal.returns
 returns c = rw (← c.self.view_is)
     (ap (λ pages. record { room = length c.self.inside.places; pages = pages })
-    (changes-end c.args.file.now c.min-low.result (Some c.after-high.result) (λ index. put_page index c.args.offset c.args.bytes.now) c.self.inside.places c.self.inside.pages.items c.slots_of-run.result.now c.slots_of-run.ensures c.self.inside.order.entries
-    c.loop-slot.slot-index (omega (arith, c.loop-slot-test.false)) (front (others (others (others c.loop-slot.self-inside)))).items c.self.invariant.0 c.loop-slot.invariant
-    (outside-write c.args.file.now c.args.full_below c.self.inside.order.entries c.self.inside.places c.self.inside.pages.items c.self.invariant.0 (rw (← c.self.view_is) at c.requires)
+    (changes-end c.args.file.now c.min-low.result (Some c.after-high.result) (λ index. put_page index c.args.offset c.args.bytes.now) c.self.inside.places c.self.inside.pages c.slots_of-run.result.now c.slots_of-run.ensures c.self.inside.order.entries
+    c.loop-slot.slot-index (omega (arith, c.loop-slot-test.false)) (front (others (others (others c.loop-slot.self-inside)))) c.self.invariant.0 c.loop-slot.invariant
+    (outside-write c.args.file.now c.args.full_below c.self.inside.order.entries c.self.inside.places c.self.inside.pages c.self.invariant.0 (rw (← c.self.view_is) at c.requires)
     c.min-low.result c.after-high.result c.args.offset c.args.bytes.now (c.min-low.ensures ∙ ap (min c.args.full_below) c.holding.ensures) c.after-high.ensures)))
