@@ -1,3 +1,4 @@
 pub mod Readings
 pub mod Sayings
+pub mod Lasts
 pub mod Rows

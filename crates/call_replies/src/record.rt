@@ -1,8 +1,9 @@
 //! The results in a record, or why it has none.
 
-ghost use Rattle.std.specs.Prelude.{◌≡◌, ℕ};
+ghost use Rattle.std.specs.Prelude.{◌≡◌, ℕ, IfOk};
 ghost use Rattle.std.specs.Result.{result_map_both};
 ghost use Rattle.world_model.specs.Messages.{HasXid};
+ghost use Rattle.call_replies.specs.Data.{EndsIn};
 ghost use Rattle.call_replies.specs.Records.{results_in, denial_number, ResultsIn};
 
 use limits::RECORD_BYTES;
@@ -14,11 +15,15 @@ const MISMATCH: u64 = 100;
 
 const AUTH: u64 = 200;
 
-/// The results in the record, where the call was accepted (RFC 5531, section 9): `Bad(7)` where it has more than 131,072
-/// bytes, `Bad(1)` where it isn't a reply, `Bad(2)` where the grammar doesn't spell it, `Rpc` where RPC refuses the call.
+/// The results in the record, if the call was accepted (RFC 5531, section 9). Else one of these:
+/// - `Bad(7)`: it has more than 131,072 bytes.
+/// - `Bad(1)`: it isn't a reply.
+/// - `Bad(2)`: the grammar doesn't spell it.
+/// - `Rpc`: RPC refuses the call.
 pub fn results_of<'a>(rec: &'a [u8]) -> Result<&'a [u8], Fault>
     ensures exact { result_map_both (λ r. r.now) (λ e. e) result ≡ results_in rec.entry.now }
     ensures means { (x : ℕ) → HasXid rec.entry.now x → ResultsIn x rec.entry.now (result_map_both (λ r. r.now) (λ e. e) result) }
+    ensures last { IfOk result (λ r. EndsIn r.now rec.entry.now) }
 {
     if rec.len() > RECORD_BYTES {
         return Err(Fault::Bad(7));

@@ -15,6 +15,7 @@ pub mod Stills
 pub mod Waits
 pub mod Readies
 pub mod Steps
+pub mod TakenOver
 pub mod Removals
 pub mod LastCommits
 pub mod PutSteps
@@ -25,6 +26,7 @@ pub mod PlainWalks
 pub mod PutWalks
 pub mod Roomless
 pub mod Spellables
+pub mod Unkept
 pub mod Unmade
 pub mod Refusals
 pub mod Endings

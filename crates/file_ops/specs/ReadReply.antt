@@ -17,7 +17,7 @@ pub data Said : Type 0 where
 
 -- what was said, wherever its bytes lie
 abbrev pub said_of : ReadSaid → Said
-said_of (said.Part attr eof bytes) = part attr eof bytes.now
+said_of (said.Part attr eof bytes) = part attr eof bytes
 said_of (said.Refusal attr fault) = refusal attr fault
 
 -- data longer than asked, unlike their count, or none though the file doesn't end

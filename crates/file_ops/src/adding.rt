@@ -8,13 +8,14 @@ ghost use Rattle.file_ops.specs.Adding.{counted, is_full};
 use client_shelf::Shelf;
 use nfs_types::Handle;
 use write_back::AddFault;
+use xdr_codec::Blob;
 
 /// Adds bytes that were written to a file to those that are pending. After Full and Memory nothing is changed.
 pub(crate) fn add_written(
     shelf: &mut Shelf,
     file: &Handle,
     offset: u64,
-    bytes: &[u8],
+    bytes: &Blob,
 ) -> Result<(), AddFault>
     requires newest { IsNewest (shelf.old.seq + 1) shelf.old.back }
     requires last { offset + length bytes.now ≤ 2 ^ 63 - 1 }

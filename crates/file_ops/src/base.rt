@@ -1,16 +1,16 @@
 //! The bytes of a file from the start of a page on.
 
+ghost use Rattle.std.specs.Bool.{OnFalse, OnTrue};
 ghost use Rattle.std.specs.Prelude.{◌≡◌, ◌≤◌, ◌<◌, ◌+◌, ◌-◌, ◌++◌, ◌^◌, ◌/◌, length, take, IfOk, IfSome};
 ghost use Rattle.std.specs.Vec.{vec_capacity};
 ghost use Rattle.file_ops.specs.Gather.{most_asked};
 ghost use Rattle.file_ops.specs.Base.{nothing_of, pages_size, place_after, is_whole, with_more};
 ghost use Rattle.file_ops.specs.Overlaid.{bytes_from};
 
-use crate::shared::Shared;
 use std::alloc::Global;
 use std::marker::Model;
 use std::mem;
-use xdr_codec::{Blob, Memory};
+use xdr_codec::{Blob, Lent, Memory};
 
 /// How many bytes a page has.
 pub(crate) const PAGE: u64 = 4096;
@@ -21,10 +21,10 @@ pub(crate) const PAGE: u64 = 4096;
 pub struct Base {
     start: u64,
     limit: u64,
-    /// The bytes, as long as no answer shares them.
+    /// The bytes, as long as they aren't shared.
     own: Vec<u8>,
-    /// The bytes once an answer shares them. All pages are there then.
-    shared: Option<Shared>,
+    /// The bytes once they are shared, by an answer or with the record that they came in. All pages are there then.
+    shared: Option<Blob>,
 }
 
 impl Model for Base {
@@ -42,7 +42,7 @@ impl Model for Base {
 }
 
 impl Base {
-    /// No bytes of the pages that meet a range. Out of memory is told too where these end past all places.
+    /// No bytes of the pages that meet a range. Out of memory is told too if these end past all places.
     pub(crate) fn new(alloc: Global, offset: u64, count: u32) -> Result<Base, Memory>
         ensures { IfOk result (λ b. b ≡ nothing_of offset count) }
     {
@@ -124,7 +124,34 @@ impl Base {
         extend(&mut self.own, self.limit, more);
     }
 
-    /// So many bytes from an offset of the file on, which aren't copied. None where pages are missing, or there are fewer
+    /// The same of bytes that are lent. They aren't copied if they can be shared on and are all that there may be.
+    pub(crate) fn put_lent(&mut self, alloc: Global, more: &Lent<'_>)
+        ensures { self.new ≡ with_more more.now self.old }
+    {
+        if self.take_over(alloc, more) {
+            return;
+        }
+        self.put(more.bytes());
+    }
+
+    /// Shares these bytes if they are all that there may be and can be shared on: whether it does.
+    fn take_over(&mut self, alloc: Global, more: &Lent<'_>) -> bool
+        ensures over { OnTrue result (self.new ≡ with_more more.now self.old) }
+        ensures not { OnFalse result (self.new ≡ self.old) }
+    {
+        if self.end() != self.start || more.bytes().len() as u64 != self.limit {
+            return false;
+        }
+        match more.share(alloc) {
+            Some(shared) => {
+                self.shared = Some(shared);
+                true
+            }
+            None => false,
+        }
+    }
+
+    /// So many bytes from an offset of the file on, which aren't copied. None if pages are missing, or there are fewer
     /// bytes or no memory.
     pub(crate) fn share(&mut self, alloc: Global, offset: u64, size: usize) -> Option<Blob>
         ensures bytes { IfSome result (λ b. b ≡ take size (bytes_from offset self.old)) }
@@ -141,7 +168,7 @@ impl Base {
         if self.shared.is_some() || !self.is_whole() {
             return;
         }
-        match Shared::of(alloc, mem::replace(&mut self.own, Vec::new(alloc))) {
+        match Blob::try_shared(alloc, mem::replace(&mut self.own, Vec::new(alloc))) {
             Ok(shared) => self.shared = Some(shared),
             Err(own) => self.own = own,
         }
@@ -152,7 +179,10 @@ impl Base {
         ensures { IfSome result (λ b. b ≡ take size (bytes_from offset self.now)) }
     {
         match &self.shared {
-            Some(shared) => shared.part(alloc, offset.saturating_sub(self.start), size),
+            Some(shared) => {
+                let from = offset.saturating_sub(self.start) as usize;
+                shared.part(alloc, from, size)
+            }
             None => None,
         }
     }

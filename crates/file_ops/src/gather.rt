@@ -20,7 +20,7 @@ pub enum Found {
     Wanted,
 }
 
-/// Takes the next page where it is kept. The bytes end where all pages are there, or the file is known to end.
+/// Takes the next page if it is kept. The bytes end if all pages are there, or the file is known to end.
 pub(crate) fn take_page(base: &mut Base, pages: &mut PageCache, file: &Handle) -> Found
     ensures { record { found = result; base = base.new; pages = pages.new } ≡ taken file.now base.old pages.old }
 {
@@ -41,7 +41,7 @@ fn is_past(known: Option<Stamp>, place: u64) -> bool
     }
 }
 
-/// Takes a page where it is kept.
+/// Takes a page if it is kept.
 fn take_kept(base: &mut Base, pages: &mut PageCache, file: &Handle, index: u64) -> Found
     ensures found { result ≡ found_of (page_of file.now index pages.old) }
     ensures base { base.new ≡ base_with (page_of file.now index pages.old) base.old }
@@ -77,7 +77,7 @@ pub(crate) fn gather(base: &mut Base, pages: &mut PageCache, file: &Handle, most
     found
 }
 
-/// Takes the next page where the last one was whole.
+/// Takes the next page if the last one was whole.
 fn take_next(base: &mut Base, pages: &mut PageCache, file: &Handle, last: Found) -> Found
     ensures { record { found = result; base = base.new; pages = pages.new } ≡ then_taken file.now (record { found = last; base = base.old; pages = pages.old }) last }
 {
@@ -88,8 +88,20 @@ fn take_next(base: &mut Base, pages: &mut PageCache, file: &Handle, last: Found)
     }
 }
 
-/// Where a READ that may go up to a place ends, if it stops before a kept page: so many pages from one on are looked at.
+/// Where a READ that may go up to a place ends, if it stops before a kept page: so many pages from one on are looked at, if the file
+/// has any there.
 fn stop_at_kept(pages: &mut PageCache, file: &Handle, first: u64, count: u64, end: u64) -> u64
+    requires { first + count < 2 ^ 64 }
+    ensures { record { end = result; pages = pages.new } ≡ planned file.now first count (record { end = end; pages = pages.old }) }
+{
+    if !pages.keeps_from(file, first) {
+        return end;
+    }
+    stop_at_each(pages, file, first, count, end)
+}
+
+/// The same, with a look at each page.
+fn stop_at_each(pages: &mut PageCache, file: &Handle, first: u64, count: u64, end: u64) -> u64
     requires { first + count < 2 ^ 64 }
     ensures { record { end = result; pages = pages.new } ≡ planned file.now first count (record { end = end; pages = pages.old }) }
 {

@@ -24,7 +24,7 @@ use page_cache::PageCache;
 use std::alloc::Global;
 use world_model::{Answer, Call, Fault};
 use write_back::WriteBack;
-use xdr_codec::Memory;
+use xdr_codec::{Lent, Memory};
 
 impl Reading {
     /// The reply to its call came, which the step with the turn `sent` made.
@@ -162,10 +162,10 @@ impl Reading {
                     &self.file,
                     sent.moment,
                     self.base.end(),
-                    bytes,
+                    &bytes,
                     eof,
                 );
-                self.add(eof, bytes);
+                self.add(alloc, eof, &bytes);
                 self.go(alloc, turn.room, pages, back)
             }
             ReadSaid::Refusal { attr, fault } => {
@@ -175,7 +175,7 @@ impl Reading {
         }
     }
 
-    /// A part was refused: it is asked for again where the server is busy.
+    /// A part was refused: it is asked for again if the server is busy.
     fn refused(&self, fault: Fault, sent: Turn, turn: Turn, repeats: &mut Repeats) -> Step
         ensures next { result ≡ refused_next (goes_again (is_busy fault) sent turn repeats.old) fault self.now }
         ensures repeats { repeats.new ≡ repeats_after (is_busy fault) sent turn repeats.old }
@@ -198,11 +198,11 @@ impl Reading {
     }
 
     /// A part of the file comes after its bytes.
-    fn add(&mut self, eof: bool, bytes: &[u8])
+    fn add(&mut self, alloc: Global, eof: bool, bytes: &Lent<'_>)
         ensures { self.new ≡ added (count_of self.old.phase) eof bytes.now self.old }
     {
         let count = self.asked_for();
-        self.base.put(bytes);
+        self.base.put_lent(alloc, bytes);
         self.phase = phase_then(count, eof, bytes, &self.base);
     }
 
@@ -222,13 +222,13 @@ impl Reading {
 }
 
 /// After a part that it asked for: the bytes end, or those after it are asked for, or pages are taken again.
-fn phase_then(count: u32, eof: bool, bytes: &[u8], base: &Base) -> Phase
+fn phase_then(count: u32, eof: bool, bytes: &Lent<'_>, base: &Base) -> Phase
     ensures { result ≡ phase_then count eof bytes.now base.now }
 {
     if eof {
         return Phase::Ended;
     }
-    if bytes.len() < count as usize || base.end() % PAGE != 0 {
+    if bytes.bytes().len() < count as usize || base.end() % PAGE != 0 {
         return Phase::Rest;
     }
     Phase::Pages
@@ -241,17 +241,17 @@ fn note(
     file: &Handle,
     sent: u64,
     place: u64,
-    bytes: &[u8],
+    bytes: &Lent<'_>,
     eof: bool,
 )
     ensures { pages.new ≡ noted attr.now file.now sent place bytes.now eof pages.old }
 {
     if let Some(attr) = attr {
-        note_attr(pages, attr, file, sent, place, bytes, eof);
+        note_attr(pages, attr, file, sent, place, bytes.bytes(), eof);
     }
 }
 
-/// The same where there are attributes.
+/// The same if there are attributes.
 fn note_attr(
     pages: &mut PageCache,
     attr: &Attr,

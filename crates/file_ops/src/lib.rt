@@ -24,7 +24,6 @@ mod read_file;
 mod read_reply;
 mod reading;
 mod saving;
-mod shared;
 mod slots;
 mod space;
 mod sync_file;

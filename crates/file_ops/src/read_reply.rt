@@ -12,9 +12,10 @@ use client_shelf::Came;
 use nfs_file_calls::FileReply;
 use nfs_types::Attr;
 use world_model::Fault;
+use xdr_codec::Lent;
 
 /// What the reply to a READ says.
-#[derive(Debug)]
+#[derive(Debug, Drop)]
 pub enum ReadSaid<'a> {
     /// The bytes from where they were asked for on, and whether the file ends after them.
     Part {
@@ -23,7 +24,7 @@ pub enum ReadSaid<'a> {
         /// Whether the file ends after them.
         eof: bool,
         /// The bytes.
-        bytes: &'a [u8],
+        bytes: Lent<'a>,
     },
     /// There are none.
     Refusal {
@@ -58,7 +59,7 @@ fn file_reply<'a>(reply: &FileReply<'a>, asked: u32) -> ReadSaid<'a>
             attr,
             count,
             eof,
-            bytes,
+            ref bytes,
         } => part(attr, count, eof, bytes, asked),
         FileReply::ReadFail { status, attr } => ReadSaid::Refusal {
             attr,
@@ -69,17 +70,21 @@ fn file_reply<'a>(reply: &FileReply<'a>, asked: u32) -> ReadSaid<'a>
 }
 
 /// The same of data.
-fn part<'a>(attr: Option<Attr>, count: u32, eof: bool, bytes: &'a [u8], asked: u32) -> ReadSaid<'a>
+fn part<'a>(attr: Option<Attr>, count: u32, eof: bool, bytes: &Lent<'a>, asked: u32) -> ReadSaid<'a>
     ensures { said_of result ≡ said_by asked (replies.File (files.Read attr count eof bytes.now)) }
 {
-    let len = bytes.len();
+    let len = bytes.bytes().len();
     if len > asked as usize || len != count as usize || (len == 0 && !eof) {
         return ReadSaid::Refusal {
             attr,
             fault: Fault::Bad(5),
         };
     }
-    ReadSaid::Part { attr, eof, bytes }
+    ReadSaid::Part {
+        attr,
+        eof,
+        bytes: bytes.again(),
+    }
 }
 
 /// A reply that breaks a rule says nothing.

@@ -1,6 +1,6 @@
 //! A write or a fill: its bytes become pending.
 
-ghost use Rattle.std.specs.Prelude.{◌≡◌, ◌+◌, ◌-◌, ◌^◌, ◌<◌, ◌≤◌, ℕ, List, length, replicate, ◌⊎◌, Ok, IfOk, OnOk, OnErr};
+ghost use Rattle.std.specs.Prelude.{◌≡◌, ◌+◌, ◌-◌, ◌^◌, ◌<◌, ◌≤◌, ℕ, List, [], length, replicate, ◌⊎◌, Ok, IfOk, OnOk, OnErr};
 ghost use Rattle.std.specs.Bool.{OnTrue};
 ghost use Rattle.client_shelf.specs.Coming.{reply_of};
 ghost use Rattle.file_ops.specs.declared.saving.SavingStep.TheVariants.{Ended};
@@ -80,13 +80,14 @@ impl Text {
         Ok(())
     }
 
-    /// The bytes that were made.
-    fn made(&self) -> &[u8]
+    /// The bytes that were made. Of a fill that made none, the argument, which has none.
+    fn made<'a>(&'a self, none: &'a Blob) -> &'a Blob
+        requires { none.now ≡ [] }
         ensures { result.now ≡ made_bytes self.now }
     {
         match self {
-            Text::Given(bytes) => bytes.bytes(),
-            Text::Fill { .. } => &[],
+            Text::Given(bytes) => bytes,
+            Text::Fill { .. } => none,
         }
     }
 }
@@ -268,7 +269,8 @@ impl WriteFile {
         ensures machine { self.new ≡ record self.old { state = self.new.state } }
         ensures step { Writes wsize self.old.lane file.now self.old.offset (made_bytes self.old.text) turn shelf.old result self.new.state shelf.new }
     {
-        match add_written(shelf, file, self.offset, self.text.made()) {
+        let none = Blob::of(Vec::new(alloc));
+        match add_written(shelf, file, self.offset, self.text.made(&none)) {
             Ok(()) => {
                 self.state = Writing::Idle;
                 Step::Done(Answer::Done(Value::Nothing))
@@ -377,11 +379,11 @@ impl WriteFile {
     }
 }
 
-/// So many equal bytes.
+/// So many equal bytes, in memory that their segment shares.
 fn filled(alloc: Global, count: u32, byte: u8) -> Result<Blob, Memory>
     ensures { IfOk result (λ bytes. bytes ≡ replicate count byte) }
 {
     let mut bytes = Vec::new(alloc);
     bytes.resize(count as usize, byte)?;
-    Ok(Blob::of(bytes))
+    Ok(Blob::shared(alloc, bytes)?)
 }

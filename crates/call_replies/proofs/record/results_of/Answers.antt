@@ -1,4 +1,5 @@
 use Rattle.std.proofs.Common.{◌≡◌, true, false}
+use Rattle.call_replies.proofs.Lasts.{results_last}
 use Rattle.call_replies.proofs.Readings.{has_results, refused_so, denied_so, not_reply_heard, unspelled_heard}
 use Rattle.call_replies.proofs.record.results_of.Goals as goal
 
@@ -9,6 +10,11 @@ pub returns-in-Ok-Accepted-clause-means : goal.returns-in-Ok-Accepted-clause-mea
 returns-in-Ok-Accepted-clause-means c =
     let f = rw c.in-Ok-Accepted.field-0-is at c.in-Ok-Accepted.ensures in
     λ x has. has_results _ _ _ x f.spelled.found (λ r s. (f.spelled.only r s).0) f.exact has
+
+pub returns-in-Ok-Accepted-clause-last : goal.returns-in-Ok-Accepted-clause-last
+returns-in-Ok-Accepted-clause-last c =
+    let f = rw c.in-Ok-Accepted.field-0-is at c.in-Ok-Accepted.ensures in
+    results_last _ _ _ f.spelled.found
 
 pub returns-in-Ok-Refused-clause-means : goal.returns-in-Ok-Refused-clause-means
 returns-in-Ok-Refused-clause-means c =
