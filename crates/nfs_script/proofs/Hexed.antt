@@ -49,14 +49,14 @@ length-encode table [] = refl
 length-encode table (x ∷ bytes) = let rest = length-encode table bytes in omega (arith, rest)
 
 -- a vector of digits is written behind those of the bytes before
-pub begun_block : (bytes digits block : List ℕ) (at : ℕ) → at + 16 ≤ length bytes → length digits ≡ 2 * length bytes
-    → take (2 * at) digits ≡ encode_lower (take at bytes) → block ≡ encode_lower (chunk at 16 bytes)
-    → take (2 * (at + 16)) (put_chunk (2 * at) digits block) ≡ encode_lower (take (at + 16) bytes)
-begun_block bytes digits block at fits room begun is =
-    let long : length block ≡ 32 = ap length is ∙ length-encode lower_digits (chunk at 16 bytes) ∙ ap (λ (n : ℕ). 2 * n) (length-chunk at 16 bytes fits) in
-    let more = take_more_put_chunk (2 * at) digits block (2 * (at + 16)) (omega (arith, long)) (omega arith) in
+pub begun_half : (bytes digits block : List ℕ) (at : ℕ) → at + 8 ≤ length bytes → length digits ≡ 2 * length bytes
+    → take (2 * at) digits ≡ encode_lower (take at bytes) → block ≡ encode_lower (chunk at 8 bytes)
+    → take (2 * (at + 8)) (put_chunk (2 * at) digits block) ≡ encode_lower (take (at + 8) bytes)
+begun_half bytes digits block at fits room begun is =
+    let long : length block ≡ 16 = ap length is ∙ length-encode lower_digits (chunk at 8 bytes) ∙ ap (λ (n : ℕ). 2 * n) (length-chunk at 8 bytes fits) in
+    let more = take_more_put_chunk (2 * at) digits block (2 * (at + 8)) (omega (arith, long)) (omega arith) in
     more ∙ ap (λ (k : List ℕ). k ++ block) begun ∙ ap (λ (k : List ℕ). encode_lower (take at bytes) ++ k) is
-    ∙ sym (encode-append lower_digits (take at bytes) (chunk at 16 bytes)) ∙ ap encode_lower (take-add at 16 bytes)
+    ∙ sym (encode-append lower_digits (take at bytes) (chunk at 8 bytes)) ∙ ap encode_lower (take-add at 8 bytes)
 
 pub begun_none : (bytes digits : List ℕ) → take (2 * (64 * 0)) digits ≡ encode_lower (take (64 * 0) bytes)
 unfolding encode_with

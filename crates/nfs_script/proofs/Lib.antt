@@ -7,3 +7,4 @@ pub mod ScriptRows
 pub mod LineRows
 pub mod Lanes
 pub mod Sole
+pub mod Afterwards

@@ -11,7 +11,7 @@ use xdr_codec::{Memory, Writer};
 
 /// Appends the line that answers an operation: its lane, the number of its line and its answer's text, parted by single
 /// spaces, and a line feed. When out of memory the writer begins with what it held.
-#[tactic(auto, using(xdr_codec::proofs::Begins::begins_then, std::proofs::Common::append_assoc), unfolding(world_model::specs::Transcript::line_text))]
+#[tactic(auto, using(xdr_codec::proofs::Begins::after_a, xdr_codec::proofs::Begins::begins_b, std::proofs::Common::append_assoc), unfolding(world_model::specs::Transcript::line_text))]
 pub fn line(out: &mut Writer, lane: u8, number: u32, answer: &Answer) -> Result<(), Memory>
     ensures ok { OnOk result (out.new ≡ out.old ++ line_text lane number answer.now) }
     ensures err { OnErr result (BeginsWith out.old out.new) }
@@ -23,7 +23,7 @@ pub fn line(out: &mut Writer, lane: u8, number: u32, answer: &Answer) -> Result<
 }
 
 /// Appends the lane and the number of a line, each with a space behind it.
-#[tactic(auto, using(xdr_codec::proofs::Begins::begins_then, std::proofs::Common::append_assoc))]
+#[tactic(auto, using(xdr_codec::proofs::Begins::begins_a, xdr_codec::proofs::Begins::begins_b, xdr_codec::proofs::Begins::begins_c, xdr_codec::proofs::Begins::grown_d))]
 pub(crate) fn write_head(out: &mut Writer, lane: u8, number: u32) -> Result<(), Memory>
     ensures ok { OnOk result (out.new ≡ out.old ++ (decimal lane ++ codes " " ++ decimal number ++ codes " ")) }
     ensures err { OnErr result (BeginsWith out.old out.new) }
@@ -45,7 +45,7 @@ fn write_answer(out: &mut Writer, answer: &Answer) -> Result<(), Memory>
     }
 }
 
-#[tactic(auto, using(xdr_codec::proofs::Begins::begins_then, std::proofs::Common::append_assoc))]
+#[tactic(auto, using(xdr_codec::proofs::Begins::after_a, std::proofs::Common::append_assoc))]
 fn write_done(out: &mut Writer, value: &Value) -> Result<(), Memory>
     ensures ok { OnOk result (out.new ≡ out.old ++ (codes "ok" ++ value_text value.now)) }
     ensures err { OnErr result (BeginsWith out.old out.new) }

@@ -9,7 +9,7 @@ use nfs_types::Attr;
 use xdr_codec::{Memory, Writer};
 
 /// Appends an object's attributes after a space.
-#[tactic(auto, using(xdr_codec::proofs::Begins::begins_then, std::proofs::Common::append_assoc))]
+#[tactic(auto, using(xdr_codec::proofs::Begins::after_a, std::proofs::Common::append_assoc))]
 pub(crate) fn write_attrs(out: &mut Writer, attr: &Attr) -> Result<(), Memory>
     ensures ok { OnOk result (out.new ≡ out.old ++ (codes " " ++ attr_text attr.now)) }
     ensures err { OnErr result (BeginsWith out.old out.new) }
@@ -21,7 +21,7 @@ pub(crate) fn write_attrs(out: &mut Writer, attr: &Attr) -> Result<(), Memory>
 
 /// Appends an object's kind, mode, count of names, owner, group, length, number, and the second when its bytes last
 /// changed, parted by single spaces.
-#[tactic(auto, using(xdr_codec::proofs::Begins::begins_then, std::proofs::Common::append_assoc), unfolding(world_model::specs::Transcript::attr_text))]
+#[tactic(auto, using(xdr_codec::proofs::Begins::begins_a, xdr_codec::proofs::Begins::begins_b, xdr_codec::proofs::Begins::after_c, xdr_codec::proofs::Begins::after_d, xdr_codec::proofs::Begins::after_e, crate::proofs::Afterwards::after_f, crate::proofs::Afterwards::after_g, crate::proofs::Afterwards::after_h, std::proofs::Common::append_assoc), unfolding(world_model::specs::Transcript::attr_text))]
 fn write_attr(out: &mut Writer, attr: &Attr) -> Result<(), Memory>
     ensures ok { OnOk result (out.new ≡ out.old ++ attr_text attr.now) }
     ensures err { OnErr result (BeginsWith out.old out.new) }

@@ -9,7 +9,7 @@ use xdr_codec::{Memory, Writer};
 
 /// Appends the line that ends the answers of a batch, and a line feed: the number of the batch, from 1 on, and its status. When out of
 /// memory the writer begins with what it held.
-#[tactic(auto, using(xdr_codec::proofs::Begins::begins_then, std::proofs::Common::append_assoc), unfolding(crate::specs::DoneText::done_text))]
+#[tactic(auto, using(xdr_codec::proofs::Begins::begins_a, xdr_codec::proofs::Begins::begins_b, xdr_codec::proofs::Begins::begins_c, xdr_codec::proofs::Begins::begins_d, xdr_codec::proofs::Begins::grown_e), unfolding(crate::specs::DoneText::done_text))]
 pub fn done_line(out: &mut Writer, number: u32, status: u8) -> Result<(), Memory>
     ensures ok { OnOk result (out.new ≡ out.old ++ done_text number status) }
     ensures err { OnErr result (BeginsWith out.old out.new) }

@@ -24,7 +24,7 @@ pub use answer_line::line;
 pub use batch_end::done_line;
 pub use commands::operation;
 pub use fault::{ParseFault, ScriptFault};
-pub use made_line::whole_line;
+pub use made_line::{MadeLine, whole_line};
 pub use refused_mount::mount_line;
 pub use refused_script::refusal_line;
 pub use script::{Script, ScriptLine, parse, parse_from};

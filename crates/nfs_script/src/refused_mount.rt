@@ -10,7 +10,7 @@ use xdr_codec::{Memory, Writer};
 
 /// Appends the line that says why a mount was refused, and a line feed. When out of memory the writer begins with what
 /// it held.
-#[tactic(auto, using(xdr_codec::proofs::Begins::begins_then, std::proofs::Common::append_assoc), unfolding(world_model::specs::Transcript::mount_text))]
+#[tactic(auto, using(xdr_codec::proofs::Begins::after_a, xdr_codec::proofs::Begins::begins_b, xdr_codec::proofs::Begins::grown_c), unfolding(world_model::specs::Transcript::mount_text))]
 pub fn mount_line(out: &mut Writer, fault: Fault) -> Result<(), Memory>
     ensures ok { OnOk result (out.new ≡ out.old ++ mount_text fault) }
     ensures err { OnErr result (BeginsWith out.old out.new) }

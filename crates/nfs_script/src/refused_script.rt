@@ -10,7 +10,7 @@ use xdr_codec::{Memory, Writer};
 
 /// Appends the line that says why a script was refused, and a line feed. When out of memory the writer begins with what
 /// it held.
-#[tactic(auto, using(xdr_codec::proofs::Begins::begins_then, std::proofs::Common::append_assoc), unfolding(crate::specs::RefusalText::refusal_text))]
+#[tactic(auto, using(xdr_codec::proofs::Begins::begins_a, xdr_codec::proofs::Begins::begins_b, xdr_codec::proofs::Begins::begins_c, xdr_codec::proofs::Begins::begins_d, xdr_codec::proofs::Begins::grown_e), unfolding(crate::specs::RefusalText::refusal_text))]
 pub fn refusal_line(out: &mut Writer, fault: &ScriptFault) -> Result<(), Memory>
     ensures ok { OnOk result (out.new ≡ out.old ++ refusal_text fault.now) }
     ensures err { OnErr result (BeginsWith out.old out.new) }

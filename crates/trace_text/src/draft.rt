@@ -8,6 +8,7 @@ ghost use Rattle.trace_text.specs.Objects.{gone_of, with_object, with_verf};
 ghost use Rattle.trace_text.specs.Puts.{is_under, put_at};
 ghost use Rattle.trace_text.specs.Told.{Says, Takes, added, begun, changed, entered, nothing_told, object_now, told_by, with_lives, with_noac, with_nocto, with_root};
 
+use crate::discard::discard;
 use crate::fault::LineFault;
 use nfs_types::{Handle, Verf};
 use std::alloc::Global;
@@ -19,7 +20,7 @@ use xdr_codec::Memory;
 /// The most entries of a trace.
 const MOST_ENTRIES: usize = 4096;
 
-/// The greatest lifetime where no line says it, in milliseconds.
+/// The greatest lifetime if no line says it, in milliseconds.
 const USUAL_LIFETIME: u64 = 60_000;
 
 /// What the lines so far say.
@@ -156,6 +157,7 @@ impl Draft {
         ensures { Takes result (told_by self.new) (entered entry (told_by self.old)) }
     {
         if self.entries.len() >= MOST_ENTRIES {
+            discard(entry);
             return Err(LineFault::Form);
         }
         self.add(alloc, entry)?;
@@ -170,7 +172,10 @@ impl Draft {
             verf: verf_at(self.start.verf, self.updates.as_slice(), self.updates.len()),
             objects: Vec::new(alloc),
         };
-        self.updates.reserve(1)?;
+        let Ok(()) = self.updates.reserve(1) else {
+            discard(entry);
+            return Err(Memory);
+        };
         self.entries.push(entry)?;
         let Ok(()) = self.updates.push(update) else {
             unreachable!();

@@ -60,7 +60,7 @@ fn write_answered(
 ) -> Result<(), Memory>
     ensures { OnOk result (page.new ≡ put page.old (entry_text (entries.Answered lane line answer.now))) }
 {
-    let text = whole_line(alloc, lane, line, answer)?;
+    let text = whole_line(alloc, Vec::new(alloc), lane, line, answer)?;
     page.text(b"answered ")?;
     page.text(text.bytes())
 }

@@ -3,6 +3,7 @@
 
 mod answers;
 mod calls;
+mod discard;
 mod draft;
 mod entry_lines;
 mod entry_texts;

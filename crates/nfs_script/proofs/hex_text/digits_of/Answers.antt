@@ -1,6 +1,9 @@
 use Rattle.hex.specs.Hex.{lower_digits}
-use Rattle.nfs_script.proofs.Lanes.{by_turns}
+use Rattle.nfs_script.proofs.Lanes.{numbers_ok, numbers_found}
 use Rattle.nfs_script.proofs.hex_text.digits_of.Goals as goal
 
+pub swizzle : goal.swizzle
+swizzle c = rw c.digit_numbers-numbers.ensures (numbers_ok c.args.bytes c.fits-bytes)
+
 pub returns : goal.returns
-returns c = rw (c.first_digits.ensures, c.last_digits.ensures) (by_turns lower_digits c.args.bytes c.fits-bytes.0)
+returns c = rw c.digit_numbers-numbers.ensures (numbers_found lower_digits c.args.bytes c.fits-bytes)

@@ -21,6 +21,6 @@ returns c =
     let u : Update = record { verf = c.verf_at.result; objects = c.new.result } in
     let count : c.len.result ≡ length c.self.inside.updates.items = c.len.ensures ∙ c.self.inside.updates.ok.0 in
     rw (← c.self.view_is) (told-entry l c.push.new.self.items c.push-2.new.self.items c.args.entry u c.in_ok-push.ensures.items
-    (c.in-Ok.ensures.items ∙ ap (λ (us : List Update). us ++ u ∷ []) c.in_ok-reserve.ensures.items)
+    (c.in-Ok-push.ensures.items ∙ ap (λ (us : List Update). us ++ u ∷ []) c.in-Ok.ensures.items)
     (c.verf_at.ensures ∙ ap (λ (us : List Update). verf_at c.self.inside.start.verf us c.len.result) c.as_slice.ensures.value
     ∙ ap (verf_at c.self.inside.start.verf c.self.inside.updates.items) count) c.new.ensures.items)
