@@ -11,7 +11,6 @@ use Rattle.client_core.specs.declared.setup.Setup.{Setup}
 use Rattle.core_facts.specs.Reaches.{MaySetUp}
 use Rattle.session_words.specs.declared.settings.Settings.{Settings}
 use Rattle.script_batches.specs.Batches.{Read}
-use Rattle.lane_session.specs.declared.counts.Counts.{Counts}
 use Rattle.lane_session.specs.declared.running.Session.{Session}
 use Rattle.lane_session.specs.Bonds.{IsOpened, Start}
 use Rattle.lane_session.specs.Running.{IsFreshFor, mounted_by}
@@ -20,7 +19,6 @@ use Rattle.lane_session.proofs.CoreEnds.{told-none}
 use Rattle.lane_session.proofs.Ending.{broken-none, fresh-goes}
 use Rattle.lane_session.proofs.Passing.{appends_same, passes_less, reads_same}
 use Rattle.lane_session.proofs.Reaching.{fresh-bonded}
-use Rattle.lane_session.proofs.Tallying.{fresh-tallied}
 use Rattle.batch_runs.specs.declared.answered.Answered.{Answered}
 use Rattle.batch_runs.specs.declared.stop.Stop.{Stop}
 use Rattle.batch_runs.specs.declared.stop.Stop.TheVariants as stops
@@ -32,12 +30,11 @@ counted_from h = record { from = h; counted = true }
 
 -- a session that is new goes with the set-up
 pub over-told : (s : Settings) (setup : Setup) (session : Session) (tally : Tally) (first : List ScriptLine) (old : Answered) (left : Option (List Read)) (result : Result ℕ Stop) (given text : List ℕ)
-    (h k : List Entry) → MaySetUp setup → IsFreshFor s setup session → session.counts ≡ record { tally = tally; next = setup.first_xid }
+    (h k : List Entry) → MaySetUp setup → IsFreshFor s setup session → session.counts.tally ≡ tally
     → IsRead first left (λ l. RunsIn s.count first session old l result given text h k) → IsOpened (Some setup) h → tally ≡ tally_of h
     → IsRead first left (λ l. RunsOver s setup old l result given text h k)
 over-told s setup session tally first old left result given text h k may f counts r o is batch asks =
-    let tallied = fresh-tallied setup h session.core session.counts o.0 f.core (ap (λ (c : Counts). c.tally) counts ∙ is) (ap (λ (c : Counts). c.next) counts) in
-    let bonded = fresh-bonded s setup (counted_from h) session h may f refl (λ so. tallied) o in
+    let bonded = fresh-bonded s setup (counted_from h) session h may f refl (λ so. counts ∙ is) o in
     let t = r batch asks (mounted_by s setup) setup (counted_from h) refl (fresh-goes first s setup session f h o.0.unmarked) bonded in
     record { runs = t.runs; core = t.core }
 
@@ -76,7 +73,7 @@ none-told (Some x) s setup tally first old left may sound = λ o is batch asks.
 -- ---- with what the clock gave and what was written
 
 pub over-passes : (r0 r1 : Option (List ℕ)) (t0 t1 : Option History) (w0 w1 : Option (List ℕ)) (s : Settings) (setup : Setup) (session : Session) (tally : Tally) (first : List ScriptLine) (old : Answered)
-    (left : Option (List Read)) (result : Result ℕ Stop) → MaySetUp setup → IsFreshFor s setup session → session.counts ≡ record { tally = tally; next = setup.first_xid }
+    (left : Option (List Read)) (result : Result ℕ Stop) → MaySetUp setup → IsFreshFor s setup session → session.counts.tally ≡ tally
     → Passes r0 r1 t0 t1 w0 w1 (λ given text h k. IsRead first left (λ l. RunsIn s.count first session old l result given text h k))
     → Passes r0 r1 t0 t1 w0 w1 (λ given text h k. IsOpened (Some setup) h → tally ≡ tally_of h → IsRead first left (λ l. RunsOver s setup old l result given text h k))
 over-passes r0 r1 t0 t1 w0 w1 s setup session tally first old left result may f counts p =

@@ -148,7 +148,7 @@ module _ (count : Bool) (m : Mounted) (setup : Setup) (start : Start) (counted :
   pub end-now : counts_text count new.counts.tally ++ done_text (now.count + 1) new.status
       ≡ counts_text count (tally_of ((h ++ entries_in u.parts) ++ more)) ++ done_text (suc (old.count + length u.parts)) new.status
   end-now =
-      let tally : new.counts.tally ≡ tally_of ((h ++ entries_in u.parts) ++ more) = (bonded-now.tallied counted).tally ∙ ap tally_of behind in
+      let tally : new.counts.tally ≡ tally_of ((h ++ entries_in u.parts) ++ more) = bonded-now.tallied counted ∙ ap tally_of behind in
       let number : now.count + 1 ≡ suc (old.count + length u.parts) = (let n = u.so_far.counts.count in omega (arith, n)) in
       ap (λ (t : List ℕ). t ++ done_text (now.count + 1) new.status) (ap (counts_text count) tally)
       ∙ ap (λ (n : ℕ). counts_text count (tally_of ((h ++ entries_in u.parts) ++ more)) ++ done_text n new.status) number

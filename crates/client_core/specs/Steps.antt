@@ -1,10 +1,10 @@
 -- The steps of the core.
 use Rattle.std.specs.Prelude.{◌≡◌, ◌⊎◌, ◌<◌, ◌≤◌, All, ◌+◌, ◌++◌, ◌∷◌, [], ℕ, List, Bool, true, false, Option, Some, None}
-use Rattle.std.specs.Prelude.{Result, Ok, Err, map, length, position, remove, slice_get, slice_set, MatchOption, max, is_none, option_map}
+use Rattle.std.specs.Prelude.{Result, Ok, Err, map, length, position, remove, slice_get, slice_set, MatchOption, max, is_none, option_map, if◌then◌else◌}
 use Rattle.nfs_types.specs.declared.program.TheConstants.{NFS_PROGRAM}
 use Rattle.rpc_message.specs.Call.{xid_at, SpellsCallHead}
 use Rattle.rpc_retry.specs.Held.{Held, next_xid}
-use Rattle.rpc_retry.specs.Waiting.{made_call, first_due, sent, first_given_up}
+use Rattle.rpc_retry.specs.Waiting.{made_call, first_due, sent, sent_call, first_given_up}
 use Rattle.rpc_retry.specs.Put.{check_of, call_head, call_bytes}
 use Rattle.rpc_retry.specs.Take.{awaited, after_taking}
 use Rattle.rpc_retry.specs.Fail.{after_failure}
@@ -137,7 +137,7 @@ pub record Stirs (old : View) (at : ℕ) (new : View) : Type 0 where
   pub goes : next ≡ Wait → ⊥
   pub leads : Leads (with_state old at number (Busy after) shelf) at number after next new
 
--- the lane at a place waits, where its operation is under way
+-- the lane at a place waits, if its operation is under way
 abbrev pub Rests : View → ℕ → Type 0
 Rests v at = (number : ℕ) (machine : Machine) → IsBusyAt v at number machine → Resumes v.wsize machine (turn_at v) v.shelf Wait machine v.shelf
 
@@ -205,7 +205,7 @@ pub record TakesAt (old : View) (at : ℕ) (sent : Turn) (came : Result Reply Fa
   pub takes : Takes old.wsize machine sent (turn_at old) came old.shelf next after shelf
   pub leads : Leads (with_state old at number (Busy after) shelf) at number after next new
 
--- The operation that made the call takes it. Where it has its answer, nothing happens.
+-- The operation that made the call takes it. If it has its answer, nothing happens.
 abbrev pub HearsOwn : View → List ℕ → Purpose → View → Type 0
 HearsOwn old rec purpose new =
     MatchOption (position (is_busy purpose.lane) old.lanes) (new ≡ old) (λ at. TakesAt old at purpose.sent (said_of purpose.proc rec) new)
@@ -257,6 +257,10 @@ SendsIf false old result new = Gives old result new
 abbrev pub SendsBy : View → Option (List ℕ) → View → Type 0
 SendsBy old result new = SendsIf old.lost old result new
 
+-- the call that is sent, of which one more attempt runs then; none in a lost session
+abbrev pub call_sent : View → Option (Waiting Purpose)
+call_sent v = if v.lost then None else option_map (λ e. sent_call e.1) (first_due v.calls.calls)
+
 abbrev pub lost : View → View
 lost v = record v { lanes = map lost_lane v.lanes; lost = true }
 
@@ -267,7 +271,7 @@ abbrev pub FailsAs : Option ℕ → View → Bool → View → Type 0
 FailsAs None old result new = (result ≡ true) × (new ≡ failed_view old)
 FailsAs (Some xid) old result new = (result ≡ false) × (new ≡ lost (failed_view old))
 
--- the attempts that run have ended; where a call is given up the session is lost
+-- the attempts that run have ended; if a call is given up the session is lost
 abbrev pub FailsBy : View → Bool → View → Type 0
 FailsBy old result new = FailsAs (first_given_up old.calls.calls) old result new
 

@@ -8,16 +8,18 @@ ghost use Rattle.client_core.specs.Fresh.{AreSizes, IsFresh};
 ghost use Rattle.client_core.specs.Lanes.{AnsweredFrom};
 ghost use Rattle.client_core.specs.Numbers.{IsIdle};
 ghost use Rattle.client_core.specs.View.{IsSound};
-ghost use Rattle.client_core.specs.Steps.{Begins, Hears, WereSent, SendsBy, FailsBy, AnswersBy, lost};
+ghost use Rattle.client_core.specs.Steps.{Begins, Hears, WereSent, SendsBy, call_sent, FailsBy, AnswersBy, lost};
 
+use crate::lane::Purpose;
 use crate::setup::Setup;
 use crate::work::Work;
 use op_machines::Machine;
 use page_cache::PageCache;
+use rpc_retry::Waiting;
 use std::alloc::Global;
 use std::marker::Model;
 use world_model::Answer;
-use xdr_codec::{Memory, Record};
+use xdr_codec::{Lent, Memory};
 
 /// Sixteen lanes, each with one operation under way, over one shelf and one table of calls.
 #[derive(Drop)]
@@ -71,23 +73,24 @@ impl Core {
         self.work.begin(lane, machine, now);
     }
 
-    /// The record that is sent next; none in a lost session.
-    pub fn next_send(&mut self) -> Option<&Record>
-        ensures* ends { sem 𝓛 (ends_as self.entry (SendsBy self.old (option_map (λ b. b.now) result))) }
+    /// The call whose record is sent next, with its purpose and how often it was sent; none in a lost session.
+    pub fn next_send(&mut self) -> Option<&Waiting<Purpose>>
+        ensures* ends { sem 𝓛 (ends_as self.entry (SendsBy self.old (option_map (λ call. call.now.bytes) result))) }
+        ensures lends { option_map (λ call. call.now) result ≡ call_sent self.old }
     {
         self.work.next_send()
     }
 
     /// Takes a record, once each call that waits was sent: whether it was a reply to one of them. The operation that made the
-    /// call makes the first step, then the others go on as far as they can.
-    pub fn take(&mut self, rec: &[u8]) -> bool
+    /// call makes the first step, then the others go on as far as they can. If the record can be shared on, answers may share it.
+    pub fn take(&mut self, rec: &Lent<'_>) -> bool
         requires sent { WereSent self.old.calls.calls }
         ensures { Hears self.old rec.now result self.new }
     {
         self.work.take(rec)
     }
 
-    /// The attempts that run have ended; false exactly where a call was given up, and then the session is lost.
+    /// The attempts that run have ended; false exactly if a call was given up, and then the session is lost.
     pub fn failed(&mut self) -> bool
         ensures { FailsBy self.old result self.new }
     {
@@ -101,7 +104,7 @@ impl Core {
         self.work.lose();
     }
 
-    /// The answer of a lane, which is idle then. None exactly where it has none.
+    /// The answer of a lane, which is idle then. None exactly if it has none.
     pub fn answer(&mut self, lane: u8) -> Option<Answer>
         ensures { AnswersBy self.old lane result self.new }
     {

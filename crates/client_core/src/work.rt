@@ -21,7 +21,7 @@ ghost use Rattle.client_core.specs.Lanes.{is_busy_at, IsAt, AnsweredFrom, waits}
 ghost use Rattle.client_core.specs.Numbers.{AreLanes, IsIdle};
 ghost use Rattle.client_core.specs.View.{IsBound, IsSound, turn_at, unmade_turn, has_room};
 ghost use Rattle.client_core.specs.Between.{AwaitsRefusal, AwaitsCall, Awaits};
-ghost use Rattle.client_core.specs.Steps.{IsBusyAt, StartsLane, Rests, StirsIf, StirsOne, Leads, Asks, Makes, PutsCall, IsRecordOf, SpellsCall, IsUnmade, Refuses, IsSpent, EndsAs, TakesAt, TakesCall, counted, Moves, Still, Begins, Hears, HearsOwn, IsSaid, SendsBy, FailsBy, AnswersBy, lost};
+ghost use Rattle.client_core.specs.Steps.{IsBusyAt, StartsLane, Rests, StirsIf, StirsOne, Leads, Asks, Makes, PutsCall, IsRecordOf, SpellsCall, IsUnmade, Refuses, IsSpent, EndsAs, TakesAt, TakesCall, counted, Moves, Still, Begins, Hears, HearsOwn, IsSaid, SendsBy, call_sent, FailsBy, AnswersBy, lost};
 ghost use Rattle.xdr_codec.specs.Spells.{Wrote};
 
 use crate::lane::{Lane, Purpose, State, busy_at, least_answered, lose_all, over_at};
@@ -37,11 +37,12 @@ use nfs_file_calls::{file_proc, write_file_call};
 use nfs_types::NFS_PROGRAM;
 use op_machines::Machine;
 use page_cache::PageCache;
-use rpc_retry::{AfterFailure, Calls};
+use rpc_message::KeptCred;
+use rpc_retry::{AfterFailure, Calls, Waiting};
 use std::alloc::Global;
 use std::marker::Model;
 use world_model::{Answer, Call, Fault};
-use xdr_codec::{Memory, Record, Writer};
+use xdr_codec::{Lent, Memory, Record, Writer};
 
 /// Lanes in order of beginning, their shelf and their calls. Between the step of an operation and the call that it asks
 /// for, what the next step needs doesn't hold yet; so it is no part of this type.
@@ -83,14 +84,17 @@ impl Work {
         ensures { IfOk result (IsFresh setup) }
     {
         setup.pages.is_sound();
+        // What may fail comes first, so that a failure has no shelf to drop.
+        let lanes = Vec::with_capacity(alloc, LANE_COUNT)?;
         let mut shelf = Shelf::with_pages(alloc, setup.pages)?;
         shelf.attrs = AttrCache::with_lives(alloc, setup.lives);
+        let cred = KeptCred::spelled(alloc, setup.cred)?;
         Ok(Work {
             alloc,
             wsize: setup.wsize,
-            calls: Calls::new(alloc, setup.first_xid, setup.limit, setup.cred),
+            calls: Calls::with_cred(alloc, setup.first_xid, setup.limit, cred),
             shelf,
-            lanes: Vec::with_capacity(alloc, LANE_COUNT)?,
+            lanes,
             clock: 0,
             moments: 0,
             begun: 0,
@@ -118,9 +122,10 @@ impl Work {
         self.settle();
     }
 
-    /// The record that is sent next; none in a lost session.
-    pub(crate) fn next_send(&mut self) -> Option<&Record>
-        ensures* ends { sem 𝓛 (ends_as self.entry (SendsBy self.old (option_map (λ b. b.now) result))) }
+    /// The call whose record is sent next; none in a lost session.
+    pub(crate) fn next_send(&mut self) -> Option<&Waiting<Purpose>>
+        ensures* ends { sem 𝓛 (ends_as self.entry (SendsBy self.old (option_map (λ call. call.now.bytes) result))) }
+        ensures lends { option_map (λ call. call.now) result ≡ call_sent self.old }
     {
         if self.lost {
             return None;
@@ -130,12 +135,12 @@ impl Work {
 
     /// Takes a record: whether it was a reply to a call that waits. The operation that made the call makes the first step,
     /// then the others go on as far as they can.
-    pub(crate) fn take(&mut self, rec: &[u8]) -> bool
+    pub(crate) fn take(&mut self, rec: &Lent<'_>) -> bool
         requires sound { IsSound self.old }
         ensures hears { Hears self.old rec.now result self.new }
         ensures sound { IsSound self.new }
     {
-        let Some(purpose) = self.take_call(rec) else {
+        let Some(purpose) = self.take_call(rec.bytes()) else {
             return false;
         };
         self.deliver(purpose, rec);
@@ -143,7 +148,7 @@ impl Work {
         true
     }
 
-    /// The attempts that run have ended; false exactly where a call was given up, and then the session is lost.
+    /// The attempts that run have ended; false exactly if a call was given up, and then the session is lost.
     pub(crate) fn failed(&mut self) -> bool
         ensures { FailsBy self.old result self.new }
     {
@@ -164,7 +169,7 @@ impl Work {
         lose_all(&mut self.lanes);
     }
 
-    /// The answer of a lane, which is idle then. None exactly where it has none.
+    /// The answer of a lane, which is idle then. None exactly if it has none.
     pub(crate) fn answer(&mut self, lane: u8) -> Option<Answer>
         ensures { AnswersBy self.old lane result self.new }
     {
@@ -301,7 +306,7 @@ impl Work {
         false
     }
 
-    /// There is room for a further lane where one of 1 to 16 has no operation: a fact for proofs.
+    /// There is room for a further lane if one of 1 to 16 has no operation: a fact for proofs.
     fn a_lane_is_left(&self, number: u8)
         requires idle { IsIdle number self.now.lanes }
         requires lanes { AreLanes self.now.lanes }
@@ -315,9 +320,7 @@ impl Work {
         requires { length self.old.lanes < 16 }
         ensures { self.new ≡ record self.old { lanes = self.old.lanes ++ record { number = number; state = state } ∷ [] } }
     {
-        let Ok(()) = self.lanes.push(Lane { number, state }) else {
-            unreachable!();
-        };
+        self.lanes.push_reserved(Lane { number, state });
     }
 
     /// The operation of a new lane makes its first step.
@@ -379,7 +382,7 @@ impl Work {
         true
     }
 
-    /// The call that a record replies to waits no more: what it was made for. None exactly where no call waits for it, and
+    /// The call that a record replies to waits no more: what it was made for. None exactly if no call waits for it, and
     /// then nothing is changed.
     fn take_call(&mut self, rec: &[u8]) -> Option<Purpose>
         requires sound { IsSound self.old }
@@ -393,8 +396,8 @@ impl Work {
         Some(purpose)
     }
 
-    /// A record reaches the operation that made its call. Where that has its answer nothing happens.
-    fn deliver(&mut self, purpose: Purpose, rec: &[u8])
+    /// A record reaches the operation that made its call. If that has its answer nothing happens.
+    fn deliver(&mut self, purpose: Purpose, rec: &Lent<'_>)
         requires seq { self.old.shelf.seq < self.old.moments }
         requires sound { IsSound self.old }
         ensures hears { HearsOwn self.old rec.now purpose self.new }
@@ -506,14 +509,14 @@ impl Work {
         ensures err { OnErr result (self.new ≡ self.old) }
     {
         self.calls.is_sound();
-        let Ok(_xid) = self.calls.put_record(bytes, purpose) else {
+        let Ok(_xid) = self.calls.put_checked(bytes, purpose) else {
             return Err(Fault::Memory);
         };
         self.moments += 1;
         Ok(())
     }
 
-    /// Spent exactly where as many calls were made as may be.
+    /// Spent exactly if as many calls were made as may be.
     fn may_make(&self) -> Result<(), Fault>
         requires room { has_room self.now ≡ true }
         ensures ok { OnOk result (check_of self.now.calls ≡ Ok tt) }

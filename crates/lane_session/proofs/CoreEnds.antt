@@ -213,7 +213,7 @@ module _ (a b : Option History) (label : List ℕ) (script : List ScriptLine) (g
         relates_less a b (λ h k. GoesOn label script s t given text h k) (λ h k. IsOpened (Some setup) h → PagesOf settings (Some setup) (Some t.core.shelf.pages) k)
         (λ h k g o. pages-with label script settings setup s h k may f t given text g o) p
 
-    pub told-counted : (begun : Tally) (t : Session) → s.counts ≡ record { tally = begun; next = setup.first_xid } → Relates a b (λ h k. GoesOn label script s t given text h k)
+    pub told-counted : (begun : Tally) (t : Session) → s.counts.tally ≡ begun → Relates a b (λ h k. GoesOn label script s t given text h k)
         → Relates a b (λ h k. IsOpened (Some setup) h → begun ≡ tally_of h → t.counts.tally ≡ tally_of k)
     told-counted begun t counts p =
         relates_less a b (λ h k. GoesOn label script s t given text h k) (λ h k. IsOpened (Some setup) h → begun ≡ tally_of h → t.counts.tally ≡ tally_of k)

@@ -1,5 +1,5 @@
 -- How many different xids were sent.
-use Rattle.std.proofs.Common.{◌≡◌, ◌≢◌, ◌≤◌, ◌+◌, ◌||◌, ℕ, zero, suc, Bool, true, false, cond, eqb, List, [], ◌∷◌, ◌++◌, length, Some, Ok, refl, sym, ap, subst, ◌∙◌, arith, append-nil, append_assoc}
+use Rattle.std.proofs.Common.{◌≡◌, ◌≢◌, ◌≤◌, ◌<◌, ◌+◌, ◌||◌, ℕ, zero, suc, Bool, true, false, cond, eqb, List, [], ◌∷◌, ◌++◌, length, Some, Ok, refl, sym, ap, subst, ◌∙◌, arith, append-nil, append_assoc}
 use Rattle.std.specs.List.{list_any}
 use Rattle.std.proofs.lemmas.Bool.{eq-eqb, ne_eqb, eqb-true, eqb-false}
 use Rattle.rpc_message.specs.declared.call.CallHead.{CallHead}
@@ -8,7 +8,6 @@ use Rattle.world_model.specs.declared.entry.Entry.{Entry}
 use Rattle.world_model.specs.declared.entry.Entry.TheVariants.{Began, Answered, Dialed, Sent, Executed, Foreign, Flushed, Reboot, Delivered, Failed, Clock}
 use Rattle.world_model.specs.Counts.{Counted, counts_head, xid_counted, xids_sent, different}
 use Rattle.world_model.specs.Entries.{At}
-use Rattle.lane_session.specs.Tallies.{AreBelow}
 
 -- ---- the xids of a history with one entry more
 
@@ -86,22 +85,31 @@ none-more (y ∷ xs) x old =
         let more = one-more xs x absent in
         rw (first, i) (omega (arith, more))
 
+-- ---- what holds of each number of a list
+
+abbrev pub AreAll : (ℕ → Type 0) → List ℕ → Type 0
+AreAll P [] = Unit {0}
+AreAll P (x ∷ xs) = P x × AreAll P xs
+
+pub all-append : (P : ℕ → Type 0) (xs ys : List ℕ) → AreAll P xs → AreAll P ys → AreAll P (xs ++ ys)
+all-append P [] ys p q = q
+all-append P (x ∷ xs) ys p q = (p.0, all-append P xs ys p.1 q)
+
+-- one that is none of them
+pub all-absent : (x : ℕ) (xs : List ℕ) → AreAll (λ (y : ℕ). y ≡ x → ⊥) xs → is_in x xs ≡ false
+all-absent x [] all = refl
+all-absent x (y ∷ xs) all = let e : eqb y x ≡ false = ne_eqb y x all.0 in rw e (all-absent x xs all.1)
+
 -- ---- as many as there are numbers below
 
-pub below-absent : (n : ℕ) (xs : List ℕ) → AreBelow n xs → (x : ℕ) → n ≤ x → is_in x xs ≡ false
-below-absent n [] b x le = refl
-below-absent n (y ∷ xs) b x le =
-    let low = b.0 in
-    let e : eqb y x ≡ false = ne_eqb y x (λ same. omega (arith, same, low, le)) in
-    rw e (below-absent n xs b.1 x le)
+-- each is less
+abbrev pub AreBelow : ℕ → List ℕ → Type 0
+AreBelow n [] = Unit {0}
+AreBelow n (x ∷ xs) = (x < n) × AreBelow n xs
 
-pub below-append : (n : ℕ) (xs ys : List ℕ) → AreBelow n xs → AreBelow n ys → AreBelow n (xs ++ ys)
-below-append n [] ys p q = q
-below-append n (x ∷ xs) ys p q = (p.0, below-append n xs ys p.1 q)
-
-pub below-wide : (n m : ℕ) (xs : List ℕ) → n ≤ m → AreBelow n xs → AreBelow m xs
-below-wide n m [] le b = tt
-below-wide n m (x ∷ xs) le b = (let low = b.0 in omega (arith, low, le), below-wide n m xs le b.1)
+pub all-below : (n : ℕ) (xs : List ℕ) → AreAll (λ (x : ℕ). x < n) xs → AreBelow n xs
+all-below n [] all = tt
+all-below n (x ∷ xs) all = (all.0, all-below n xs all.1)
 
 -- the others
 abbrev others : ℕ → List ℕ → List ℕ

@@ -38,6 +38,7 @@ pub mod LostAdds
 pub mod Telling
 pub mod Starting
 pub mod Counted
+pub mod Attempts
 pub mod Tallying
 pub mod Ports
 pub mod Turns

@@ -1,6 +1,5 @@
 -- The core of a session goes on with the history, at each part of the session's work.
 use Rattle.std.proofs.Common.{◌≡◌, ◌<◌, ◌+◌, ◌^◌, ◌⊎◌, inl, inr, ℕ, suc, List, [], ◌∷◌, ◌++◌, length, position, Bool, true, false, Option, Some, None, option_map, Result, Ok, Err, refl, sym, ap, subst, ◌∙◌, append_assoc}
-use Rattle.rpc_message.specs.Call.{call_at}
 use Rattle.rpc_retry.specs.Waiting.{first_due, sent, sent_call}
 use Rattle.rpc_retry.specs.declared.waiting.Waiting.{Waiting}
 use Rattle.rpc_retry.specs.Held.{Held, next_xid}
@@ -32,7 +31,7 @@ use Rattle.client_core.specs.declared.lane.Purpose.{Purpose}
 use Rattle.client_core.specs.declared.setup.Setup.{Setup}
 use Rattle.client_core.specs.Lanes.{is_over}
 use Rattle.client_core.specs.Numbers.{IsIdle}
-use Rattle.client_core.specs.Steps.{Begins, SendsIf, SendsBy, AnswersBy, WereSent, lost}
+use Rattle.client_core.specs.Steps.{Begins, SendsIf, SendsBy, call_sent, AnswersBy, WereSent, lost}
 use Rattle.client_core.specs.View.{View}
 use Rattle.core_facts.proofs.Cases.{sent_now}
 use Rattle.core_facts.proofs.Rows.{reached-rows, under}
@@ -48,12 +47,12 @@ use Rattle.lane_session.specs.Running.{IsFreshFor, NoneOver, Fails, Takes, Takes
 use Rattle.lane_session.proofs.Bonding.{since-none, reached, bond-step, bond-loses, bond-taken, bond-dropped}
 use Rattle.lane_session.proofs.Cores.{HeardSo, heard_none, heard_one, heard-so, sends-so}
 use Rattle.lane_session.proofs.LostOnce.{may-stay, fresh-only, unmarked-stays}
-use Rattle.lane_session.specs.Tallies.{CountsBy, Tallied}
+use Rattle.lane_session.specs.Tallies.{with_attempt}
 use Rattle.lane_session.proofs.LaneNumbers.{none-ready, may-hear}
 use Rattle.lane_session.proofs.Redialing.{still_by, still-ours}
 use Rattle.lane_session.proofs.Resending.{Excused, latest-now, latest-quiet, again-step, again-fails, again-dials, again-lost, resends-none, heard-excused, sent-excused}
 use Rattle.lane_session.proofs.Taking.{takes-none, takes-on, takes-still, takes-begins, takes-earlier, takes-read}
-use Rattle.lane_session.proofs.Tallying.{tallied-step, tallied-like, tallied-sends, fresh-tallied}
+use Rattle.lane_session.proofs.Tallying.{tallied-on, tallied-sends}
 
 -- ---- entries that leave the core as it is
 
@@ -89,6 +88,14 @@ still-before (Delivered bytes) q comes = absurd cc
 still-before Failed q comes = comes
 still-before (Clock ms) q comes = comes
 
+tallied-still : (h more : List Entry) (t : Tally) → steps more ≡ [] → t ≡ tally_of h → t ≡ tally_of (h ++ more)
+tallied-still h more t q was = still_by (λ (k : List Entry). t ≡ tally_of k) (λ k e still is. tallied-on k e t (λ bytes of. still-sent e bytes still of) is) h more q was
+
+-- the call that the core lent is counted
+pub record SendsCounted (old : Session) (lent : Waiting Purpose) (new : Session) : Type 0 where
+  pub lends : Some lent ≡ call_sent old.core
+  pub tally : new.counts.tally ≡ with_attempt lent.attempts lent.purpose.proc old.counts.tally
+
 module _ (m : Mounted) (setup : Setup) (start : Start) where
   -- one entry that leaves the core as it is
   bond-one : (h : List Entry) (e : Entry) (v : View) (n : ℕ) → steps (e ∷ []) ≡ [] → Bond m setup start.from h v n → Bond m setup start.from (h ++ e ∷ []) v n
@@ -98,18 +105,6 @@ module _ (m : Mounted) (setup : Setup) (start : Start) where
   bond-still : (h more : List Entry) (v : View) (n : ℕ) → steps more ≡ [] → Bond m setup start.from h v n → Bond m setup start.from (h ++ more) v n
   bond-still h more v n q b =
       still_by (λ (k : List Entry). Bond m setup start.from k v n) (λ k e still c. bond-one k e v n still c) h more q b
-
-  -- one entry that isn't sent
-  tallied-on : (h : List Entry) (old : View) (e : Entry) (new : View) (n : ℕ) (c : Counts) → StepsTo (machine_of m) h old e new → ((bytes : List ℕ) → e ≡ Sent bytes → ⊥) → Bond m setup start.from h old n → Tallied h old c
-      → Tallied (h ++ e ∷ []) new c
-  tallied-on h old e new n c t other b was = tallied-step (machine_of m) setup h old e new c t other (reached-sound (machine_of m) setup h old (reached m setup start.from h old n b)) was
-
-  tallied-still : (h more : List Entry) (v : View) (n : ℕ) (c : Counts) → steps more ≡ [] → Bond m setup start.from h v n → Tallied h v c → Tallied (h ++ more) v c
-  tallied-still h more v n c q b t =
-      (still_by (λ (k : List Entry). Bond m setup start.from k v n × Tallied k v c) (λ k e still p. (
-        bond-one k e v n still p.0,
-        tallied-on k v e v n c (still-step (machine_of m) k v e still) (λ bytes is. still-sent e bytes still is) p.0 p.1,
-      )) h more q (b, t)).1
 
   -- what an entry that is no failure leaves of the calls that are sent again
   again-on : (h : List Entry) (old : View) (e : Entry) (new : View) (n : ℕ) → StepsTo (machine_of m) h old e new → (e ≡ Failed → ⊥) → Bond m setup start.from h old n → SendsAgain h old
@@ -125,7 +120,7 @@ module _ (m : Mounted) (setup : Setup) (start : Start) where
     bond = bond-one h e s.core s.dropped (still-ours (e ∷ []) [] q refl) b.bond;
     again = again-on h s.core e s.core s.dropped (still-step (machine_of m) h s.core e (still-ours (e ∷ []) [] q refl)) (quiet-failed e q) b.bond b.again;
     takes = takes-still start.from h (e ∷ []) (still-ours (e ∷ []) [] q refl) b.takes;
-    tallied = λ is. tallied-still h (e ∷ []) s.core s.dropped s.counts (still-ours (e ∷ []) [] q refl) b.bond (b.tallied is);
+    tallied = λ is. tallied-still h (e ∷ []) s.counts.tally (still-ours (e ∷ []) [] q refl) (b.tallied is);
   })
 
   -- dials were made, after a failure
@@ -135,7 +130,7 @@ module _ (m : Mounted) (setup : Setup) (start : Start) where
     bond = subst (λ (t : List Entry). Bond m setup start.from t s.core s.dropped) (sym r.is) (bond-still h r.more s.core s.dropped r.still b.bond);
     again = again-dials h k r.more s.core r.is r.each due b.again;
     takes = subst (TakesAll start.from) (sym r.is) (takes-still start.from h r.more r.still b.takes);
-    tallied = λ is. subst (λ (t : List Entry). Tallied t s.core s.counts) (sym r.is) (tallied-still h r.more s.core s.dropped s.counts r.still b.bond (b.tallied is));
+    tallied = λ is. subst (λ (t : List Entry). s.counts.tally ≡ tally_of t) (sym r.is) (tallied-still h r.more s.counts.tally r.still (b.tallied is));
   }
 
   pub core-of : (h : List Entry) (s : Session) → Bonded m setup start h s → HasCore m setup start.from h
@@ -148,7 +143,7 @@ module _ (m : Mounted) (setup : Setup) (start : Start) where
     bond = subst (λ (v : View). Bond m setup start.from h v t.dropped) (sym core) (subst (λ (n : ℕ). Bond m setup start.from h s.core n) (sym count) b.bond);
     again = subst (SendsAgain h) (sym core) b.again;
     takes = b.takes;
-    tallied = λ is. subst (λ (v : View). Tallied h v t.counts) (sym core) (subst (Tallied h s.core) (sym tally) (b.tallied is));
+    tallied = λ is. ap (λ (c : Counts). c.tally) tally ∙ b.tallied is;
   }
 
   pub bonded-given-up : (h : List Entry) (s : Session) → NoneReady s.core → Loses h (length h) → Bonded m setup start h s → Bonded m setup start h (given_up s)
@@ -157,7 +152,7 @@ module _ (m : Mounted) (setup : Setup) (start : Start) where
     bond = bond-loses m setup start.from h s.core s.dropped none shown b.bond;
     again = again-lost h s.core b.again;
     takes = b.takes;
-    tallied = λ is. tallied-like h s.core (lost s.core) s.counts refl (b.tallied is);
+    tallied = b.tallied;
   }
 
   -- where each lane has told its answer, none is ready
@@ -175,7 +170,7 @@ module _ (m : Mounted) (setup : Setup) (start : Start) where
         bond = bond-step m setup start.from h old.core Failed new.core old.dropped (λ comes. absurd comes) (inr (bonded-none h old told b)) (inl (f.result, f.core)) (λ bytes e. absurd cc) b.bond;
         again = again-fails h old.core f.result new.core f.core excused b.again;
         takes = takes-on start.from h Failed (λ ms e. absurd cc) b.takes;
-        tallied = λ is. tallied-on h old.core Failed new.core old.dropped old.counts (inl (f.result, f.core)) (λ bytes e. absurd cc) b.bond (b.tallied is);
+        tallied = λ is. tallied-on h Failed old.counts.tally (λ bytes e. absurd cc) (b.tallied is);
       })
 
   -- a record came
@@ -206,8 +201,8 @@ module _ (m : Mounted) (setup : Setup) (start : Start) where
       again_so : SendsAgain k t.core
       again_so = again-on h old.core (Delivered rec) t.core old.dropped (record { may = may; result = t.result; hears = t.hears }) (λ is. absurd cc) b.bond b.again
 
-      tallied_so : start.counted ≡ true → Tallied k t.core old.counts
-      tallied_so so = tallied-on h old.core (Delivered rec) t.core old.dropped old.counts (record { may = may; result = t.result; hears = t.hears }) (λ bytes e. absurd cc) b.bond (b.tallied so)
+      tallied_so : start.counted ≡ true → old.counts.tally ≡ tally_of k
+      tallied_so so = tallied-on h (Delivered rec) old.counts.tally (λ bytes e. absurd cc) (b.tallied so)
 
       by : (r : Bool) → t.result ≡ r → TakesBy old r t.core new → Bonded m setup start k new
       by true took is =
@@ -219,16 +214,17 @@ module _ (m : Mounted) (setup : Setup) (start : Start) where
           (bonded-given-up k (record old { core = t.core; dropped = old.dropped + 1 }) (none_so not) (dropped_run run) (record { mounted = b.mounted; bond = dropped_so not; again = again_so; takes = takes_so; tallied = tallied_so }))
 
   -- a record was sent
-  pub bonded-sends : (h : List Entry) (old new : Session) (rec : List ℕ) → NoneOver old.core → SendsBy old.core (Some rec) new.core → CountsBy (call_at rec) old.counts new.counts → new.mounted ≡ old.mounted
-      → new.dropped ≡ old.dropped → Bonded m setup start h old → Bonded m setup start (h ++ Sent rec ∷ []) new
-  bonded-sends h old new rec told t counts mounted count b = record {
+  pub bonded-sends : (h : List Entry) (old new : Session) (lent : Waiting Purpose) → NoneOver old.core → SendsBy old.core (Some lent.bytes) new.core → SendsCounted old lent new → new.mounted ≡ old.mounted
+      → new.dropped ≡ old.dropped → Bonded m setup start h old → Bonded m setup start (h ++ Sent lent.bytes ∷ []) new
+  bonded-sends h old new lent told t counts mounted count b = record {
     mounted = mounted ∙ b.mounted;
-    bond = subst (λ (n : ℕ). Bond m setup start.from (h ++ Sent rec ∷ []) new.core n) (sym count)
-        (bond-step m setup start.from h old.core (Sent rec) new.core old.dropped (λ comes. bonded-none h old told b) tt t (λ bytes e. absurd cc) b.bond);
-    again = again-on h old.core (Sent rec) new.core old.dropped t (λ is. absurd cc) b.bond b.again;
-    takes = takes-on start.from h (Sent rec) (λ ms e. absurd cc) b.takes;
+    bond = subst (λ (n : ℕ). Bond m setup start.from (h ++ Sent lent.bytes ∷ []) new.core n) (sym count)
+        (bond-step m setup start.from h old.core (Sent lent.bytes) new.core old.dropped (λ comes. bonded-none h old told b) tt t (λ bytes e. absurd cc) b.bond);
+    again = again-on h old.core (Sent lent.bytes) new.core old.dropped t (λ is. absurd cc) b.bond b.again;
+    takes = takes-on start.from h (Sent lent.bytes) (λ ms e. absurd cc) b.takes;
     tallied = λ is.
-        tallied-sends setup h old.core rec new.core old.counts new.counts (reached-rows (machine_of m) setup h old.core (reached m setup start.from h old.core old.dropped b.bond)) t counts (b.tallied is);
+        tallied-sends setup h old.core lent new.core old.counts.tally new.counts.tally (reached-rows (machine_of m) setup h old.core (reached m setup start.from h old.core old.dropped b.bond))
+        t counts.lends counts.tally (b.tallied is);
   }
 
 -- ---- what the parts of an exchange do to the core
@@ -264,11 +260,11 @@ core-takes old new rec a b all_sent told t p m setup start c =
     steps_on (λ (h : List Entry). Bonded m setup start h old) (λ (h : List Entry). Bonded m setup start h new) a b (Delivered rec) (bonded-quiet m setup start old) (bonded-quiet m setup start new)
     (λ h x. bonded-takes m setup start h old new rec all_sent told t x) p c
 
-pub core-sends : (old new : Session) (rec : List ℕ) (a b : History) → NoneOver old.core → SendsBy old.core (Some rec) new.core → CountsBy (call_at rec) old.counts new.counts → new.mounted ≡ old.mounted → new.dropped ≡ old.dropped
-    → Adds a b (Sent rec ∷ []) → CoreGoes old new a.entries b.entries
-core-sends old new rec a b told t counts mounted count p m setup start c =
-    steps_on (λ (h : List Entry). Bonded m setup start h old) (λ (h : List Entry). Bonded m setup start h new) a b (Sent rec) (bonded-quiet m setup start old) (bonded-quiet m setup start new)
-    (λ h x. bonded-sends m setup start h old new rec told t counts mounted count x) p c
+pub core-sends : (old new : Session) (lent : Waiting Purpose) (a b : History) → NoneOver old.core → SendsBy old.core (Some lent.bytes) new.core → SendsCounted old lent new → new.mounted ≡ old.mounted → new.dropped ≡ old.dropped
+    → Adds a b (Sent lent.bytes ∷ []) → CoreGoes old new a.entries b.entries
+core-sends old new lent a b told t counts mounted count p m setup start c =
+    steps_on (λ (h : List Entry). Bonded m setup start h old) (λ (h : List Entry). Bonded m setup start h new) a b (Sent lent.bytes) (bonded-quiet m setup start old) (bonded-quiet m setup start new)
+    (λ h x. bonded-sends m setup start h old new lent told t counts mounted count x) p c
 
 -- a call that is sent leaves each lane as it is
 pub sent-told : (old mid : Session) (result : Option (List ℕ)) → SendsBy old.core result mid.core → NoneOver old.core → NoneOver mid.core
@@ -283,13 +279,14 @@ sent-under old rec m setup start h b xid call due is =
     subst (λ (r : List ℕ). HasXid r xid) (sym is) (under setup old.core xid call sound waits.before)
 
 -- the record went out, and the link failed
-pub core-sends-fails : (old mid new : Session) (rec : List ℕ) (a b : History) → NoneOver old.core → IsSound old.core.calls → SendsBy old.core (Some rec) mid.core → CountsBy (call_at rec) old.counts mid.counts
-    → mid.mounted ≡ old.mounted → mid.dropped ≡ old.dropped → Fails mid new → Adds a b (Sent rec ∷ Failed ∷ []) → CoreGoes old new a.entries b.entries
-core-sends-fails old mid new rec a b told sound t counts mounted count f p m setup start c =
+pub core-sends-fails : (old mid new : Session) (lent : Waiting Purpose) (a b : History) → NoneOver old.core → IsSound old.core.calls → SendsBy old.core (Some lent.bytes) mid.core → SendsCounted old lent mid
+    → mid.mounted ≡ old.mounted → mid.dropped ≡ old.dropped → Fails mid new → Adds a b (Sent lent.bytes ∷ Failed ∷ []) → CoreGoes old new a.entries b.entries
+core-sends-fails old mid new lent a b told sound t counts mounted count f p m setup start c =
+    let rec : List ℕ = lent.bytes in
     steps_on_twice (λ (h : List Entry). Bonded m setup start h old) (λ (h : List Entry). Bonded m setup start h mid × LatestIs h (length h) (Sent rec)) (λ (h : List Entry). Bonded m setup start h new)
     a b (Sent rec) Failed (bonded-quiet m setup start old)
     (λ h more q x. (bonded-quiet m setup start mid h more q x.0, latest-quiet (Sent rec) h more q x.1)) (bonded-quiet m setup start new)
-    (λ h x. (bonded-sends m setup start h old mid rec told t counts mounted count x, latest-now h (Sent rec)))
+    (λ h x. (bonded-sends m setup start h old mid lent told t counts mounted count x, latest-now h (Sent rec)))
     (λ h x. bonded-fails m setup start h mid new (sent-told old mid (Some rec) t told) f
     (sent-excused h old.core.calls.cred old.core.calls.first_xid (next_xid old.core.calls) old.core rec mid.core t sound.each (sent-under old rec m setup start a.entries c) x.1 x.0.bond.known x.0.again.late) x.0) p c
 
@@ -357,8 +354,8 @@ again-clock : (m : Mounted) (setup : Setup) (start : Start) (h : List Entry) (s 
 again-clock m setup start h s ms b = again-on m setup start h s.core (Clock ms) s.core s.dropped refl (λ is. absurd cc) b.bond b.again
 
 tallied-clock : (m : Mounted) (setup : Setup) (start : Start) (h : List Entry) (s : Session) (ms : ℕ) → Bonded m setup start h s → start.counted ≡ true
-    → Tallied (h ++ Clock ms ∷ []) s.core s.counts
-tallied-clock m setup start h s ms b is = tallied-on m setup start h s.core (Clock ms) s.core s.dropped s.counts refl (λ bytes e. absurd cc) b.bond (b.tallied is)
+    → s.counts.tally ≡ tally_of (h ++ Clock ms ∷ [])
+tallied-clock m setup start h s ms b is = tallied-on h (Clock ms) s.counts.tally (λ bytes e. absurd cc) (b.tallied is)
 
 pub core-begins : (s t : Session) (h : List Entry) (ms lane line : ℕ) (op : Op) → IsIdle lane s.core.lanes → s.core.begun < 2 ^ 32 → Fits (machine_of s.mounted lane op)
     → Begins s.core lane (machine_of s.mounted lane op) ms t.core → t.mounted ≡ s.mounted → t.dropped ≡ s.dropped → t.counts ≡ s.counts → CoreGoes s t h (h ++ Clock ms ∷ Began lane line op ∷ [])
@@ -374,8 +371,7 @@ core-begins s t h ms lane line op idle few fits step mounted count tally m setup
           (bond-step m setup start.from h1 s.core (Began lane line op) t.core s.dropped (λ comes. absurd comes) tt begun (λ bytes e. absurd cc) read);
       again = again-on m setup start h1 s.core (Began lane line op) t.core s.dropped begun (λ is. absurd cc) read (again-clock m setup start h s ms b);
       takes = takes-begins start.from h ms lane line op b.takes;
-      tallied = λ is. subst (Tallied (h1 ++ Began lane line op ∷ []) t.core) (sym tally)
-          (tallied-on m setup start h1 s.core (Began lane line op) t.core s.dropped s.counts begun (λ bytes e. absurd cc) read (tallied-clock m setup start h s ms b is));
+      tallied = λ is. ap (λ (c : Counts). c.tally) tally ∙ tallied-on h1 (Began lane line op) s.counts.tally (λ bytes e. absurd cc) (tallied-clock m setup start h s ms b is);
     })
 
 -- nothing was begun, for want of memory
@@ -399,8 +395,7 @@ core-answers s t h lane line answer running answers mounted count tally m setup 
       (bond-step m setup start.from h s.core (Answered lane line answer) t.core s.dropped (λ comes. absurd comes) tt (record { line_is = open-line h lane line running; answers = answers }) (λ bytes e. absurd cc) b.bond);
   again = again-on m setup start h s.core (Answered lane line answer) t.core s.dropped (record { line_is = open-line h lane line running; answers = answers }) (λ is. absurd cc) b.bond b.again;
   takes = takes-on start.from h (Answered lane line answer) (λ ms e. absurd cc) b.takes;
-  tallied = λ is. subst (Tallied (h ++ Answered lane line answer ∷ []) t.core) (sym tally)
-      (tallied-on m setup start h s.core (Answered lane line answer) t.core s.dropped s.counts (record { line_is = open-line h lane line running; answers = answers }) (λ bytes e. absurd cc) b.bond (b.tallied is));
+  tallied = λ is. ap (λ (c : Counts). c.tally) tally ∙ tallied-on h (Answered lane line answer) s.counts.tally (λ bytes e. absurd cc) (b.tallied is);
 }
 
 -- the lane had no answer, or no line left: the core stays
@@ -409,7 +404,7 @@ core-like s t h mounted core count tally m setup start b = bonded-like m setup s
 
 -- ---- from the set-up on
 
-pub fresh-bonded : (settings : Settings) (setup : Setup) (start : Start) (s : Session) (h : List Entry) → MaySetUp setup → IsFreshFor settings setup s → start.from ≡ h → (start.counted ≡ true → Tallied h s.core s.counts)
+pub fresh-bonded : (settings : Settings) (setup : Setup) (start : Start) (s : Session) (h : List Entry) → MaySetUp setup → IsFreshFor settings setup s → start.from ≡ h → (start.counted ≡ true → s.counts.tally ≡ tally_of h)
     → IsOpened (Some setup) h → Bonded (mounted_by settings setup) setup start h s
 fresh-bonded settings setup start s h may f is tallied o = record {
   mounted = f.mounted;
@@ -446,11 +441,10 @@ pub breaks-with : (settings : Settings) (setup : Setup) (s : Session) (h k : Lis
 breaks-with settings setup s h k may f g o = g (mounted_by settings setup) setup (uncounted h) (fresh-bonded settings setup (uncounted h) s h may f refl (λ is. absurd cc) o)
 
 -- the counts of a session at the end of its lines
-pub counts-with : (settings : Settings) (setup : Setup) (begun : Tally) (s t : Session) (h k : List Entry) → MaySetUp setup → IsFreshFor settings setup s → s.counts ≡ record { tally = begun; next = setup.first_xid }
+pub counts-with : (settings : Settings) (setup : Setup) (begun : Tally) (s t : Session) (h k : List Entry) → MaySetUp setup → IsFreshFor settings setup s → s.counts.tally ≡ begun
     → CoreGoes s t h k → IsOpened (Some setup) h → begun ≡ tally_of h → t.counts.tally ≡ tally_of k
 counts-with settings setup begun s t h k may f counts g o is =
-    let t0 = fresh-tallied setup h s.core s.counts o.0 f.core (ap (λ (c : Counts). c.tally) counts ∙ is) (ap (λ (c : Counts). c.next) counts) in
-    ((g (mounted_by settings setup) setup (counted_from h) (fresh-bonded settings setup (counted_from h) s h may f refl (λ so. t0) o)).tallied refl).tally
+    (g (mounted_by settings setup) setup (counted_from h) (fresh-bonded settings setup (counted_from h) s h may f refl (λ so. counts ∙ is) o)).tallied refl
 
 -- ---- histories
 

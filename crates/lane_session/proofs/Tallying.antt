@@ -1,7 +1,7 @@
 -- The calls of a session are counted as its history shows them.
-use Rattle.std.proofs.Common.{◌≡◌, ◌≢◌, ◌≤◌, ◌<◌, ◌+◌, ◌==◌, inl, inr, ℕ, suc, Bool, true, false, cond, nat_eq, min, List, [], ◌∷◌, ◌++◌, length, Option, Some, None, option_map, Result, Ok, Err, refl, sym, ap, subst, ◌∙◌, arith, append-nil, eqb, ◌||◌}
-use Rattle.std.proofs.lemmas.Bool.{eqb-false}
-use borrow.Author.Tests.{eqb-true}
+use Rattle.std.proofs.Common.{◌≡◌, ◌≤◌, ◌<◌, ◌+◌, ◌==◌, ℕ, suc, Bool, true, false, cond, nat_eq, min, List, [], ◌∷◌, ◌++◌, length, Some, None, option_map, Result, Ok, Err, refl, sym, ap, subst, ◌∙◌, arith, append-nil}
+use Rattle.std.specs.Prelude.{if◌then◌else◌}
+use Rattle.std.proofs.lemmas.Bool.{eq-eqb, ne_eqb}
 use Rattle.nfs_types.specs.declared.nfs_proc.TheConstants.{GETATTR, LOOKUP, READ, WRITE, COMMIT}
 use Rattle.xdr_codec.specs.Reading.{u32_at}
 use Rattle.xdr_codec.specs.declared.reader.XdrFault.{XdrFault}
@@ -11,39 +11,28 @@ use Rattle.rpc_message.specs.Call.{◌>>=-call◌, head_at, call_at, value_read}
 use Rattle.rpc_message.specs.declared.call.CallHead.{CallHead}
 use Rattle.rpc_message.specs.declared.call.CallFault.{CallFault}
 use Rattle.rpc_message.proofs.CallLaws.{call_again}
-use Rattle.rpc_message.specs.declared.cred.Cred.{Cred}
 use Rattle.rpc_retry.specs.declared.waiting.Waiting.{Waiting}
-use Rattle.rpc_retry.specs.Held.{Held, next_xid}
-use Rattle.rpc_retry.specs.Fail.{failed_after}
-use Rattle.rpc_retry.specs.Sound.{AreSound}
-use Rattle.rpc_retry.specs.Waiting.{waiting_at, without, sent, sent_call, failed, failed_call, first_due}
-use Rattle.rpc_retry.proofs.Apart.{sound_of}
-use Rattle.rpc_retry.proofs.Lookups.{SentAt, waits_early, others_made, at_sent, others_sent, others_taken, all_failed}
-use Rattle.rpc_retry.proofs.Records.{gone}
+use Rattle.rpc_retry.specs.Held.{next_xid}
+use Rattle.rpc_retry.specs.Waiting.{sent_call, first_due}
+use Rattle.rpc_retry.proofs.Dues.{if_true, if_false}
+use Rattle.rpc_retry.proofs.Lookups.{SentAt, waits_early, at_sent}
 use Rattle.world_model.specs.declared.entry.Entry.{Entry}
 use Rattle.world_model.specs.declared.entry.Entry.TheVariants.{Began, Answered, Dialed, Sent, Executed, Foreign, Flushed, Reboot, Delivered, Failed, Clock}
-use Rattle.world_model.specs.declared.message.Call.{Call}
-use Rattle.world_model.specs.declared.op.Op.{Op}
 use Rattle.world_model.specs.declared.tally.Tally.{Tally}
 use Rattle.world_model.specs.Counts.{Counted, Every, Only, counts_head, xid_counted, xids_sent, different, calls_made, tally_of}
 use Rattle.world_model.specs.Entries.{At}
 use Rattle.world_model.specs.Messages.{HasXid, head_of}
-use Rattle.op_machines.specs.declared.machine.Machine.{Machine}
 use Rattle.client_core.specs.declared.lane.Purpose.{Purpose}
 use Rattle.client_core.specs.declared.setup.Setup.{Setup}
-use Rattle.client_core.specs.Fresh.{IsFresh}
-use Rattle.client_core.specs.Steps.{Makes, SendsBy}
+use Rattle.client_core.specs.Steps.{SendsBy, call_sent}
 use Rattle.client_core.specs.View.{View}
-use Rattle.core_facts.specs.Reaches.{IsSetUp, StepsTo, last_reading}
-use Rattle.core_facts.specs.Tries.{Tried, unsent, runs, ended, IsOutstanding, IsKnown}
-use Rattle.core_facts.proofs.Cases.{Heard, dropped, replied, heard, sent_now, FailedNow, goes_on, gives_up, failed_now, answered_now, taken_one}
+use Rattle.core_facts.specs.Tries.{Tried, unsent, runs, ended, IsUnsent, IsOutstanding, IsKnown}
+use Rattle.core_facts.proofs.Cases.{sent_now}
 use Rattle.core_facts.proofs.Rows.{Rows}
-use Rattle.core_facts.proofs.Sound.{Sound}
-use Rattle.core_facts.proofs.Walks.{Stays, begins-stay, hears-for-stay}
-use Rattle.lane_session.specs.declared.counts.Counts.{Counts}
 use Rattle.lane_session.specs.Running.{one_where}
-use Rattle.lane_session.specs.Tallies.{with_proc, IsNew, CountsBy, AreBelow, Tallied}
-use Rattle.lane_session.proofs.Counted.{xids-same, xids-more, is_in, one-more, none-more, below-absent, below-append, below-wide, few-different, sent-in}
+use Rattle.lane_session.specs.Tallies.{with_proc, with_attempt}
+use Rattle.lane_session.proofs.Attempts.{failed-tried, running-tried}
+use Rattle.lane_session.proofs.Counted.{AreAll, AreBelow, all-absent, all-append, all-below, xids-same, xids-more, is_in, one-more, none-more, few-different, sent-in}
 
 -- ---- the xid of a call that is read is the record's
 
@@ -89,117 +78,31 @@ call-xid bytes x e =
     ap value_read o.1 ∙ ap Some (sym is)
 
 -- what a record counts for is its xid
-counted-below : (which : Counted) (bytes : List ℕ) (n : ℕ) → ((xid : ℕ) → HasXid bytes xid → xid < n) → AreBelow n (xid_counted which (call_at bytes))
-counted-below which bytes n low = by (call_at bytes) refl
+counted-all : (P : ℕ → Type 0) (which : Counted) (bytes : List ℕ) → ((xid : ℕ) → HasXid bytes xid → P xid) → AreAll P (xid_counted which (call_at bytes))
+counted-all P which bytes all = by (call_at bytes) refl
   where
-    by : (r : Result (CallHead × List ℕ) CallFault) → call_at bytes ≡ r → AreBelow n (xid_counted which r)
+    by : (r : Result (CallHead × List ℕ) CallFault) → call_at bytes ≡ r → AreAll P (xid_counted which r)
     by (Err f) e = tt
-    by (Ok x) e = elim (counts_head which x.0) as (λ b. AreBelow n (cond b (x.0.xid ∷ []) [])) [
-      | true ↦ (low x.0.xid (call-xid bytes x e), tt)
+    by (Ok x) e = elim (counts_head which x.0) as (λ b. AreAll P (cond b (x.0.xid ∷ []) [])) [
+      | true ↦ (all x.0.xid (call-xid bytes x e), tt)
       | false ↦ tt
     ]
 
-sent-below : (which : Counted) (h : List Entry) (n : ℕ) → ((i xid : ℕ) (bytes : List ℕ) → At h i (Sent bytes) → HasXid bytes xid → xid < n) → AreBelow n (xids_sent which h)
-sent-below which [] n low = tt
-sent-below which (Sent bytes ∷ h) n low =
-    below-append n (xid_counted which (call_at bytes)) (xids_sent which h) (counted-below which bytes n (λ xid has. low 0 xid bytes refl has)) (sent-below which h n (λ i xid b at has. low (suc i) xid b at has))
-sent-below which (Began lane line op ∷ h) n low = sent-below which h n (λ i xid b at has. low (suc i) xid b at has)
-sent-below which (Answered lane line answer ∷ h) n low = sent-below which h n (λ i xid b at has. low (suc i) xid b at has)
-sent-below which (Dialed port ∷ h) n low = sent-below which h n (λ i xid b at has. low (suc i) xid b at has)
-sent-below which (Executed xid call reply ∷ h) n low = sent-below which h n (λ i xid b at has. low (suc i) xid b at has)
-sent-below which (Foreign call reply ∷ h) n low = sent-below which h n (λ i xid b at has. low (suc i) xid b at has)
-sent-below which (Flushed file from len ∷ h) n low = sent-below which h n (λ i xid b at has. low (suc i) xid b at has)
-sent-below which (Reboot verf ∷ h) n low = sent-below which h n (λ i xid b at has. low (suc i) xid b at has)
-sent-below which (Delivered bytes ∷ h) n low = sent-below which h n (λ i xid b at has. low (suc i) xid b at has)
-sent-below which (Failed ∷ h) n low = sent-below which h n (λ i xid b at has. low (suc i) xid b at has)
-sent-below which (Clock ms ∷ h) n low = sent-below which h n (λ i xid b at has. low (suc i) xid b at has)
-
--- ---- which calls weren't sent yet
-
--- those that weren't lie at or above the number
-pub record Unsent (n : ℕ) (v : View) : Type 0 where
-  pub later : (xid : ℕ) (call : Waiting Purpose) → waiting_at xid v.calls.calls ≡ Some call → call.attempts ≡ 0 → n ≤ xid
-  pub next : n ≤ next_xid v.calls
-
-unsent-made : (n : ℕ) (old new : View) (number : ℕ) (call : Call) → Makes old number call new → Unsent n old → Unsent n new
-unsent-made n old new number call m u = subst (Unsent n) (sym m.is) (record {
-  later = λ xid c at none. (elim (nat_eq xid (next_xid old.calls)) as (λ b. nat_eq xid (next_xid old.calls) ≡ b → n ≤ xid) [
-    | true ↦ λ d. let same = eqb-true xid (next_xid old.calls) d in let low = u.next in omega (arith, same, low)
-    | false ↦ λ d. u.later xid c (sym (others_made xid (next_xid old.calls) old.calls.calls _ d) ∙ at) none
-  ]) refl;
-  next = let low = u.next in omega (arith, low);
-})
-
-unsent-stays : (n : ℕ) → Stays (Unsent n)
-unsent-stays n = record {
-  makes = unsent-made n;
-  sets = λ old at number was state shelf there u. record { later = u.later; next = u.next };
-}
-
-unsent-like : (n : ℕ) (old new : View) → new.calls ≡ old.calls → Unsent n old → Unsent n new
-unsent-like n old new same u = record {
-  later = λ xid c at none. u.later xid c (ap (λ (h : Held Purpose). waiting_at xid h.calls) (sym same) ∙ at) none;
-  next = subst (λ (h : Held Purpose). n ≤ next_xid h) (sym same) u.next;
-}
-
-unsent-taken : (n : ℕ) (old : View) (xid : ℕ) → AreSound old.calls.cred old.calls.first_xid (next_xid old.calls) old.calls.calls → Unsent n old → Unsent n (taken_one old xid)
-unsent-taken n old xid sound u = record {
-  later = λ x c at none. (elim (nat_eq x xid) as (λ b. nat_eq x xid ≡ b → n ≤ x) [
-    | true ↦ λ d. absurd (
-        let away : waiting_at xid (without xid old.calls.calls) ≡ None = gone old.calls.cred old.calls.first_xid (next_xid old.calls) xid old.calls.calls sound in
-        let there : waiting_at xid (without xid old.calls.calls) ≡ Some c = ap (λ (m : ℕ). waiting_at m (without xid old.calls.calls)) (sym (eqb-true x xid d)) ∙ at in
-        let no_way : None ≡ Some c = sym away ∙ there in
-        cc)
-    | false ↦ λ d. u.later x c (sym (others_taken x xid old.calls.calls d) ∙ at) none
-  ]) refl;
-  next = u.next;
-}
-
-unsent-failed : (n : ℕ) (again : Bool) (old new : View) → new.calls ≡ record old.calls { calls = failed again old.calls.calls } → Unsent n old → Unsent n new
-unsent-failed n again old new is u = record {
-  later = λ xid c at none. by xid c none (waiting_at xid old.calls.calls) refl (sym (all_failed again xid old.calls.calls) ∙ ap (λ (h : Held Purpose). waiting_at xid h.calls) (sym is) ∙ at);
-  next = subst (λ (h : Held Purpose). n ≤ next_xid h) (sym is) u.next;
-}
-  where
-    some-is : (x y : Waiting Purpose) → Some x ≡ Some y → x ≡ y
-    some-is x y e = cc
-
-    attempts : (again : Bool) (w : Waiting Purpose) → (failed_call again w).attempts ≡ w.attempts
-    attempts true w = refl
-    attempts false w = refl
-
-    by : (xid : ℕ) (c : Waiting Purpose) → c.attempts ≡ 0 → (o : Option (Waiting Purpose)) → waiting_at xid old.calls.calls ≡ o → option_map (failed_call again) o ≡ Some c → n ≤ xid
-    by xid c none None was e = absurd (cc)
-    by xid c none (Some w) was e =
-        let same : (failed_call again w).attempts ≡ c.attempts = ap (λ (x : Waiting Purpose). x.attempts) (some-is (failed_call again w) c e) in
-        u.later xid w was (sym (attempts again w) ∙ same ∙ none)
-
-unsent-heard : (n : ℕ) (setup : Setup) (old : View) (rec : List ℕ) (new : View) → Heard old rec new → Sound setup old → Unsent n old → Unsent n new
-unsent-heard n setup old rec new (dropped none is) s u = unsent-like n old new (ap (λ (v : View). v.calls) is) u
-unsent-heard n setup old rec new (replied xid call named waits t) s u =
-    hears-for-stay (Unsent n) (unsent-stays n) (taken_one old xid) new rec call.purpose t (unsent-taken n old xid s.calls.each u)
-
-unsent-fails : (n : ℕ) (old new : View) → FailedNow old new → Unsent n old → Unsent n new
-unsent-fails n old new (goes_on none is) u =
-    unsent-failed n true old new (ap (λ (v : View). v.calls) is ∙ ap (λ (o : Option ℕ). record old.calls { calls = failed_after o old.calls.calls }) none) u
-unsent-fails n old new (gives_up xid up is) u =
-    unsent-failed n false old new (ap (λ (v : View). v.calls) is ∙ ap (λ (o : Option ℕ). record old.calls { calls = failed_after o old.calls.calls }) up) u
-
--- the steps but for sending
-unsent-step : (machine : ℕ → Op → Machine) (setup : Setup) (h : List Entry) (n : ℕ) (old : View) (e : Entry) (new : View) → StepsTo machine h old e new → ((bytes : List ℕ) → e ≡ Sent bytes → ⊥) → Sound setup old → Unsent n old → Unsent n new
-unsent-step machine setup h n old (Began lane line op) new t other s u =
-    begins-stay (Unsent n) (unsent-stays n) old new lane (machine lane op) (last_reading 0 h) (λ state shelf. record { later = u.later; next = u.next }) t.step
-unsent-step machine setup h n old (Answered lane line answer) new t other s u = unsent-like n old new (ap (λ (v : View). v.calls) (answered_now old lane answer new t.answers).is.is) u
-unsent-step machine setup h n old (Sent bytes) new t other s u = absurd (other bytes refl)
-unsent-step machine setup h n old (Delivered bytes) new t other s u = unsent-heard n setup old bytes new (heard old bytes t.result new t.hears) s u
-unsent-step machine setup h n old Failed new (inl t) other s u = unsent-fails n old new (failed_now old t.0 new t.1) u
-unsent-step machine setup h n old Failed new (inr is) other s u = unsent-like n old new (ap (λ (v : View). v.calls) is) u
-unsent-step machine setup h n old (Dialed port) new is other s u = unsent-like n old new (ap (λ (v : View). v.calls) is) u
-unsent-step machine setup h n old (Executed xid call reply) new is other s u = unsent-like n old new (ap (λ (v : View). v.calls) is) u
-unsent-step machine setup h n old (Foreign call reply) new is other s u = unsent-like n old new (ap (λ (v : View). v.calls) is) u
-unsent-step machine setup h n old (Flushed file from len) new is other s u = unsent-like n old new (ap (λ (v : View). v.calls) is) u
-unsent-step machine setup h n old (Reboot verf) new is other s u = unsent-like n old new (ap (λ (v : View). v.calls) is) u
-unsent-step machine setup h n old (Clock ms) new is other s u = unsent-like n old new (ap (λ (v : View). v.calls) is) u
+-- so is what a history does
+sent-all : (P : ℕ → Type 0) (which : Counted) (h : List Entry) → ((i xid : ℕ) (bytes : List ℕ) → At h i (Sent bytes) → HasXid bytes xid → P xid) → AreAll P (xids_sent which h)
+sent-all P which [] all = tt
+sent-all P which (Sent bytes ∷ h) all =
+    all-append P (xid_counted which (call_at bytes)) (xids_sent which h) (counted-all P which bytes (λ xid has. all 0 xid bytes refl has)) (sent-all P which h (λ i xid b at has. all (suc i) xid b at has))
+sent-all P which (Began lane line op ∷ h) all = sent-all P which h (λ i xid b at has. all (suc i) xid b at has)
+sent-all P which (Answered lane line answer ∷ h) all = sent-all P which h (λ i xid b at has. all (suc i) xid b at has)
+sent-all P which (Dialed port ∷ h) all = sent-all P which h (λ i xid b at has. all (suc i) xid b at has)
+sent-all P which (Executed xid call reply ∷ h) all = sent-all P which h (λ i xid b at has. all (suc i) xid b at has)
+sent-all P which (Foreign call reply ∷ h) all = sent-all P which h (λ i xid b at has. all (suc i) xid b at has)
+sent-all P which (Flushed file from len ∷ h) all = sent-all P which h (λ i xid b at has. all (suc i) xid b at has)
+sent-all P which (Reboot verf ∷ h) all = sent-all P which h (λ i xid b at has. all (suc i) xid b at has)
+sent-all P which (Delivered bytes ∷ h) all = sent-all P which h (λ i xid b at has. all (suc i) xid b at has)
+sent-all P which (Failed ∷ h) all = sent-all P which h (λ i xid b at has. all (suc i) xid b at has)
+sent-all P which (Clock ms ∷ h) all = sent-all P which h (λ i xid b at has. all (suc i) xid b at has)
 
 -- ---- entries that send nothing
 
@@ -226,76 +129,25 @@ six a b c d e f u v w x y z p q r s t o = rw (p, q, r, s, t, o) refl
 pub tally-by : (h k : List Entry) → ((which : Counted) → calls_made which k ≡ calls_made which h) → tally_of k ≡ tally_of h
 tally-by h k same = six _ _ _ _ _ _ _ _ _ _ _ _ (same Every) (same (Only GETATTR)) (same (Only LOOKUP)) (same (Only READ)) (same (Only WRITE)) (same (Only COMMIT))
 
-tallied-unsent : (h : List Entry) (v : View) (c : Counts) → Tallied h v c → Unsent c.next v
-tallied-unsent h v c t = record { later = t.later; next = t.next }
-
-pub tallied-step : (machine : ℕ → Op → Machine) (setup : Setup) (h : List Entry) (old : View) (e : Entry) (new : View) (c : Counts) → StepsTo machine h old e new → ((bytes : List ℕ) → e ≡ Sent bytes → ⊥) → Sound setup old
-    → Tallied h old c → Tallied (h ++ e ∷ []) new c
-tallied-step machine setup h old e new c t other s was =
-    let u = unsent-step machine setup h c.next old e new t other s (tallied-unsent h old c was) in
-    record {
-      tally = was.tally ∙ sym (tally-by h (h ++ e ∷ []) (λ which. ap (λ (xs : List ℕ). length (different xs)) (xids-same which h e (silent which e other))));
-      below = λ which. subst (AreBelow c.next) (sym (xids-same which h e (silent which e other))) (was.below which);
-      later = u.later;
-      next = u.next;
-    }
-
--- only the calls count
-pub tallied-like : (h : List Entry) (old new : View) (c : Counts) → new.calls ≡ old.calls → Tallied h old c → Tallied h new c
-tallied-like h old new c same was =
-    let u = unsent-like c.next old new same (tallied-unsent h old c was) in
-    record { tally = was.tally; below = was.below; later = u.later; next = u.next }
+-- an entry that sends nothing
+pub tallied-on : (h : List Entry) (e : Entry) (t : Tally) → ((bytes : List ℕ) → e ≡ Sent bytes → ⊥) → t ≡ tally_of h → t ≡ tally_of (h ++ e ∷ [])
+tallied-on h e t other was = was ∙ sym (tally-by h (h ++ e ∷ []) (λ which. ap (λ (xs : List ℕ). length (different xs)) (xids-same which h e (silent which e other))))
 
 -- ---- a record is sent
-
-early : (cred : Cred) (low next : ℕ) (es : List (ℕ × Waiting Purpose)) → AreSound cred low next es → (other : ℕ) (call : Waiting Purpose) → waiting_at other es ≡ Some call → low ≤ other
-early cred low next [] s other call at = absurd (cc)
-early cred low next (e ∷ es) s other call at =
-    let from = s.0 in
-    let rest : waiting_at other es ≡ Some call → e.0 + 1 ≤ other = early cred (e.0 + 1) next es s.2 other call in
-    (elim (nat_eq other e.0) as (λ b. nat_eq other e.0 ≡ b → cond b (Some e.1) (waiting_at other es) ≡ Some call → low ≤ other) [
-      | true ↦ λ f h. let same = eqb-true other e.0 f in omega (arith, same, from)
-      | false ↦ λ f h. let after = rest h in omega (arith, after, from)
-    ]) refl at
-
--- the oldest call that is due is the one with the lowest xid of those that are
-first-lowest : (cred : Cred) (low next : ℕ) (es : List (ℕ × Waiting Purpose)) (xid : ℕ) (call : Waiting Purpose) → AreSound cred low next es → first_due es ≡ Some (xid, call)
-    → (other : ℕ) (later : Waiting Purpose) → waiting_at other es ≡ Some later → later.due ≡ true → xid ≤ other
-first-lowest cred low next [] xid call s due other later at d = absurd (cc)
-first-lowest cred low next (e ∷ es) xid call s due other later at d =
-    let from : e.0 ≤ other = early cred e.0 next (e ∷ es) (omega arith, s.1, s.2) other later at in
-    let rest : first_due es ≡ Some (xid, call) → waiting_at other es ≡ Some later → xid ≤ other = λ h k. first-lowest cred (e.0 + 1) next es xid call s.2 h other later k d in
-    (elim e.1.due as (λ b. e.1.due ≡ b → cond b (Some e) (first_due es) ≡ Some (xid, call) → xid ≤ other) [
-      | true ↦ λ f h. let same : e.0 ≡ xid = cc in omega (arith, same, from)
-      | false ↦ λ f h. (elim (nat_eq other e.0) as (λ b. cond b (Some e.1) (waiting_at other es) ≡ Some later → xid ≤ other) [
-        | true ↦ λ k. absurd (
-            let which : e.1 ≡ later = cc in
-            let no_way : true ≡ false = sym d ∙ ap (λ (w : Waiting Purpose). w.due) (sym which) ∙ f in
-            cc)
-        | false ↦ λ k. rest h k
-      ]) at
-    ]) refl due
 
 uncapped : (n : ℕ) → n ≤ 4294967295 → min n 4294967295 ≡ n
 uncapped n le = omega (arith, le)
 
-below-in : (n : ℕ) (xs : List ℕ) (x : ℕ) → AreBelow n xs → is_in x xs ≡ true → x < n
-below-in n [] x b i = absurd cc
-below-in n (y ∷ ys) x b i =
-    let low = b.0 in
-    let rest : is_in x ys ≡ true → x < n = below-in n ys x b.1 in
-    (elim (eqb y x) as (λ t. eqb y x ≡ t → (t || is_in x ys) ≡ true → x < n) [
-      | true ↦ λ e h. let same = eqb-true y x e in omega (arith, same, low)
-      | false ↦ λ e h. rest h
-    ]) refl i
+-- a call is counted by its first attempt
+counted-first : (attempts proc : ℕ) (t : Tally) → attempts ≡ 0 → with_attempt (attempts + 1) proc t ≡ with_proc t proc
+counted-first attempts proc t none = if_true (nat_eq (attempts + 1) 1) (with_proc t proc) t (eq-eqb (attempts + 1) 1 (omega (arith, none)))
 
-module _ (setup : Setup) (h : List Entry) (old : View) (xid : ℕ) (call : Waiting Purpose) (due : first_due old.calls.calls ≡ Some (xid, call)) (r : Rows setup h old) (c d : Counts) (t : Tallied h old c)
-    (counts : CountsBy (call_at call.bytes) c d) where
+counted-again : (attempts proc : ℕ) (t : Tally) → 1 ≤ attempts → with_attempt (attempts + 1) proc t ≡ t
+counted-again attempts proc t some = if_false (nat_eq (attempts + 1) 1) (with_proc t proc) t (ne_eqb (attempts + 1) 1 (λ same. omega (arith, same, some)))
+
+module _ (setup : Setup) (h : List Entry) (old : View) (xid : ℕ) (call : Waiting Purpose) (due : first_due old.calls.calls ≡ Some (xid, call)) (r : Rows setup h old) (t : Tally) (is : t ≡ tally_of h) where
   abbrev k : List Entry
   k = h ++ Sent call.bytes ∷ []
-
-  abbrev new : View
-  new = record old { calls = record old.calls { calls = sent old.calls.calls } }
 
   now : SentAt xid old.calls.calls call
   now = at_sent old.calls.cred old.calls.first_xid (next_xid old.calls) xid old.calls.calls call r.sound.calls.each due
@@ -309,14 +161,11 @@ module _ (setup : Setup) (h : List Entry) (old : View) (xid : ℕ) (call : Waiti
   read_so : call_at call.bytes ≡ Ok (head, known.made.spells.spells.args)
   read_so = call_again head known.made.spells.spells.args call.bytes known.made.spells.spells.head
 
-  counts_so : CountsBy (Ok (head, known.made.spells.spells.args)) c d
-  counts_so = subst (λ (x : Result (CallHead × List ℕ) CallFault). CountsBy x c d) read_so counts
-
   within : xid < next_xid old.calls
   within = waits_early old.calls.cred old.calls.first_xid (next_xid old.calls) xid old.calls.calls call r.sound.calls.each now.before
 
-  small : xid ≤ 4294967294
-  small = let w = within in let made = r.sound.calls.within in let last = r.sound.calls.last in omega (arith, w, made, last)
+  few : next_xid old.calls ≤ 4294967295
+  few = let made = r.sound.calls.within in let last = r.sound.calls.last in omega (arith, made, last)
 
   every : counts_head Every head ≡ true
   every = rw known.made.nfs refl
@@ -324,31 +173,20 @@ module _ (setup : Setup) (h : List Entry) (old : View) (xid : ℕ) (call : Waiti
   xids-now : (which : Counted) → xids_sent which k ≡ xids_sent which h ++ cond (counts_head which head) (xid ∷ []) []
   xids-now which = xids-more which h call.bytes head known.made.spells.spells.args read_so
 
-  -- a call that wasn't sent yet waits on at a later xid
-  others-wait : (n : ℕ) → n ≤ next_xid old.calls → ((y : ℕ) (w : Waiting Purpose) → y ≢ xid → waiting_at y old.calls.calls ≡ Some w → w.attempts ≡ 0 → n ≤ y) → Unsent n new
-  others-wait n low all = record {
-    later = λ y w at none. (elim (nat_eq y xid) as (λ b. nat_eq y xid ≡ b → n ≤ y) [
-      | true ↦ λ e. absurd (
-          let there : waiting_at xid (sent old.calls.calls) ≡ Some w = ap (λ (m : ℕ). waiting_at m (sent old.calls.calls)) (sym (eqb-true y xid e)) ∙ at in
-          let same : sent_call call ≡ w = some-is (sent_call call) w (sym now.after ∙ there) in
-          let more : call.attempts + 1 ≡ 0 = ap (λ (x : Waiting Purpose). x.attempts) same ∙ none in
-          omega (arith, more))
-      | false ↦ λ e. all y w (eqb-false y xid e) (sym (others_sent y xid old.calls.calls call due e) ∙ at) none
-    ]) refl;
-    next = low;
-  }
-    where
-      some-is : (x y : Waiting Purpose) → Some x ≡ Some y → x ≡ y
-      some-is x y e = cc
+  below-now : (which : Counted) → AreBelow (next_xid old.calls) (xids_sent which k)
+  below-now which =
+      let row : List ℕ = cond (counts_head which head) (xid ∷ []) [] in
+      let own : AreAll (λ (x : ℕ). x < next_xid old.calls) row =
+      elim (counts_head which head) as (λ b. AreAll (λ (x : ℕ). x < next_xid old.calls) (cond b (xid ∷ []) [])) [ true ↦ (within, tt) | false ↦ tt ] in
+      subst (AreBelow (next_xid old.calls)) (sym (xids-now which))
+      (all-below (next_xid old.calls) (xids_sent which h ++ row)
+      (all-append (λ (x : ℕ). x < next_xid old.calls) (xids_sent which h) row (sent-all (λ (x : ℕ). x < next_xid old.calls) which h r.used) own))
 
-  -- ---- it wasn't sent before
+  -- ---- for the first time
 
-  module _ (none : call.attempts ≡ 0) where
-    low : c.next ≤ xid
-    low = t.later xid call now.before none
-
-    is-new : IsNew c head
-    is-new = record { nfs = known.made.nfs; later = low }
+  module _ (none : IsUnsent h xid) where
+    absent : (which : Counted) → is_in xid (xids_sent which h) ≡ false
+    absent which = all-absent xid (xids_sent which h) (sent-all (λ (x : ℕ). x ≡ xid → ⊥) which h (λ i x bytes at has same. none i bytes at (subst (λ (n : ℕ). HasXid bytes n) same has)))
 
     made-more : (which : Counted) (b : Bool) → counts_head which head ≡ b → calls_made which k ≡ calls_made which h + one_where b
     made-more which b e =
@@ -356,80 +194,33 @@ module _ (setup : Setup) (h : List Entry) (old : View) (xid : ℕ) (call : Waiti
         ∙ subst (λ (x : Bool). length (different (xids_sent which h ++ cond x (xid ∷ []) [])) ≡ length (different (xids_sent which h)) + one_where b) (sym e) (by b)
       where
         by : (b : Bool) → length (different (xids_sent which h ++ cond b (xid ∷ []) [])) ≡ length (different (xids_sent which h)) + one_where b
-        by true = one-more (xids_sent which h) xid (below-absent c.next (xids_sent which h) (t.below which) xid low)
+        by true = one-more (xids_sent which h) xid (absent which)
         by false = ap (λ (xs : List ℕ). length (different xs)) (append-nil (xids_sent which h)) ∙ omega arith
 
     capped : (which : Counted) (b : Bool) (n : ℕ) → counts_head which head ≡ b → n ≡ calls_made which h → min (n + one_where b) 4294967295 ≡ calls_made which k
-    capped which b n e is =
+    capped which b n e same =
         let more = made-more which b e in
-        let few = few-different c.next (xids_sent which h) (t.below which) in
-        let lower = low in
-        let bound = small in
-        let one : one_where b ≤ 1 = at-most b in
-        uncapped (n + one_where b) (omega (arith, is, few, lower, bound, one)) ∙ ap (λ (x : ℕ). x + one_where b) is ∙ sym more
-      where
-        at-most : (b : Bool) → one_where b ≤ 1
-        at-most true = omega arith
-        at-most false = omega arith
+        let bound : calls_made which k ≤ next_xid old.calls = few-different (next_xid old.calls) (xids_sent which k) (below-now which) in
+        let last = few in
+        uncapped (n + one_where b) (omega (arith, same, more, bound, last)) ∙ ap (λ (x : ℕ). x + one_where b) same ∙ sym more
 
     only : (proc : ℕ) → counts_head (Only proc) head ≡ (head.proc == proc)
     only proc = rw known.made.nfs refl
 
-    told : with_proc c.tally head.proc ≡ tally_of k
-    told =
-        let was = t.tally in
-        six _ _ _ _ _ _ _ _ _ _ _ _
-        (capped Every true c.tally.calls every (ap (λ (x : Tally). x.calls) was))
-        (capped (Only GETATTR) (head.proc == GETATTR) c.tally.getattr (only GETATTR) (ap (λ (x : Tally). x.getattr) was))
-        (capped (Only LOOKUP) (head.proc == LOOKUP) c.tally.lookup (only LOOKUP) (ap (λ (x : Tally). x.lookup) was))
-        (capped (Only READ) (head.proc == READ) c.tally.read (only READ) (ap (λ (x : Tally). x.read) was))
-        (capped (Only WRITE) (head.proc == WRITE) c.tally.write (only WRITE) (ap (λ (x : Tally). x.write) was))
-        (capped (Only COMMIT) (head.proc == COMMIT) c.tally.commit (only COMMIT) (ap (λ (x : Tally). x.commit) was))
+    first-tallied : with_proc t head.proc ≡ tally_of k
+    first-tallied = six _ _ _ _ _ _ _ _ _ _ _ _
+        (capped Every true t.calls every (ap (λ (x : Tally). x.calls) is))
+        (capped (Only GETATTR) (head.proc == GETATTR) t.getattr (only GETATTR) (ap (λ (x : Tally). x.getattr) is))
+        (capped (Only LOOKUP) (head.proc == LOOKUP) t.lookup (only LOOKUP) (ap (λ (x : Tally). x.lookup) is))
+        (capped (Only READ) (head.proc == READ) t.read (only READ) (ap (λ (x : Tally). x.read) is))
+        (capped (Only WRITE) (head.proc == WRITE) t.write (only WRITE) (ap (λ (x : Tally). x.write) is))
+        (capped (Only COMMIT) (head.proc == COMMIT) t.commit (only COMMIT) (ap (λ (x : Tally). x.commit) is))
 
-    abbrev after : Counts
-    after = record { tally = with_proc c.tally head.proc; next = min (xid + 1) 4294967295 }
-
-    new-tallied : Tallied k new d
-    new-tallied = by counts_so
-      where
-        next_is : min (xid + 1) 4294967295 ≡ xid + 1
-        next_is = let bound = small in uncapped (xid + 1) (omega (arith, bound))
-
-        below-now : (which : Counted) → AreBelow (xid + 1) (xids_sent which k)
-        below-now which = subst (AreBelow (xid + 1)) (sym (xids-now which)) (below-append (xid + 1) (xids_sent which h) (cond (counts_head which head) (xid ∷ []) [])
-            (below-wide c.next (xid + 1) (xids_sent which h) (let l = low in omega (arith, l)) (t.below which))
-            (elim (counts_head which head) as (λ b. AreBelow (xid + 1) (cond b (xid ∷ []) [])) [ true ↦ (omega arith, tt) | false ↦ tt ]))
-
-        unsent-now : Unsent (xid + 1) new
-        unsent-now = others-wait (xid + 1) (let w = within in omega (arith, w)) (λ y w other at zero_so.
-            let sound = sound_of old.calls.cred old.calls.first_xid (next_xid old.calls) y old.calls.calls w r.sound.calls.each at in
-            let is_due : w.due ≡ true = due-so w sound.given zero_so in
-            let least = first-lowest old.calls.cred old.calls.first_xid (next_xid old.calls) old.calls.calls xid call r.sound.calls.each due y w at is_due in
-            omega (arith, least, other))
-          where
-            due-so : (w : Waiting Purpose) → (w.due ≡ false → 1 ≤ w.attempts) → w.attempts ≡ 0 → w.due ≡ true
-            due-so w given zero_so = (elim w.due as (λ b. w.due ≡ b → w.due ≡ true) [ true ↦ λ e. e | false ↦ λ e. absurd (let some = given e in omega (arith, some, zero_so)) ]) refl
-
-        all : Tallied k new after
-        all = record {
-          tally = told;
-          below = λ which. subst (λ (n : ℕ). AreBelow n (xids_sent which k)) (sym next_is) (below-now which);
-          later = λ y w at zero_so. subst (λ (n : ℕ). n ≤ y) (sym next_is) (unsent-now.later y w at zero_so);
-          next = subst (λ (n : ℕ). n ≤ next_xid old.calls) (sym next_is) unsent-now.next;
-        }
-
-        by : CountsBy (Ok (head, known.made.spells.spells.args)) c d → Tallied k new d
-        by (inl p) = subst (Tallied k new) (sym p.1) all
-        by (inr p) = absurd (p.0 is-new)
-
-  -- ---- it was
+  -- ---- again
 
   module _ (from : ℕ) (o : IsOutstanding h xid call.bytes from) where
     sent-before : (which : Counted) → counts_head which head ≡ true → is_in xid (xids_sent which h) ≡ true
     sent-before which e = sent-in which xid h from call.bytes o.sent.sent (ap (xid_counted which) read_so ∙ ap (λ (b : Bool). cond b (xid ∷ []) []) e)
-
-    lower : xid < c.next
-    lower = below-in c.next (xids_sent Every h) xid (t.below Every) (sent-before Every every)
 
     same-made : (which : Counted) → calls_made which k ≡ calls_made which h
     same-made which = ap (λ (xs : List ℕ). length (different xs)) (xids-now which) ∙ by (counts_head which head) refl
@@ -438,49 +229,36 @@ module _ (setup : Setup) (h : List Entry) (old : View) (xid : ℕ) (call : Waiti
         by true e = none-more (xids_sent which h) xid (sent-before which e)
         by false e = ap (λ (xs : List ℕ). length (different xs)) (append-nil (xids_sent which h))
 
-    old-tallied : Tallied k new d
-    old-tallied = by counts_so
-      where
-        all : Tallied k new c
-        all =
-            let u = others-wait c.next t.next (λ y w other at zero_so. t.later y w at zero_so) in
-            record {
-              tally = t.tally ∙ sym (tally-by h k same-made);
-              below = λ which. subst (AreBelow c.next) (sym (xids-now which)) (below-append c.next (xids_sent which h) (cond (counts_head which head) (xid ∷ []) []) (t.below which)
-                  (elim (counts_head which head) as (λ b. AreBelow c.next (cond b (xid ∷ []) [])) [ true ↦ (lower, tt) | false ↦ tt ]));
-              later = u.later;
-              next = u.next;
-            }
+    again-tallied : t ≡ tally_of k
+    again-tallied = is ∙ sym (tally-by h k same-made)
 
-        by : CountsBy (Ok (head, known.made.spells.spells.args)) c d → Tallied k new d
-        by (inl p) = absurd (let low = p.0.later in let l = lower in omega (arith, low, l))
-        by (inr p) = subst (Tallied k new) (sym p.1) all
-
-  pub one-tallied : Tallied k new d
+  pub one-tallied : with_attempt (call.attempts + 1) call.purpose.proc t ≡ tally_of k
   one-tallied = by known.tried
     where
-      by : Tried h xid call → Tallied k new d
-      by (unsent none u) = new-tallied none
-      by (runs from running o n) = old-tallied from o
-      by (ended from idle o n) = old-tallied from o
+      again : (from : ℕ) → IsOutstanding h xid call.bytes from → 1 ≤ call.attempts → with_attempt (call.attempts + 1) call.purpose.proc t ≡ tally_of k
+      again from o some = counted-again call.attempts call.purpose.proc t some ∙ again-tallied from o
 
-pub tallied-sends : (setup : Setup) (h : List Entry) (old : View) (bytes : List ℕ) (new : View) (c d : Counts) → Rows setup h old → SendsBy old (Some bytes) new → CountsBy (call_at bytes) c d → Tallied h old c
-    → Tallied (h ++ Sent bytes ∷ []) new d
-tallied-sends setup h old bytes new c d r sends counts t =
-    let n = sent_now old bytes new sends in
-    subst (λ (v : View). Tallied (h ++ Sent bytes ∷ []) v d) (sym n.is)
-    (subst (λ (b : List ℕ). Tallied (h ++ Sent b ∷ []) (record old { calls = record old.calls { calls = sent old.calls.calls } }) d) (sym n.bytes_is)
-    (one-tallied setup h old n.xid n.call n.due r c d t (subst (λ (b : List ℕ). CountsBy (call_at b) c d) n.bytes_is counts)))
+      by : Tried h xid call → with_attempt (call.attempts + 1) call.purpose.proc t ≡ tally_of k
+      by (unsent none u) = counted-first call.attempts call.purpose.proc t none ∙ ap (with_proc t) known.made.proc ∙ first-tallied u
+      by (runs from running o n) = again from o (running-tried h xid call.attempts from n)
+      by (ended from idle o n) = again from o (failed-tried h xid call.attempts from (length h) n)
 
--- ---- from the set-up on
+-- the call that was lent is the oldest that was due, with one more attempt
+lent-is : (old : View) (lent : Waiting Purpose) (xid : ℕ) (call : Waiting Purpose) → Some lent ≡ call_sent old → first_due old.calls.calls ≡ Some (xid, call) → lent ≡ sent_call call
+lent-is old lent xid call is due = by old.lost is
+  where
+    some-is : (x y : Waiting Purpose) → Some x ≡ Some y → x ≡ y
+    some-is x y e = cc
 
-pub fresh-tallied : (setup : Setup) (h : List Entry) (v : View) (c : Counts) → IsSetUp setup h → IsFresh setup v → c.tally ≡ tally_of h → c.next ≡ setup.first_xid → Tallied h v c
-fresh-tallied setup h v c up fresh tally_is next_is = record {
-  tally = tally_is;
-  below = λ which. sent-below which h c.next (λ i xid bytes at has. let low = up.below i xid bytes at has in omega (arith, low, next_is));
-  later = λ xid call at none. absurd (
-      let empty : waiting_at xid v.calls.calls ≡ None = ap (λ (k : Held Purpose). waiting_at xid k.calls) fresh.calls in
-      let no_way : None ≡ Some call = sym empty ∙ at in
-      cc);
-  next = subst (λ (k : Held Purpose). c.next ≤ next_xid k) (sym fresh.calls) (omega (arith, next_is));
-}
+    by : (b : Bool) → Some lent ≡ (if b then None else option_map (λ (e : ℕ × Waiting Purpose). sent_call e.1) (first_due old.calls.calls)) → lent ≡ sent_call call
+    by true e = absurd (let no_way : Some lent ≡ None = e in cc)
+    by false e = some-is lent (sent_call call) (e ∙ ap (option_map (λ (e : ℕ × Waiting Purpose). sent_call e.1)) due)
+
+-- its numbers count the record that was sent
+pub tallied-sends : (setup : Setup) (h : List Entry) (old : View) (lent : Waiting Purpose) (new : View) (t d : Tally) → Rows setup h old → SendsBy old (Some lent.bytes) new → Some lent ≡ call_sent old
+    → d ≡ with_attempt lent.attempts lent.purpose.proc t → t ≡ tally_of h → d ≡ tally_of (h ++ Sent lent.bytes ∷ [])
+tallied-sends setup h old lent new t d r sends is counts was =
+    let n = sent_now old lent.bytes new sends in
+    let same : lent ≡ sent_call n.call = lent-is old lent n.xid n.call is n.due in
+    counts ∙ ap (λ (w : Waiting Purpose). with_attempt w.attempts w.purpose.proc t) same ∙ one-tallied setup h old n.xid n.call n.due r t was
+    ∙ ap (λ (b : List ℕ). tally_of (h ++ Sent b ∷ [])) (sym n.bytes_is)

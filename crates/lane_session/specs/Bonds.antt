@@ -33,7 +33,6 @@ use Rattle.lane_session.specs.declared.top.End.{End}
 use Rattle.lane_session.specs.Losing.{LosesOnly}
 use Rattle.lane_session.specs.Resending.{SendsAgain}
 use Rattle.lane_session.specs.Running.{mounted_by}
-use Rattle.lane_session.specs.Tallies.{Tallied}
 
 -- a call waits under the xid
 abbrev pub IsAwaited : ℕ → View → Type 0
@@ -83,14 +82,14 @@ pub record Start : Type 0 where
   pub from : List Entry
   pub counted : Bool
 
--- The core of a session does; calls are sent again after a failure; an operation began at each reading of the clock; and its calls are counted, where those
+-- The core of a session does; calls are sent again after a failure; an operation began at each reading of the clock; and its calls are counted, if those
 -- of the set-up were.
 pub record Bonded (m : Mounted) (setup : Setup) (start : Start) (h : List Entry) (s : Session) : Type 0 where
   pub mounted : s.mounted ≡ m
   pub bond : Bond m setup start.from h s.core s.dropped
   pub again : SendsAgain h s.core
   pub takes : TakesAll start.from h
-  pub tallied : start.counted ≡ true → Tallied h s.core s.counts
+  pub tallied : start.counted ≡ true → s.counts.tally ≡ tally_of h
 
 -- A core goes with the history, in which each answer is noted first, and sent nothing since the first one before an operation began; at each reading of the
 -- clock before an operation one began; a session that is lost stays so; and each call that waits is sent again after a failure.
@@ -106,7 +105,7 @@ pub record HasCore (m : Mounted) (setup : Setup) (from h : List Entry) : Type 0 
 abbrev pub CoreGoes : Session → Session → List Entry → List Entry → Type 0
 CoreGoes old new h k = (m : Mounted) (setup : Setup) (start : Start) → Bonded m setup start h old → Bonded m setup start k new
 
--- it went so far, where a session is cut off
+-- it went so far, if a session is cut off
 abbrev pub CoreWent : Session → List Entry → List Entry → Type 0
 CoreWent old h k = (m : Mounted) (setup : Setup) (start : Start) → Bonded m setup start h old → HasCore m setup start.from k
 
@@ -133,7 +132,7 @@ pub record Redials (h k : List Entry) : Type 0 where
   pub still : steps more ≡ []
   pub each : (j : ℕ) → At k j Failed → length h ≤ j → (port : ℕ) × LatestIs k j (Dialed port)
 
--- a dial went well; or so many in a row failed that the session is lost
+-- a dial succeeded; or so many in a row failed that the session is lost
 abbrev pub RedialsBy : Result Bool Memory → List Entry → List Entry → Type 0
 RedialsBy (Ok true) h k = Redials h k
 RedialsBy (Ok false) h k = Redials h k × Loses k (length k)
@@ -146,7 +145,7 @@ abbrev pub IsOpened : Option Setup → List Entry → Type 0
 IsOpened (Some setup) h = IsSetUp setup h × ((xid : ℕ) → Waits h xid (length h) → ⊥)
 IsOpened None h = IsLost h (length h)
 
--- Where the counts are those of the whole history: a set-up that there is has made its calls; one that isn't there made none.
+-- If the counts are those of the whole history: a set-up that there is has made its calls; one that isn't there made none.
 abbrev pub CanCount : Option Setup → List Entry → Type 0
 CanCount (Some setup) h = IsOpened (Some setup) h
 CanCount None h = Unit {0}
@@ -162,7 +161,7 @@ PagesOf settings (Some setup) (Some pages) k = (v : View) × Notes (machine_of (
 PagesOf settings (Some setup) None k = Unit {0}
 PagesOf settings None pages k = pages ≡ None
 
--- so it is where each line had its answer
+-- so it is if each line had its answer
 abbrev pub EndsPages : Settings → Option Setup → Result End Halt → List Entry → Type 0
 EndsPages settings setup (Ok end) k = PagesOf settings setup end.pages k
 EndsPages settings setup (Err halt) k = Unit {0}

@@ -1,10 +1,12 @@
 //! Memory that is used again.
 
+use crate::incoming::Incoming;
 use std::alloc::Global;
 use std::marker::Model;
 use std::mem;
 
-/// Memory for the records that come, which goes on from one to the next. What it holds between two of them counts for nothing.
+/// Memory for the records that come, or for the lines that are written, which goes on from one to the next. What it holds
+/// between two of them counts for nothing.
 #[derive(Drop)]
 pub(crate) struct Buffer {
     bytes: Vec<u8>,
@@ -32,5 +34,12 @@ impl Buffer {
     /// Takes memory back.
     pub(crate) fn take_back(&mut self, bytes: Vec<u8>) {
         self.bytes = bytes;
+    }
+
+    /// Takes the memory of a record back, unless an answer shares it.
+    pub(crate) fn take_record(&mut self, rec: Incoming) {
+        if let Some(bytes) = rec.into_memory() {
+            self.bytes = bytes;
+        }
     }
 }

@@ -1,12 +1,9 @@
 //! How many calls a session makes.
 
 ghost use Rattle.std.specs.Prelude.{◌≡◌};
-ghost use Rattle.rpc_message.specs.Call.{call_at};
-ghost use Rattle.lane_session.specs.Tallies.{CountsBy, with_proc};
+ghost use Rattle.lane_session.specs.Tallies.{with_attempt, with_proc};
 
-use nfs_types::NFS_PROGRAM;
 use nfs_types::nfs_proc::{COMMIT, GETATTR, LOOKUP, READ, WRITE};
-use rpc_message::read_call;
 use std::marker::Model;
 use world_model::Tally;
 
@@ -15,21 +12,15 @@ use world_model::Tally;
 pub struct Counts {
     /// How many there are.
     pub tally: Tally,
-    /// Calls below this xid are counted.
-    pub next: u32,
 }
 
 impl Counts {
-    /// A record is sent. Calls are first sent in the order of their xids.
-    pub fn count(&mut self, rec: &[u8])
-        ensures { CountsBy (call_at rec.now) self.old self.new }
+    /// An attempt of a call of this procedure is sent, so many with it. The call is counted by its first.
+    pub fn count(&mut self, attempts: u32, proc: u32)
+        ensures { self.new.tally ≡ with_attempt attempts proc self.old.tally }
     {
-        let Ok((head, _)) = read_call(rec) else {
-            return;
-        };
-        if head.prog == NFS_PROGRAM && head.xid >= self.next {
-            self.next = head.xid.saturating_add(1);
-            self.tally = with_call(&self.tally, head.proc);
+        if attempts == 1 {
+            self.tally = with_call(&self.tally, proc);
         }
     }
 }

@@ -5,6 +5,7 @@
 mod buffer;
 mod counts;
 mod halt;
+mod incoming;
 mod lanes;
 mod lines;
 mod lost_lines;

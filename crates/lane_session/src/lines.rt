@@ -7,10 +7,12 @@ ghost use Rattle.outside.specs.Link.{NotesOnly, noted_as};
 ghost use Rattle.world_model.specs.Counts.{tally_text};
 ghost use Rattle.world_model.specs.declared.entry.Mark.TheVariants as marks;
 ghost use Rattle.world_model.specs.Told.{Relates};
+ghost use Rattle.world_model.specs.Transcript.{line_text};
 ghost use Rattle.lane_session.specs.Going.{NotesBeginning, TellsAnswer};
 ghost use Rattle.lane_session.specs.Streams.{Appends, IsFrontOf, ReadsOnce, Says};
 ghost use Rattle.lane_session.specs.Statuses.{CausedBy};
 
+use crate::buffer::Buffer;
 use crate::halt::Halt;
 use crate::output::{write_all, write_line};
 use nfs_script::{tally_line, whole_line};
@@ -78,13 +80,14 @@ fn note_at<L: Link>(ms: u64, lane: u8, line: u32, op: Op, link: &mut L) -> Resul
     }
 }
 
-/// Notes an answer, and writes its line at once, behind the label.
+/// Notes an answer, and writes its line at once, behind the label. The line is made in the memory of the one before.
 pub fn tell_answer<L: Link, K: Sink>(
     alloc: Global,
     lane: u8,
     line: u32,
     answer: Answer,
     label: &[u8],
+    room: &mut Buffer,
     link: &mut L,
     out: &mut K,
 ) -> Result<(), Halt>
@@ -95,11 +98,34 @@ pub fn tell_answer<L: Link, K: Sink>(
     ensures later { K.faults out.old ≤ K.faults out.new }
     ensures cause { CausedBy result (Rose (K.faults out.old) (K.faults out.new)) }
 {
-    let Ok(text) = whole_line(alloc, lane, line, &answer) else {
+    let Ok(made) = whole_line(alloc, room.lend(alloc), lane, line, &answer) else {
         return Err(Halt::Memory);
     };
+    let told = tell_line(lane, line, answer, label, made.bytes(), link, out);
+    room.take_back(made.into_room());
+    told
+}
+
+/// Notes an answer, and writes its line, which is this one.
+fn tell_line<L: Link, K: Sink>(
+    lane: u8,
+    line: u32,
+    answer: Answer,
+    label: &[u8],
+    made: &[u8],
+    link: &mut L,
+    out: &mut K,
+) -> Result<(), Halt>
+    requires { made.now ≡ line_text lane line answer }
+    ensures goes { Says (K.written out.old) (K.written out.new) (λ text.
+        Relates (L.told link.old) (L.told link.new) (TellsAnswer label.now lane line answer result text)) }
+    ensures stays { (first : L) → L.stays first link.old → L.stays first link.new }
+    ensures honest { L.honest link.old → L.honest link.new }
+    ensures later { K.faults out.old ≤ K.faults out.new }
+    ensures cause { CausedBy result (Rose (K.faults out.old) (K.faults out.new)) }
+{
     match note_answer(lane, line, answer, link) {
-        Ok(()) => write_line(out, label, text.bytes()),
+        Ok(()) => write_line(out, label, made),
         Err(_) => Err(Halt::Memory),
     }
 }

@@ -6,6 +6,7 @@ ghost use Rattle.lane_session.specs.Losing.{by_lanes, of_lane, LosesBy, LosesLin
 ghost use Rattle.lane_session.specs.Statuses.{CausedBy};
 ghost use Rattle.lane_session.specs.Streams.{Passes};
 
+use crate::buffer::Buffer;
 use crate::halt::Halt;
 use crate::lines::{note_beginning, tell_answer};
 use limits::LANES;
@@ -112,15 +113,19 @@ fn lose_line<L: Link, C: Clock, K: Sink>(
 {
     let (lane, line, op) = script.op(at);
     match note_beginning(alloc, lane, line, op, link, clock) {
-        Ok(_) => tell_answer(
-            alloc,
-            lane,
-            line,
-            Answer::Refused(Fault::Lost),
-            label,
-            link,
-            out,
-        ),
+        Ok(_) => {
+            let mut room = Buffer::new(alloc);
+            tell_answer(
+                alloc,
+                lane,
+                line,
+                Answer::Refused(Fault::Lost),
+                label,
+                &mut room,
+                link,
+                out,
+            )
+        }
         Err(_) => Err(Halt::Memory),
     }
 }

@@ -29,6 +29,7 @@ ghost use Rattle.lane_session.specs.Turns.{AddsMarks, WritesInTime};
 use crate::buffer::Buffer;
 use crate::counts::Counts;
 use crate::halt::Halt;
+use crate::incoming::Incoming;
 use crate::lanes::Lanes;
 use crate::lines::{note_start, tell_answer};
 use crate::status;
@@ -41,7 +42,7 @@ use page_cache::PageCache;
 use session_words::Settings;
 use std::alloc::Global;
 use world_model::{Op, Tally};
-use xdr_codec::Memory;
+use xdr_codec::{Lent, Memory};
 
 /// A session that is under way: where its lanes are in the script, and the core with the calls that wait. It is made over a set-up, and goes on
 /// turn by turn until each line of the script has its answer.
@@ -64,6 +65,8 @@ pub struct Session {
     earlier: u64,
     /// For the record that comes next.
     buffer: Buffer,
+    /// For the line that is written next.
+    text: Buffer,
 }
 
 /// What came of the sending of a record.
@@ -87,7 +90,7 @@ impl Session {
         requires may { MaySetUp setup }
         ensures fresh { IfOk result (IsFreshFor settings.now setup) }
         ensures port { IfOk result (λ s. s.port ≡ settings.now.nfs_port) }
-        ensures counts { IfOk result (λ s. s.counts ≡ record { tally = tally; next = setup.first_xid }) }
+        ensures counts { IfOk result (λ s. s.counts.tally ≡ tally) }
     {
         let mounted = Mounted {
             root: setup.root,
@@ -95,19 +98,19 @@ impl Session {
             noac: settings.noac,
             nocto: !settings.noac && settings.nocto,
         };
-        let next = setup.first_xid;
         Ok(Session {
             alloc,
             mounted,
             port: settings.nfs_port,
             core: Core::new(alloc, setup)?,
             lanes: Lanes::new(alloc)?,
-            counts: Counts { tally, next },
+            counts: Counts { tally },
             status: status::WELL,
             attempts: ATTEMPTS,
             dropped: 0,
             earlier: 0,
             buffer: Buffer::new(alloc),
+            text: Buffer::new(alloc),
         })
     }
 
@@ -468,7 +471,16 @@ impl Session {
             return Ok(false);
         };
         let status = status::after_answer(self.status, &answer);
-        match tell_answer(self.alloc, lane, line, answer, label, link, out) {
+        match tell_answer(
+            self.alloc,
+            lane,
+            line,
+            answer,
+            label,
+            &mut self.text,
+            link,
+            out,
+        ) {
             Ok(()) => {
                 self.lanes.end(lane);
                 self.status = status;
@@ -608,7 +620,7 @@ impl Session {
         }
     }
 
-    /// Sends the next record that is due. Where the link fails, the attempts that run have ended.
+    /// Sends the next record that is due. If the link fails, the attempts that run have ended.
     fn send_next<L: Link>(&mut self, link: &mut L) -> Result<Sending, Memory>
         requires live { IsLive self.old }
         requires some { 1 ≤ self.old.attempts }
@@ -620,11 +632,11 @@ impl Session {
         ensures stays { (first : L) → L.stays first link.old → L.stays first link.new }
         ensures honest { L.honest link.old → L.honest link.new }
     {
-        let Some(rec) = self.core.next_send() else {
+        let Some(call) = self.core.next_send() else {
             return Ok(Sending::Nothing);
         };
-        self.counts.count(rec.bytes());
-        match link.send(rec) {
+        self.counts.count(call.attempts, call.purpose.proc);
+        match link.send(&call.bytes) {
             Ok(()) => Ok(Sending::Went),
             Err(LinkFault::Failed) => {
                 self.fail();
@@ -653,8 +665,9 @@ impl Session {
         let mut rec = self.buffer.lend(self.alloc);
         match link.receive(WAIT_MS, &mut rec) {
             Received::Whole => {
-                self.take(rec.as_slice());
-                self.buffer.take_back(rec);
+                let rec = Incoming::of(self.alloc, rec);
+                self.take(&rec.lent());
+                self.buffer.take_record(rec);
                 Ok(())
             }
             Received::Silent => {
@@ -670,7 +683,7 @@ impl Session {
     }
 
     /// A record came.
-    fn take(&mut self, rec: &[u8])
+    fn take(&mut self, rec: &Lent<'_>)
         requires dropped { self.old.dropped < 65536 }
         requires sent { WereSent self.old.core.calls.calls }
         ensures { Takes self.old rec.now self.new }
@@ -686,7 +699,7 @@ impl Session {
         }
     }
 
-    /// The attempts that run have ended. Where a call is given up the session is lost.
+    /// The attempts that run have ended. If a call is given up the session is lost.
     fn fail(&mut self)
         requires { 1 ≤ self.old.attempts }
         ensures { Fails self.old self.new }
@@ -698,7 +711,7 @@ impl Session {
         }
     }
 
-    /// Dials again after the link failed, unless the session is lost; where that doesn't work it is lost.
+    /// Dials again after the link failed, unless the session is lost; if that doesn't work it is lost.
     fn reconnect<L: Link>(&mut self, link: &mut L) -> Result<(), Halt>
         requires told { 1 ≤ self.old.attempts → NoneOver self.old.core }
         requires due { DueAgain self.old.core }

@@ -80,7 +80,7 @@ impl Link for HostileLink {
         ensures never { NeverFails result }
         ensures given { HandsOutNone self.old self.new }
     {
-        if self.entries.push(Entry::Dialed { port }).is_err() {
+        if tell(&mut self.entries, Entry::Dialed { port }).is_err() {
             return Err(LinkFault::Memory);
         }
         Ok(())
@@ -95,7 +95,7 @@ impl Link for HostileLink {
         let Ok(bytes) = rec.share(self.alloc) else {
             return Err(LinkFault::Memory);
         };
-        if self.entries.push(Entry::Sent { bytes }).is_err() {
+        if tell(&mut self.entries, Entry::Sent { bytes }).is_err() {
             return Err(LinkFault::Memory);
         }
         Ok(())
@@ -142,8 +142,7 @@ impl Link for HostileLink {
             Mark::Answered { lane, line, answer } => Entry::Answered { lane, line, answer },
             Mark::Clock { ms } => Entry::Clock { ms },
         };
-        self.entries.push(entry)?;
-        Ok(())
+        tell(&mut self.entries, entry)
     }
 }
 

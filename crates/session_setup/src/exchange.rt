@@ -55,7 +55,7 @@ pub(crate) fn exchange<L: Link>(
     Err(Stop::Lost)
 }
 
-/// Makes one attempt, and gives the record that answers it. Where none came the call is due again.
+/// Makes one attempt, and gives the record that answers it. If none came the call is due again.
 fn attempt_once<L: Link>(
     alloc: Global,
     port: u16,
@@ -112,7 +112,7 @@ fn transmit<L: Link>(link: &mut L, calls: &mut Calls<()>) -> Result<(), LinkFaul
     ensures honest { L.honest link.old → L.honest link.new }
 {
     match calls.next_send() {
-        Some(record) => link.send(record),
+        Some(call) => link.send(&call.bytes),
         None => Ok(()),
     }
 }
@@ -141,7 +141,7 @@ fn await_reply<L: Link>(
     Heard::Lost
 }
 
-/// Waits for one record. None where it answers no call.
+/// Waits for one record. None if it answers no call.
 fn hear<L: Link>(alloc: Global, link: &mut L, calls: &mut Calls<()>) -> Option<Heard>
     ensures goes { Along (L.told link.old) (L.told link.new) (HearsOne calls.old calls.new result) }
     ensures dials { (port : ℕ) → DialsOnly port (L.told link.old) (L.told link.new) }

@@ -8,7 +8,7 @@ use Rattle.session_setup.proofs.exchange.transmit.Goals as goal
 pub returns-in-Some-clause-goes : goal.returns-in-Some-clause-goes
 returns-in-Some-clause-goes g c =
     let is = c.next_send.follows.holds-at-none in
-    along_call _ _ _ _ c.send.ensures.told (λ a b p. transmits_by c.args.calls.now c.next_send.follows.lender-at-none c.send.result c.in-Some.record.now a b (rw is (record { first_xid = refl; limit = refl; cred = refl; made = refl }))
+    along_call _ _ _ _ c.send.ensures.told (λ a b p. transmits_by c.args.calls.now c.next_send.follows.lender-at-none c.send.result c.in-Some.call.now.bytes a b (rw is (record { first_xid = refl; limit = refl; cred = refl; made = refl }))
     (ap (λ (k : Held (Unit {0})). k.calls) is) c.in-Some.ensures.gives p)
 
 pub returns-in-Some-clause-dials : goal.returns-in-Some-clause-dials

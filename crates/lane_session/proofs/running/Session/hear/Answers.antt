@@ -42,7 +42,7 @@ returns-in-Memory-clause-goes g c = quiet_tells _ _ [] refl c.in-Memory.ensures.
 
 pub returns-in-Whole-clause-core : goal.returns-in-Whole-clause-core
 returns-in-Whole-clause-core g c =
-    let takes = rw c.as_slice.ensures.value at c.take.ensures in
+    let takes = rw (c.lent.ensures, c.of-rec.ensures) at c.take.ensures in
     relates_call _ _ (Delivered c.receive.new.rec.items ∷ []) _ (λ a b p. core-takes c.args.self.now c.take.new.self c.receive.new.rec.items a b c.requires.sent c.requires.told takes p) c.in-Whole.ensures.told
 
 pub returns-in-Silent-clause-core : goal.returns-in-Silent-clause-core

@@ -21,23 +21,23 @@ returns-in_default-clause-sends g c =
 pub returns-in-Ok-clause-sends : goal.returns-in-Ok-clause-sends
 returns-in-Ok-clause-sends g c =
     let sent = rw c.in-Some.is at c.next_send.follows.holds-at-none in (
-      sends-core c.args.self.now (Some c.in-Some.rec.now) c.next_send.follows.lender-at-none c.count.new.self c.requires.live sent,
-      fewer-due c.args.self.now.core c.in-Some.rec.now c.next_send.follows.lender-at-none sent,
+      sends-core c.args.self.now (Some c.in-Some.call.now.bytes) c.next_send.follows.lender-at-none c.count.new.self c.requires.live sent,
+      fewer-due c.args.self.now.core c.in-Some.call.now.bytes c.next_send.follows.lender-at-none sent,
     )
 
 pub returns-in-Ok-clause-goes : goal.returns-in-Ok-clause-goes
-returns-in-Ok-clause-goes g c = quiet_tells _ _ (Sent c.in-Some.rec.now ∷ []) refl c.in-Ok.ensures.told
+returns-in-Ok-clause-goes g c = quiet_tells _ _ (Sent c.in-Some.call.now.bytes ∷ []) refl c.in-Ok.ensures.told
 
 pub returns-in-Err-Failed-clause-sends : goal.returns-in-Err-Failed-clause-sends
 returns-in-Err-Failed-clause-sends g c =
     let sent = rw c.in-Some.is at c.next_send.follows.holds-at-none in
-    sends-breaks c.args.self.now (Some c.in-Some.rec.now) c.next_send.follows.lender-at-none c.count.new.self c.fail.new.self c.requires.some c.requires.live c.requires.told sent
-    (sent-head c.args.self.now.core c.in-Some.rec.now c.next_send.follows.lender-at-none sent) c.fail.ensures
+    sends-breaks c.args.self.now (Some c.in-Some.call.now.bytes) c.next_send.follows.lender-at-none c.count.new.self c.fail.new.self c.requires.some c.requires.live c.requires.told sent
+    (sent-head c.args.self.now.core c.in-Some.call.now.bytes c.next_send.follows.lender-at-none sent) c.fail.ensures
 
 pub returns-in-Err-Failed-clause-goes : goal.returns-in-Err-Failed-clause-goes
 returns-in-Err-Failed-clause-goes g c =
     let r = rw c.in-Err-Failed.field-0-is at c.in-Err-Failed.ensures in
-    quiet_tells _ _ (Sent c.in-Some.rec.now ∷ Failed ∷ []) refl r.told
+    quiet_tells _ _ (Sent c.in-Some.call.now.bytes ∷ Failed ∷ []) refl r.told
 
 pub returns-in-Err-Memory-clause-goes : goal.returns-in-Err-Memory-clause-goes
 returns-in-Err-Memory-clause-goes g c =
@@ -54,15 +54,15 @@ pub returns-in-Ok-clause-core : goal.returns-in-Ok-clause-core
 returns-in-Ok-clause-core g c =
     let sent = rw c.in-Some.is at c.next_send.follows.holds-at-none in
     let new : Session = record c.args.self.now { core = c.next_send.follows.lender-at-none; counts = c.count.new.self } in
-    relates_call _ _ (Sent c.in-Some.rec.now ∷ []) (CoreGoes c.args.self.now new) (λ a b p. core-sends c.args.self.now new c.in-Some.rec.now a b c.requires.told sent (rw c.bytes.ensures at c.count.ensures) refl refl p) c.in-Ok.ensures.told
+    relates_call _ _ (Sent c.in-Some.call.now.bytes ∷ []) (CoreGoes c.args.self.now new) (λ a b p. core-sends c.args.self.now new c.in-Some.call.now a b c.requires.told sent (record { lends = c.in-Some.ensures.lends; tally = c.count.ensures }) refl refl p) c.in-Ok.ensures.told
 
 pub returns-in-Err-Failed-clause-core : goal.returns-in-Err-Failed-clause-core
 returns-in-Err-Failed-clause-core g c =
     let sent = rw c.in-Some.is at c.next_send.follows.holds-at-none in
     let r = rw c.in-Err-Failed.field-0-is at c.in-Err-Failed.ensures in
     let mid : Session = record c.args.self.now { core = c.next_send.follows.lender-at-none; counts = c.count.new.self } in
-    relates_call _ _ (Sent c.in-Some.rec.now ∷ Failed ∷ []) (CoreGoes c.args.self.now c.fail.new.self)
-    (λ a b p. core-sends-fails c.args.self.now mid c.fail.new.self c.in-Some.rec.now a b c.requires.told c.requires.live.calls sent (rw c.bytes.ensures at c.count.ensures) refl refl c.fail.ensures p) r.told
+    relates_call _ _ (Sent c.in-Some.call.now.bytes ∷ Failed ∷ []) (CoreGoes c.args.self.now c.fail.new.self)
+    (λ a b p. core-sends-fails c.args.self.now mid c.fail.new.self c.in-Some.call.now a b c.requires.told c.requires.live.calls sent (record { lends = c.in-Some.ensures.lends; tally = c.count.ensures }) refl refl c.fail.ensures p) r.told
 
 pub returns-in-Err-Memory-clause-core : goal.returns-in-Err-Memory-clause-core
 returns-in-Err-Memory-clause-core g c =
