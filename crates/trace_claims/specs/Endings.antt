@@ -1,5 +1,5 @@
 -- Where operations of a history end: at the first answer of their lane and line.
-use Rattle.std.specs.Prelude.{◌≡◌, ◌<◌, ◌==◌, ◌&&◌, ℕ, Bool, true, false, List, length, Option, Some, None, slice_get}
+use Rattle.std.specs.Prelude.{◌≡◌, ℕ, List, length, Option, Some, None, slice_get}
 use Rattle.world_model.specs.declared.answer.Answer.{Answer}
 use Rattle.world_model.specs.declared.answer.Answer.TheVariants.{Done, Refused}
 use Rattle.world_model.specs.declared.entry.Entry.{Entry}
@@ -9,38 +9,6 @@ use Rattle.world_model.specs.Operations.{Ended, AnsweredBefore}
 use Rattle.trace_claims.specs.declared.endings.Outcome.{Outcome}
 use Rattle.trace_claims.specs.declared.endings.Outcome.TheVariants as outcomes
 use Rattle.trace_claims.specs.declared.endings.Ending.{Ending}
-
--- the entry answers this lane and line
-abbrev pub answers : ℕ → ℕ → Entry → Bool
-answers lane line (Answered of at answer) = (of == lane) && (at == line)
-answers lane line (Began of at op) = false
-answers lane line (Dialed port) = false
-answers lane line (Sent bytes) = false
-answers lane line (Executed xid call reply) = false
-answers lane line (Foreign call reply) = false
-answers lane line (Flushed file from len) = false
-answers lane line (Reboot verf) = false
-answers lane line (Delivered bytes) = false
-answers lane line Failed = false
-answers lane line (Clock ms) = false
-
-abbrev pub answers_there : ℕ → ℕ → Option Entry → Bool
-answers_there lane line None = false
-answers_there lane line (Some e) = answers lane line e
-
-unfoldable pub answers_at : List Entry → ℕ → ℕ → ℕ → Bool
-answers_at h lane line i = answers_there lane line (slice_get h i)
-
--- the test fails between x and n
-abbrev pub NonePast : (ℕ → Bool) → ℕ → ℕ → Type 0
-NonePast f x n = (j : ℕ) → x < j → j < n → f j ≡ false
-
--- y is the first past x and below n that passes
-pub record IsFirst (f : ℕ → Bool) (x n y : ℕ) : Type 0 where
-  pub later : x < y
-  pub below : y < n
-  pub passes : f y ≡ true
-  pub none : NonePast f x y
 
 -- what an answer says
 abbrev pub outcome_of : Answer → Outcome

@@ -81,10 +81,10 @@ fn course_at(entries: &[Entry], place: usize) -> Option<Course>
     ensures { MatchOption result (NoneBegins entries.now place) (IsCourseAt entries.now place) }
 {
     match &entries[place] {
-        Entry::Began { lane, line, op } => Some(Course {
+        Entry::Began { lane, op, .. } => Some(Course {
             place,
             lane: *lane,
-            ending: end_of(entries, place, *lane, *line),
+            ending: end_of(entries, place),
             work: work_of(op),
         }),
         _ => None,

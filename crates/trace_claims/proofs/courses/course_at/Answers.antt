@@ -8,9 +8,9 @@ use Rattle.trace_claims.proofs.courses.course_at.Goals as goal
 
 pub returns-in-Began : goal.returns-in-Began
 returns-in-Began c =
-    let at : At c.args.entries.now c.args.place (Began c.in-Began.lane c.in-Began.line c.in-Began.op) = slice_get_read c.args.entries.now (length c.args.entries.now) c.args.place c.index-entries-place.result refl c.requires c.index-entries-place.is ∙ ap Some c.in-Began.is in
+    let at : At c.args.entries.now c.args.place (Began c.in-Began.lane _ c.in-Began.op) = slice_get_read c.args.entries.now (length c.args.entries.now) c.args.place c.index-entries-place.result refl c.requires c.index-entries-place.is ∙ ap Some c.in-Began.is in
     record {
-      is = record { line = c.in-Began.line; op = c.in-Began.op; began = at; does = c.work_of.ensures; ends = c.end_of.ensures c.in-Began.op at };
+      is = record { line = _; op = c.in-Began.op; began = at; does = c.work_of.ensures; ends = c.end_of.ensures };
       there = refl;
     }
 
