@@ -1,9 +1,9 @@
 //! Runs sessions of batches over a simulated server, which the lines of standard input describe, and prints each line and what comes of it:
 //!
-//! - `words WORDS` are the words of the command line, and `schedule LINE` is a line of the schedule
-//! - `> LINE` is a line of the input, `lines N LINE` that line so many times, and `end TEXT` a last one without its line feed
-//! - `read N` and `write N` make that call of the source and of the sink fail
-//! - `run` runs the batches, and prints the status and the lines that were written, or the line of the schedule that is at fault
+//! - `words WORDS` are the words of the command line, and `schedule LINE` is a line of the schedule.
+//! - `> LINE` is a line of the input, `lines N LINE` that line so many times, and `end TEXT` a last one without its line feed.
+//! - `read N` and `write N` make that call of the source and of the sink fail.
+//! - `run` runs the batches, and prints the status and the lines that were written, or the line of the schedule that is at fault.
 //!
 //! What comes after `run` begins anew. Any other line is only printed.
 #![tactic(auto)]
@@ -55,19 +55,31 @@ fn show_lines(rt: &impl Print, text: &str) -> io::Result<()> {
     Ok(())
 }
 
-fn main(rt: HostRuntime) -> io::Result<()> {
-    let alloc = rt.alloc();
-    let mut case = empty(alloc);
-    for line in rt.lines(alloc) {
+/// Prints a line, and takes what it adds to the description, or runs what was described.
+fn step(rt: &impl Print, alloc: Global, case: &mut Case, line: &str) -> io::Result<()> {
+    println!(rt; "{line}")?;
+    let (word, rest) = line.split_once(' ').unwrap_or((line, ""));
+    if word == "run" {
+        run(rt, alloc, case)?;
+        *case = empty(alloc);
+        return Ok(());
+    }
+    match takes(alloc, case, word, rest) {
+        Ok(()) => Ok(()),
+        Err(_) => println!(rt; "  out of memory"),
+    }
+}
+
+/// Makes the step of each line of standard input.
+fn step_all(rt: &HostRuntime, case: &mut Case) -> io::Result<()> {
+    for line in rt.lines(rt.alloc()) {
         let line = line?;
-        println!(rt; "{}", line.as_str())?;
-        let (word, rest) = line.as_str().split_once(' ').unwrap_or((line.as_str(), ""));
-        if word == "run" {
-            run(&rt, alloc, &case)?;
-            case = empty(alloc);
-        } else if takes(alloc, &mut case, word, rest).is_err() {
-            println!(rt; "  out of memory")?;
-        }
+        step(rt, rt.alloc(), case, line.as_str())?;
     }
     Ok(())
+}
+
+fn main(rt: HostRuntime) -> io::Result<()> {
+    let mut case = empty(rt.alloc());
+    step_all(&rt, &mut case)
 }

@@ -15,14 +15,23 @@ pub fn row(
 ) -> io::Result<()> {
     let [a, b, c, d, ..] = numbers(rest);
     match word {
-        "new" => *cache = AttrCache::new(alloc),
-        "lives" => *cache = AttrCache::with_lives(alloc, lives(a, b, c, d)),
-        "learn" => show_done(rt, cache.learn(&handle(a), &attr(b, c, 0), d).is_ok())?,
-        "many" => learn_many(rt, cache, a)?,
-        "forget" => cache.forget(&handle(a)),
-        "look" => look(rt, cache, a, b)?,
-        _ => println!(rt; "= no such call")?,
+        "new" => renew(cache, AttrCache::new(alloc)),
+        "lives" => renew(cache, AttrCache::with_lives(alloc, lives(a, b, c, d))),
+        "learn" => show_done(rt, cache.learn(&handle(a), &attr(b, c, 0), d).is_ok()),
+        "many" => learn_many(rt, cache, a),
+        "forget" => forget(cache, a),
+        "look" => look(rt, cache, a, b),
+        _ => println!(rt; "= no such call"),
     }
+}
+
+fn renew(cache: &mut AttrCache, fresh: AttrCache) -> io::Result<()> {
+    *cache = fresh;
+    Ok(())
+}
+
+fn forget(cache: &mut AttrCache, file: u64) -> io::Result<()> {
+    cache.forget(&handle(file));
     Ok(())
 }
 

@@ -9,7 +9,7 @@ use std::io;
 /// The program of NFS (RFC 1813, section 2.1).
 const NFS: u32 = 100_003;
 
-/// No calls, with this first xid and limit; from 1 on and at most 100 where they are too large.
+/// No calls, with this first xid and limit; from 1 on and at most 100 if they are too large.
 pub fn fresh(alloc: Global, first: u32, limit: u32) -> Calls<u32> {
     if first >= 1 && limit <= u32::MAX - first {
         Calls::new(alloc, first, limit, Cred::None)
@@ -28,16 +28,20 @@ pub fn row(
 ) -> io::Result<()> {
     let [a, b, ..] = numbers(rest);
     match word {
-        "new" => *calls = fresh(alloc, small(a), small(b)),
-        "put" => put(rt, alloc, calls, rest)?,
-        "many" => put_many(rt, calls, a)?,
-        "check" => println!(rt; "= {:?}", calls.check())?,
-        "send" => send(rt, alloc, calls)?,
-        "take" => take(rt, alloc, calls, rest)?,
-        "failed" => println!(rt; "= {:?}", calls.failed())?,
-        "counts" => counts(rt, calls)?,
-        _ => println!(rt; "= no such call")?,
+        "new" => renew(alloc, calls, small(a), small(b)),
+        "put" => put(rt, alloc, calls, rest),
+        "many" => put_many(rt, calls, a),
+        "check" => println!(rt; "= {:?}", calls.check()),
+        "send" => send(rt, alloc, calls),
+        "take" => take(rt, alloc, calls, rest),
+        "failed" => println!(rt; "= {:?}", calls.failed()),
+        "counts" => counts(rt, calls),
+        _ => println!(rt; "= no such call"),
     }
+}
+
+fn renew(alloc: Global, calls: &mut Calls<u32>, first: u32, limit: u32) -> io::Result<()> {
+    *calls = fresh(alloc, first, limit);
     Ok(())
 }
 
@@ -62,7 +66,7 @@ fn put_many(rt: &impl Print, calls: &mut Calls<u32>, count: u64) -> io::Result<(
 
 fn send(rt: &impl Print, alloc: Global, calls: &mut Calls<u32>) -> io::Result<()> {
     match calls.next_send() {
-        Some(record) => show_bytes(rt, alloc, record.bytes()),
+        Some(call) => show_bytes(rt, alloc, call.bytes.bytes()),
         None => println!(rt; "= none"),
     }
 }

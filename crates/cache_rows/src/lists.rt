@@ -20,18 +20,19 @@ pub fn row(
 ) -> io::Result<()> {
     let [cookie, eof, ..] = numbers(rest);
     match word {
-        "new" => *listing = Listing::new(alloc),
+        "new" => renew(alloc, listing),
         "page" => match page(alloc, cookie, rest) {
-            Ok(bytes) => take(rt, listing, bytes.bytes(), eof == 1)?,
-            Err(_) => println!(rt; "= memory")?,
+            Ok(bytes) => take(rt, listing, bytes.bytes(), eof == 1),
+            Err(_) => println!(rt; "= memory"),
         },
-        "whole" => whole(rt, alloc, listing)?,
-        "finish" => {
-            let done = std::mem::replace(listing, Listing::new(alloc));
-            finish(rt, alloc, done)?;
-        }
-        _ => println!(rt; "= no such call")?,
+        "whole" => whole(rt, alloc, listing),
+        "finish" => finish(rt, alloc, std::mem::replace(listing, Listing::new(alloc))),
+        _ => println!(rt; "= no such call"),
     }
+}
+
+fn renew(alloc: Global, listing: &mut Listing) -> io::Result<()> {
+    *listing = Listing::new(alloc);
     Ok(())
 }
 

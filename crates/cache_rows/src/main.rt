@@ -2,15 +2,15 @@
 //! A line is a layer, a call of it and what that takes: numbers, and at the end a name, a text or bytes in hex. Files and
 //! directories are told apart by a number. `new` makes a layer anew. Any other line is only printed.
 //!
-//! - `calls` is `rpc_retry`: `new XID LIMIT`, `put PROC HEX`, `many N`, `check`, `send`, `take HEX`, `failed`, `counts`
-//! - `attrs` is `attr_cache`: `new`, `lives A B C D`, `learn FILE KIND SIZE SENT`, `many N`, `forget FILE`, `look FILE NOW`
-//! - `names` is `name_cache`: `new`, `learn DIR SECOND FOUND NAME`, `many N`, `look DIR SECOND NAME`, `drop DIR`
+//! - `calls` is `rpc_retry`: `new XID LIMIT`, `put PROC HEX`, `many N`, `check`, `send`, `take HEX`, `failed`, `counts`.
+//! - `attrs` is `attr_cache`: `new`, `lives A B C D`, `learn FILE KIND SIZE SENT`, `many N`, `forget FILE`, `look FILE NOW`.
+//! - `names` is `name_cache`: `new`, `learn DIR SECOND FOUND NAME`, `many N`, `look DIR SECOND NAME`, `drop DIR`.
 //! - `pages` is `page_cache`: `new`, `room N`, `opened FILE SIZE MARK`, `many N`, `state FILE`, `keep FILE SIZE INDEX SENT TEXT`,
 //!   `fill FILE SIZE N`, `page FILE INDEX`, `saw FILE SIZE SENT`, `wrote FILE BEFORE AFTER OFFSET MOMENT TEXT`,
-//!   `cut FILE BEFORE AFTER SIZE MOMENT`, `closed FILE`
-//! - `opens` is `open_files`: `new`, `put LANE SLOT FILE MODE MARK`, `many N`, `get LANE SLOT`, `close LANE SLOT`, `is FILE`, `any`
-//! - `silly` is `silly_rename`: `new`, `plan OPEN COUNTER`, `put FILE DIR NAME`, `many N`, `close FILE`
-//! - `list` is `dir_list`: `new`, `page COOKIE EOF NAMES`, `whole`, `finish`
+//!   `cut FILE BEFORE AFTER SIZE MOMENT`, `closed FILE`.
+//! - `opens` is `open_files`: `new`, `put LANE SLOT FILE MODE MARK`, `many N`, `get LANE SLOT`, `close LANE SLOT`, `is FILE`, `any`.
+//! - `silly` is `silly_rename`: `new`, `plan OPEN COUNTER`, `put FILE DIR NAME`, `many N`, `close FILE`.
+//! - `list` is `dir_list`: `new`, `page COOKIE EOF NAMES`, `whole`, `finish`.
 #![tactic(auto)]
 
 mod attrs;
@@ -80,10 +80,15 @@ fn main(rt: HostRuntime) -> io::Result<()> {
     let Ok(mut layers) = fresh(rt.alloc()) else {
         return println!(rt; "memory");
     };
+    rows(&rt, &mut layers)
+}
+
+/// Prints each line of standard input, and does what it asks for.
+fn rows(rt: &HostRuntime, layers: &mut Layers) -> io::Result<()> {
     for line in rt.lines(rt.alloc()) {
         let line = line?;
         println!(rt; "{}", line.as_str())?;
-        row(&rt, rt.alloc(), &mut layers, line.as_str())?;
+        row(rt, rt.alloc(), layers, line.as_str())?;
     }
     Ok(())
 }

@@ -15,13 +15,17 @@ pub fn row(
 ) -> io::Result<()> {
     let [a, b, c, ..] = numbers(rest);
     match word {
-        "new" => renew(rt, alloc, cache)?,
-        "learn" => learn(rt, cache, a, b, c, last(rest))?,
-        "many" => learn_many(rt, cache, a)?,
-        "look" => look(rt, alloc, cache, a, b, last(rest))?,
-        "drop" => cache.drop_dir(&handle(a)),
-        _ => println!(rt; "= no such call")?,
+        "new" => renew(rt, alloc, cache),
+        "learn" => learn(rt, cache, a, b, c, last(rest)),
+        "many" => learn_many(rt, cache, a),
+        "look" => look(rt, alloc, cache, a, b, last(rest)),
+        "drop" => drop_dir(cache, a),
+        _ => println!(rt; "= no such call"),
     }
+}
+
+fn drop_dir(cache: &mut NameCache, dir: u64) -> io::Result<()> {
+    cache.drop_dir(&handle(dir));
     Ok(())
 }
 

@@ -17,15 +17,19 @@ pub fn row(
 ) -> io::Result<()> {
     let [a, b, c, d, e, _] = numbers(rest);
     match word {
-        "new" => *opens = OpenFiles::new(alloc),
-        "put" => put_one(rt, opens, tiny(a), tiny(b), opened(c, d, e))?,
-        "many" => put_many(rt, opens, tiny(a))?,
-        "get" => get(rt, opens, tiny(a), tiny(b))?,
-        "close" => println!(rt; "= {:?}", opens.close(tiny(a), tiny(b)))?,
-        "is" => println!(rt; "= {}", opens.is_open(&handle(a)))?,
-        "any" => println!(rt; "= {}", opens.any())?,
-        _ => println!(rt; "= no such call")?,
+        "new" => renew(alloc, opens),
+        "put" => put_one(rt, opens, tiny(a), tiny(b), opened(c, d, e)),
+        "many" => put_many(rt, opens, tiny(a)),
+        "get" => get(rt, opens, tiny(a), tiny(b)),
+        "close" => println!(rt; "= {:?}", opens.close(tiny(a), tiny(b))),
+        "is" => println!(rt; "= {}", opens.is_open(&handle(a))),
+        "any" => println!(rt; "= {}", opens.any()),
+        _ => println!(rt; "= no such call"),
     }
+}
+
+fn renew(alloc: Global, opens: &mut OpenFiles) -> io::Result<()> {
+    *opens = OpenFiles::new(alloc);
     Ok(())
 }
 

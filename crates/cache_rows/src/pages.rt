@@ -14,21 +14,29 @@ pub fn row(
     word: &str,
     rest: &str,
 ) -> io::Result<()> {
+    let [a, b, c, d, ..] = numbers(rest);
+    match word {
+        "new" => renew(rt, alloc, cache, 1_024),
+        "room" => renew(rt, alloc, cache, a),
+        "opened" => show_done(rt, cache.opened(&handle(a), &stamp(b, 0), c).is_ok()),
+        "many" => open_many(rt, cache, a),
+        "state" => state(rt, cache, a),
+        "keep" => keep(rt, cache, a, &stamp(b, 0), c, d, last(rest)),
+        "fill" => fill(rt, cache, a, &stamp(b, 0), c),
+        "page" => page(rt, alloc, cache, a, b),
+        _ => change(rt, cache, word, rest),
+    }
+}
+
+/// Does a call that answers nothing.
+fn change(rt: &impl Print, cache: &mut PageCache, word: &str, rest: &str) -> io::Result<()> {
     let [a, b, c, d, e, _] = numbers(rest);
     match word {
-        "new" => renew(rt, alloc, cache, 1_024)?,
-        "room" => renew(rt, alloc, cache, a)?,
-        "opened" => show_done(rt, cache.opened(&handle(a), &stamp(b, 0), c).is_ok())?,
-        "many" => open_many(rt, cache, a)?,
-        "state" => state(rt, cache, a)?,
-        "keep" => keep(rt, cache, a, &stamp(b, 0), c, d, last(rest))?,
-        "fill" => fill(rt, cache, a, &stamp(b, 0), c)?,
-        "page" => page(rt, alloc, cache, a, b)?,
         "saw" => cache.saw(&handle(a), &stamp(b, 0), c),
         "wrote" => cache.wrote(&handle(a), &wcc(b, c), d, last(rest).as_bytes(), e),
         "cut" => cache.cut(&handle(a), &wcc(b, c), d, e),
         "closed" => cache.closed(&handle(a)),
-        _ => println!(rt; "= no such call")?,
+        _ => return println!(rt; "= no such call"),
     }
     Ok(())
 }

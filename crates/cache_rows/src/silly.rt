@@ -15,16 +15,20 @@ pub fn row(
 ) -> io::Result<()> {
     let [a, b, ..] = numbers(rest);
     match word {
-        "new" => *silly = Silly::new(alloc),
-        "plan" => show_plan(rt, alloc, &plan(a == 1, small(b)))?,
+        "new" => renew(alloc, silly),
+        "plan" => show_plan(rt, alloc, &plan(a == 1, small(b))),
         "put" => show_done(
             rt,
             silly.put(&handle(a), &handle(b), &name(last(rest))).is_ok(),
-        )?,
-        "many" => put_many(rt, silly, a)?,
-        "close" => close(rt, alloc, silly, a)?,
-        _ => println!(rt; "= no such call")?,
+        ),
+        "many" => put_many(rt, silly, a),
+        "close" => close(rt, alloc, silly, a),
+        _ => println!(rt; "= no such call"),
     }
+}
+
+fn renew(alloc: Global, silly: &mut Silly) -> io::Result<()> {
+    *silly = Silly::new(alloc);
     Ok(())
 }
 

@@ -1,15 +1,15 @@
 //! Copies trees in memory to a simulated server, and from one to a target in memory. The lines of standard input describe both sides. Each line is printed, and
 //! what comes of it:
 //!
-//! - `words WORDS` are the words of the command line, and `schedule LINE` is a line of the schedule
-//! - `folder PATH`, `file PATH`, `link PATH TARGET`, `other PATH` and `unread PATH N` are what the tree gives, one after another, each path from its root on
-//! - behind a file `bytes HEX` are its next bytes, `end` is its end, and `cut N` and `changed` are that not all of it comes
-//! - `to PATH` and `from PATH` are the path on the server
-//! - `refuse N WHY`: the target refuses the N-th call that gives it something, as `refused`, `unnamed`, `missing`, `kind` or `other`
-//! - `has PATH SIZE`: a file of that size stands at the target, and `sizes`: files of the same size are passed over
-//! - `< LINE` is a line of the script that is run before, and `> LINE` one of that which looks at the server afterwards, each in a session of its own
-//! - `copy` copies to the server, and prints the status, what was told, and the answers to the script afterwards
-//! - `fetch` copies from it, and prints the status, what was told, and what the target took
+//! - `words WORDS` are the words of the command line, and `schedule LINE` is a line of the schedule.
+//! - `folder PATH`, `file PATH`, `link PATH TARGET`, `other PATH` and `unread PATH N` are what the tree gives, one after another, each path from its root on.
+//! - behind a file `bytes HEX` are its next bytes, `end` is its end, and `cut N` and `changed` are that not all of it comes.
+//! - `to PATH` and `from PATH` are the path on the server.
+//! - `refuse N WHY`: the target refuses the N-th call that gives it something, as `refused`, `unnamed`, `missing`, `kind` or `other`.
+//! - `has PATH SIZE`: a file of that size stands at the target, and `sizes`: files of the same size are passed over.
+//! - `< LINE` is a line of the script that is run before, and `> LINE` one of that which looks at the server afterwards. Each has a session of its own.
+//! - `copy` copies to the server, and prints the status, what was told, and the answers to the script afterwards.
+//! - `fetch` copies from it, and prints the status, what was told, and what the target took.
 //!
 //! What comes after `copy` or `fetch` begins anew. A line that is empty or begins with `#` is only printed, and any other one is at fault.
 #![tactic(auto)]
@@ -24,7 +24,7 @@ use copy_targets::MemTarget;
 use file_trees::MemTree;
 use outside::{MemSink, MemSource, TickClock};
 use std::alloc::Global;
-use std::io;
+use std::{io, mem};
 use world_link::{World, parse_schedule};
 
 /// Which way a case goes.
@@ -187,26 +187,33 @@ fn is_silent(line: &str) -> bool {
     line.is_empty() || line.starts_with('#')
 }
 
-fn main(rt: HostRuntime) -> io::Result<()> {
+/// Takes what a line adds to the description, or copies as it asks for.
+fn step(rt: &impl Print, alloc: Global, case: &mut Case, line: &str) -> io::Result<()> {
+    let (word, rest) = line.split_once(' ').unwrap_or((line, ""));
+    if let Some(way) = way_of(word) {
+        return run(rt, alloc, mem::replace(case, empty(alloc)), way);
+    }
+    match takes(alloc, case, word, rest) {
+        Ok(true) => Ok(()),
+        Ok(false) => println!(rt; "  at fault"),
+        Err(_) => println!(rt; "  out of memory"),
+    }
+}
+
+/// Prints each line of standard input, and makes its step.
+fn step_all(rt: &HostRuntime, case: &mut Case) -> io::Result<()> {
     let alloc = rt.alloc();
-    let mut case = empty(alloc);
     for line in rt.lines(alloc) {
         let line = line?;
         println!(rt; "{}", line.as_str())?;
-        let (word, rest) = line.as_str().split_once(' ').unwrap_or((line.as_str(), ""));
-        if is_silent(line.as_str()) {
-            continue;
-        }
-        if let Some(way) = way_of(word) {
-            run(&rt, alloc, case, way)?;
-            case = empty(alloc);
-            continue;
-        }
-        match takes(alloc, &mut case, word, rest) {
-            Ok(true) => {}
-            Ok(false) => println!(rt; "  at fault")?,
-            Err(_) => println!(rt; "  out of memory")?,
+        if !is_silent(line.as_str()) {
+            step(rt, alloc, case, line.as_str())?;
         }
     }
     Ok(())
+}
+
+fn main(rt: HostRuntime) -> io::Result<()> {
+    let mut case = empty(rt.alloc());
+    step_all(&rt, &mut case)
 }

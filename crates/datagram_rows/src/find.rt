@@ -3,7 +3,7 @@
 use crate::show::show_calls;
 use crate::text::{number_of, port_of};
 use outside::MemDatagrams;
-use port_finder::{PortFault, find_ports};
+use port_finder::{PortFault, Ports, find_ports};
 use std::alloc::Global;
 use std::io;
 use udp_link::UdpLink;
@@ -22,11 +22,20 @@ pub fn show_found(
         return println!(rt; "  the next xid doesn't fit");
     }
     let mut link = UdpLink::new(over);
-    match find_ports(alloc, &mut link, port_of(port), xid, number_of(protocol)) {
+    let found = find_ports(alloc, &mut link, port_of(port), xid, number_of(protocol));
+    show_end(rt, found, &link.into_datagrams())
+}
+
+fn show_end(
+    rt: &impl Print,
+    found: Result<Ports, PortFault>,
+    asked: &MemDatagrams,
+) -> io::Result<()> {
+    match found {
         Ok(ports) => println!(rt; "  mount {} nfs {}", ports.mount, ports.nfs)?,
         Err(fault) => show_fault(rt, fault)?,
     }
-    show_calls(rt, &link.into_datagrams())
+    show_calls(rt, asked)
 }
 
 fn show_fault(rt: &impl Print, fault: PortFault) -> io::Result<()> {

@@ -1,11 +1,11 @@
 //! Runs what the lines of standard input describe, over datagrams in memory, and prints each line and what comes of it:
 //!
-//! - `arrival PORT HEX` is a datagram that is to come from that port, `arrivals N PORT HEX` so many of them, and `fail N` a
-//!   call of the datagrams that is to fail, counted from 1
+//! - `arrival PORT HEX` is a datagram that is to come from that port, and `arrivals N PORT HEX` so many of them.
+//! - `fail N` is a call of the datagrams that is to fail, counted from 1.
 //! - `link` makes a link over these datagrams; `dial PORT`, `send HEX`, `receive` and `note` are calls of it, and `calls` prints
-//!   the calls of its datagrams
-//! - `find PORT XID PROTOCOL` asks the port mapper at the port over a link like that, and prints what comes of it and the
-//!   calls of its datagrams
+//!   the calls of its datagrams.
+//! - `find PORT XID PROTOCOL` asks the port mapper at the port over a link like that. It prints what comes of it and the
+//!   calls of its datagrams.
 //!
 //! `[N*TEXT]` in a line stands for so many copies of a text, and digits in hex may be parted by spaces. What makes a link
 //! begins anew after it. Any other line is only printed.
@@ -89,48 +89,77 @@ fn row(
     rest: &str,
 ) -> io::Result<bool> {
     match word {
-        "link" => {
-            *current = match datagrams(alloc, case) {
-                Ok(over) => Some(UdpLink::new(over)),
-                Err(_) => None,
-            };
-            Ok(true)
-        }
-        "find" => {
-            match datagrams(alloc, case) {
-                Ok(over) => find::show_found(rt, alloc, over, rest)?,
-                Err(_) => println!(rt; "  out of memory")?,
-            }
-            Ok(true)
-        }
+        "link" => replace(current, link_of(alloc, case)),
+        "find" => show_ports(rt, alloc, case, rest)?,
         _ => {
             at_link(rt, alloc, current, word, rest)?;
-            Ok(false)
+            return Ok(false);
         }
+    }
+    Ok(true)
+}
+
+/// A link over the datagrams that the lines describe.
+fn link_of(alloc: Global, case: &Case) -> Option<UdpLink<MemDatagrams>> {
+    match datagrams(alloc, case) {
+        Ok(over) => Some(UdpLink::new(over)),
+        Err(_) => None,
     }
 }
 
-fn main(rt: HostRuntime) -> io::Result<()> {
+fn replace(current: &mut Option<UdpLink<MemDatagrams>>, made: Option<UdpLink<MemDatagrams>>) {
+    *current = made;
+}
+
+/// Finds ports over the datagrams that the lines describe.
+fn show_ports(rt: &impl Print, alloc: Global, case: &Case, rest: &str) -> io::Result<()> {
+    match datagrams(alloc, case) {
+        Ok(over) => find::show_found(rt, alloc, over, rest),
+        Err(_) => println!(rt; "  out of memory"),
+    }
+}
+
+/// Takes what a line adds to the description, or does what it asks for.
+fn step(
+    rt: &impl Print,
+    alloc: Global,
+    case: &mut Case,
+    current: &mut Option<UdpLink<MemDatagrams>>,
+    line: &str,
+) -> io::Result<()> {
+    let (word, rest) = line.split_once(' ').unwrap_or((line, ""));
+    match takes(alloc, case, word, rest) {
+        Ok(true) => Ok(()),
+        Ok(false) => {
+            if row(rt, alloc, case, current, word, rest)? {
+                *case = empty(alloc);
+            }
+            Ok(())
+        }
+        Err(_) => println!(rt; "  out of memory"),
+    }
+}
+
+/// Prints each line of standard input, and makes its step.
+fn step_all(
+    rt: &HostRuntime,
+    case: &mut Case,
+    current: &mut Option<UdpLink<MemDatagrams>>,
+) -> io::Result<()> {
     let alloc = rt.alloc();
-    let mut case = empty(alloc);
-    let mut current = None;
     for line in rt.lines(alloc) {
         let line = line?;
         println!(rt; "{}", line.as_str())?;
         let Ok(line) = spread(alloc, line.as_str()) else {
             return println!(rt; "  out of memory");
         };
-        let line = line.as_str();
-        let (word, rest) = line.split_once(' ').unwrap_or((line, ""));
-        match takes(alloc, &mut case, word, rest) {
-            Ok(true) => {}
-            Ok(false) => {
-                if row(&rt, alloc, &case, &mut current, word, rest)? {
-                    case = empty(alloc);
-                }
-            }
-            Err(_) => println!(rt; "  out of memory")?,
-        }
+        step(rt, alloc, case, current, line.as_str())?;
     }
     Ok(())
+}
+
+fn main(rt: HostRuntime) -> io::Result<()> {
+    let mut case = empty(rt.alloc());
+    let mut current = None;
+    step_all(&rt, &mut case, &mut current)
 }

@@ -1,16 +1,16 @@
 //! Does what each line of standard input asks of an export and of a service, and prints the line and what comes of it. A
 //! line is a word and what it needs:
 //!
-//! - `new` begins with a new export and a new service
+//! - `new` begins with a new export and a new service.
 //! - `file PROC HEX`, `dir PROC HEX` and `mount PROC HEX` execute the call of that procedure with these arguments, of which
-//!   NULL has none
-//! - `partial BYTES STATUS HEX` executes a WRITE of these arguments that breaks off after so many bytes
-//! - `place PATH HEX`, `place PATH -` and `mkdir PATH` place a file or a directory
-//! - `find PATH` finds an object, and the size of a file
-//! - `flush HEX OFFSET COUNT` makes bytes of a file stable, and `reboot` restarts the export
-//! - `names COUNT` makes, looks up and removes so many files
-//! - `asked HEX` prints what a record asks for, and `serve HEX` the record of the service's answer
-//! - `nulls XID COUNT` serves so many calls of NULL under xids from that one on
+//!   NULL has none.
+//! - `partial BYTES STATUS HEX` executes a WRITE of these arguments that breaks off after so many bytes.
+//! - `place PATH HEX`, `place PATH -` and `mkdir PATH` place a file or a directory.
+//! - `find PATH` finds an object, and the size of a file.
+//! - `flush HEX OFFSET COUNT` makes bytes of a file stable, and `reboot` restarts the export.
+//! - `names COUNT` makes, looks up and removes so many files.
+//! - `asked HEX` prints what a record asks for, and `serve HEX` the record of the service's answer.
+//! - `nulls XID COUNT` serves so many calls of NULL under xids from that one on.
 //!
 //! Digits in hex may be parted by spaces. Any other line is only printed.
 #![tactic(auto)]
@@ -108,8 +108,13 @@ fn main(rt: HostRuntime) -> io::Result<()> {
     let Ok(mut state) = fresh(rt.alloc()) else {
         return println!(rt; "out of memory");
     };
+    rows(&rt, &mut state)
+}
+
+/// Prints each line of standard input, and does what it asks for.
+fn rows(rt: &HostRuntime, state: &mut State) -> io::Result<()> {
     for line in rt.lines(rt.alloc()) {
-        row(&rt, rt.alloc(), &mut state, line?.as_str())?;
+        row(rt, rt.alloc(), state, line?.as_str())?;
     }
     Ok(())
 }

@@ -1,12 +1,12 @@
 //! Runs sessions one after the other over one simulated server and one store of pages, whose disk is in memory. The lines of
 //! standard input describe them. It prints each line and what comes of it:
 //!
-//! - `schedule LINE` is a line of the schedule; `begin` makes the server, and a store of an empty disk
+//! - `schedule LINE` is a line of the schedule; `begin` makes the server, and a store of an empty disk.
 //! - `words WORDS`, `script LINE` and `label WORDS` describe a session; `run` runs it, and prints its status and the lines that
-//!   were written
-//! - `pages` prints the pages of the store, and the words of its label
+//!   were written.
+//! - `pages` prints the pages of the store, and the words of its label.
 //! - `stops FIRST LAST` runs the session over a new server and an empty store for each of these calls of the disk, counted
-//!   from 1. That call fails; the disk crashes; it prints the pages that are found then, and what the session's next run comes to
+//!   from 1. That call fails; the disk crashes; it prints the pages that are found then, and what the session's next run comes to.
 //!
 //! A session is described anew after `run`. Any other line is only printed.
 #![tactic(auto)]
@@ -37,10 +37,7 @@ fn row(
     rest: &str,
 ) -> io::Result<()> {
     match word {
-        "begin" => {
-            state.ground = begin(alloc, state.case.schedule.as_slice(), &[]);
-            Ok(())
-        }
+        "begin" => renew(alloc, state),
         "stops" => stops::show(rt, alloc, &state.case, rest),
         "run" => run(rt, alloc, state),
         "pages" => pages(rt, alloc, &state.ground),
@@ -49,6 +46,12 @@ fn row(
             Err(_) => println!(rt; "  out of memory"),
         },
     }
+}
+
+/// Begins with a new server and an empty store.
+fn renew(alloc: Global, state: &mut State) -> io::Result<()> {
+    state.ground = begin(alloc, state.case.schedule.as_slice(), &[]);
+    Ok(())
 }
 
 /// Runs a session over the server and the store. The next one is described anew.
@@ -71,17 +74,22 @@ fn pages(rt: &impl Print, alloc: Global, ground: &Option<Ground>) -> io::Result<
     }
 }
 
-fn main(rt: HostRuntime) -> io::Result<()> {
+/// Prints each line of standard input, and does what it asks for.
+fn rows(rt: &HostRuntime, state: &mut State) -> io::Result<()> {
     let alloc = rt.alloc();
-    let mut state = State {
-        case: empty(alloc),
-        ground: None,
-    };
     for line in rt.lines(alloc) {
         let line = line?;
         println!(rt; "{}", line.as_str())?;
         let (word, rest) = line.as_str().split_once(' ').unwrap_or((line.as_str(), ""));
-        row(&rt, alloc, &mut state, word, rest)?;
+        row(rt, alloc, state, word, rest)?;
     }
     Ok(())
+}
+
+fn main(rt: HostRuntime) -> io::Result<()> {
+    let mut state = State {
+        case: empty(rt.alloc()),
+        ground: None,
+    };
+    rows(&rt, &mut state)
 }

@@ -8,7 +8,7 @@ use nfs_file_calls::FileReply;
 use nfs_types::{Attr, Handle, Name, Stamp, Status, Time, Verf, Wcc};
 use std::alloc::Global;
 use world_model::Fault;
-use xdr_codec::{Blob, Memory, Writer};
+use xdr_codec::{Blob, Lent, Memory, Writer};
 
 /// A time in whole seconds.
 fn time(seconds: u64) -> Time {
@@ -39,7 +39,7 @@ fn attr(kind: u64, size: u64, mtime: u64) -> Attr {
     }
 }
 
-/// The same where there are any: kind 0 stands for none.
+/// The same if there are any: kind 0 stands for none.
 fn attr_of(kind: u64, size: u64, mtime: u64) -> Option<Attr> {
     if kind == 0 {
         None
@@ -48,7 +48,7 @@ fn attr_of(kind: u64, size: u64, mtime: u64) -> Option<Attr> {
     }
 }
 
-/// The attributes of a file before a change, where there are any: second 0 stands for none.
+/// The attributes of a file before a change, if there are any: second 0 stands for none.
 fn stamp_of(size: u64, mtime: u64) -> Option<Stamp> {
     if mtime == 0 {
         return None;
@@ -170,8 +170,8 @@ fn entries(alloc: Global, words: &str) -> Result<Blob, Memory> {
 pub(crate) fn came<'a>(word: &str, words: &'a str, body: &'a [u8]) -> Came<'a> {
     let [a, b, c, d, e, f, g] = numbers(words);
     match word {
-        "record" => came_of(small(a), body),
-        "zeros" => came_of(small(a), body),
+        "record" => came_of(small(a), &Lent::of(body)),
+        "zeros" => came_of(small(a), &Lent::of(body)),
         "wrote" => Came::File(FileReply::Write {
             wcc: change(d, e, f, g),
             count: small(a),
@@ -182,13 +182,13 @@ pub(crate) fn came<'a>(word: &str, words: &'a str, body: &'a [u8]) -> Came<'a> {
             attr: attr_of(a, b, c),
             count: small(d),
             eof: e == 1,
-            bytes: text(words).as_bytes(),
+            bytes: Lent::of(text(words).as_bytes()),
         }),
         "filled" => Came::File(FileReply::Read {
             attr: attr_of(a, b, c),
             count: small(d),
             eof: e == 1,
-            bytes: body,
+            bytes: Lent::of(body),
         }),
         "target" => Came::Dir(DirReply::ReadLink {
             attr: attr_of(a, b, c),

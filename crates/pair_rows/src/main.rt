@@ -1,7 +1,7 @@
 //! Runs what the lines of standard input describe, over a simulated server with two ends, and prints each line and what comes of it:
 //!
-//! - `schedule LINE` is a line of a schedule; `pair` begins a world by these lines, and prints its tick and its order, or the line that is at fault
-//! - `a dial PORT`, `a send HEX`, `a receive` and `a note` are calls at the end of client a, and `b ..` at that of client b
+//! - `schedule LINE` is a line of a schedule; `pair` begins a world by these lines, and prints its tick and its order, or the line that is at fault.
+//! - `a dial PORT`, `a send HEX`, `a receive` and `a note` are calls at the end of client a, and `b ..` at that of client b.
 //!
 //! A received record is printed in words of four bytes. What begins a world begins anew after it. Any other line is only printed.
 #![tactic(auto)]
@@ -101,26 +101,50 @@ fn begin(rt: &impl Print, alloc: Global, schedule: &str) -> io::Result<Option<Pa
     }
 }
 
-fn main(rt: HostRuntime) -> io::Result<()> {
-    let alloc = rt.alloc();
-    let mut schedule = String::new(alloc);
-    let mut current = None;
-    for line in rt.lines(alloc) {
+/// What the lines so far led to.
+#[derive(Drop)]
+struct State {
+    schedule: String,
+    current: Option<PairWorld>,
+}
+
+/// Begins the world of the schedule so far, in place of the one before.
+fn renew(rt: &impl Print, alloc: Global, state: &mut State) -> io::Result<()> {
+    let current = begin(rt, alloc, state.schedule.as_str())?;
+    *state = State {
+        schedule: String::new(alloc),
+        current,
+    };
+    Ok(())
+}
+
+/// Prints a line, and does what it asks for.
+fn step(rt: &impl Print, alloc: Global, state: &mut State, line: &str) -> io::Result<()> {
+    println!(rt; "{line}")?;
+    let (word, rest) = line.split_once(' ').unwrap_or((line, ""));
+    match word {
+        "schedule" => match add(&mut state.schedule, rest) {
+            Ok(()) => Ok(()),
+            Err(_) => println!(rt; "  out of memory"),
+        },
+        "pair" => renew(rt, alloc, state),
+        _ => at_world(rt, alloc, &mut state.current, word, rest),
+    }
+}
+
+/// Makes the step of each line of standard input.
+fn step_all(rt: &HostRuntime, state: &mut State) -> io::Result<()> {
+    for line in rt.lines(rt.alloc()) {
         let line = line?;
-        println!(rt; "{}", line.as_str())?;
-        let (word, rest) = line.as_str().split_once(' ').unwrap_or((line.as_str(), ""));
-        match word {
-            "schedule" => {
-                if add(&mut schedule, rest).is_err() {
-                    return println!(rt; "  out of memory");
-                }
-            }
-            "pair" => {
-                current = begin(&rt, alloc, schedule.as_str())?;
-                schedule = String::new(alloc);
-            }
-            _ => at_world(&rt, alloc, &mut current, word, rest)?,
-        }
+        step(rt, rt.alloc(), state, line.as_str())?;
     }
     Ok(())
+}
+
+fn main(rt: HostRuntime) -> io::Result<()> {
+    let mut state = State {
+        schedule: String::new(rt.alloc()),
+        current: None,
+    };
+    step_all(&rt, &mut state)
 }

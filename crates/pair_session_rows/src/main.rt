@@ -1,8 +1,8 @@
 //! Runs sessions of two clients over a simulated server, which the lines of standard input describe, and prints each line and what comes of it:
 //!
-//! - `schedule LINE` is a line of the schedule, `a LINE` one of client a's script, and `b LINE` one of client b's
-//! - `read_a N`, `read_b N` and `write N` make that call of the source of a's script, of that of b's, and of the sink fail
-//! - `run` runs both, and prints the status and the lines that were written, or the line of the schedule that is at fault
+//! - `schedule LINE` is a line of the schedule, `a LINE` one of client a's script, and `b LINE` one of client b's.
+//! - `read_a N`, `read_b N` and `write N` make that call of the source of a's script, of that of b's, and of the sink fail.
+//! - `run` runs both, and prints the status and the lines that were written, or the line of the schedule that is at fault.
 //!
 //! What comes after `run` begins anew. Any other line is only printed.
 #![tactic(auto)]
@@ -60,19 +60,31 @@ fn show_lines(rt: &impl Print, text: &str) -> io::Result<()> {
     Ok(())
 }
 
-fn main(rt: HostRuntime) -> io::Result<()> {
-    let alloc = rt.alloc();
-    let mut case = empty(alloc);
-    for line in rt.lines(alloc) {
+/// Prints a line, and takes what it adds to the description, or runs what was described.
+fn step(rt: &impl Print, alloc: Global, case: &mut Case, line: &str) -> io::Result<()> {
+    println!(rt; "{line}")?;
+    let (word, rest) = line.split_once(' ').unwrap_or((line, ""));
+    if word == "run" {
+        run(rt, alloc, case)?;
+        *case = empty(alloc);
+        return Ok(());
+    }
+    match takes(case, word, rest) {
+        Ok(()) => Ok(()),
+        Err(_) => println!(rt; "  out of memory"),
+    }
+}
+
+/// Makes the step of each line of standard input.
+fn step_all(rt: &HostRuntime, case: &mut Case) -> io::Result<()> {
+    for line in rt.lines(rt.alloc()) {
         let line = line?;
-        println!(rt; "{}", line.as_str())?;
-        let (word, rest) = line.as_str().split_once(' ').unwrap_or((line.as_str(), ""));
-        if word == "run" {
-            run(&rt, alloc, &case)?;
-            case = empty(alloc);
-        } else if takes(&mut case, word, rest).is_err() {
-            println!(rt; "  out of memory")?;
-        }
+        step(rt, rt.alloc(), case, line.as_str())?;
     }
     Ok(())
+}
+
+fn main(rt: HostRuntime) -> io::Result<()> {
+    let mut case = empty(rt.alloc());
+    step_all(&rt, &mut case)
 }

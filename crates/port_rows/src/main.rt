@@ -1,15 +1,17 @@
 //! Runs what the lines of standard input describe: sessions whose ports a port mapper tells, and sessions over datagrams. It
 //! prints each line and what comes of it:
 //!
-//! - `portmap WORDS` prints the port mapper that the words name and the other words, `ports MOUNT NFS WORDS` the words with these
-//!   ports, `udp WORDS` those of a session over UDP, and `batches WORDS` those of a session of batches
+//! - `portmap WORDS` prints the port mapper that the words name, and the other words; `ports MOUNT NFS WORDS` prints the words
+//!   with these ports.
+//! - `udp WORDS` prints the words of a session over UDP, and `batches WORDS` those of a session of batches.
 //! - `words WORDS`, `script LINE` and `schedule LINE` describe a session: its words, lines of its script, and lines of the schedule
-//!   of a simulated server; `write N` makes that call of the sink fail
-//! - `told PORT HEX` is a datagram that comes from the port mapper, `arrival PORT HEX` one that comes from the server, and `fail N` a
-//!   call of the link that fails, counted from 1: to the port mapper, or with `datagrams` to the server
-//! - `found` runs the session by a port mapper over the simulated server, and prints its status, what it wrote and what was
-//!   asked of the port mapper; `dialed` runs it over datagrams, and prints what was asked of the server
-//! - `datagrams` runs a session over datagrams, and prints its status, what it wrote and what was asked of the server
+//!   of a simulated server; `write N` makes that call of the sink fail.
+//! - `told PORT HEX` is a datagram that comes from the port mapper, and `arrival PORT HEX` one that comes from the server.
+//! - `fail N` is a call of the link that fails, counted from 1: to the port mapper, or with `datagrams` to the server.
+//! - `found` runs the session by a port mapper over the simulated server. It prints its status, what it wrote and what was
+//!   asked of the port mapper.
+//! - `dialed` runs it over datagrams, and prints what was asked of the server.
+//! - `datagrams` runs a session over datagrams, and prints its status, what it wrote and what was asked of the server.
 //!
 //! `[N*TEXT]` in a line stands for so many copies of a text, and digits in hex may be parted by spaces. What runs a session begins
 //! anew after it. Any other line is only printed.
@@ -41,26 +43,36 @@ fn row(rt: &impl Print, alloc: Global, case: &Case, word: &str, rest: &str) -> i
     Ok(true)
 }
 
-fn main(rt: HostRuntime) -> io::Result<()> {
+/// Takes what a line adds to the description, or does what it asks for.
+fn step(rt: &impl Print, alloc: Global, case: &mut Case, line: &str) -> io::Result<()> {
+    let (word, rest) = line.split_once(' ').unwrap_or((line, ""));
+    match takes(alloc, case, word, rest) {
+        Ok(true) => Ok(()),
+        Ok(false) => {
+            if row(rt, alloc, case, word, rest)? {
+                *case = empty(alloc);
+            }
+            Ok(())
+        }
+        Err(_) => println!(rt; "  out of memory"),
+    }
+}
+
+/// Prints each line of standard input, and makes its step.
+fn step_all(rt: &HostRuntime, case: &mut Case) -> io::Result<()> {
     let alloc = rt.alloc();
-    let mut case = empty(alloc);
     for line in rt.lines(alloc) {
         let line = line?;
         println!(rt; "{}", line.as_str())?;
         let Ok(line) = spread(alloc, line.as_str()) else {
             return println!(rt; "  out of memory");
         };
-        let line = line.as_str();
-        let (word, rest) = line.split_once(' ').unwrap_or((line, ""));
-        match takes(alloc, &mut case, word, rest) {
-            Ok(true) => {}
-            Ok(false) => {
-                if row(&rt, alloc, &case, word, rest)? {
-                    case = empty(alloc);
-                }
-            }
-            Err(_) => println!(rt; "  out of memory")?,
-        }
+        step(rt, alloc, case, line.as_str())?;
     }
     Ok(())
+}
+
+fn main(rt: HostRuntime) -> io::Result<()> {
+    let mut case = empty(rt.alloc());
+    step_all(&rt, &mut case)
 }

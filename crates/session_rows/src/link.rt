@@ -27,7 +27,7 @@ pub enum Current {
     Narrow(StreamLink<Narrow>),
 }
 
-/// Makes the link that the lines describe; none where they describe none.
+/// Makes the link that the lines describe; none if they describe none.
 pub fn make_link(alloc: Global, case: &Case, word: &str, rest: &str) -> Current {
     match word {
         "world" => match parse_schedule(alloc, case.schedule.as_slice()) {
@@ -53,7 +53,7 @@ pub fn wire(alloc: Global, case: &Case) -> Result<MemWire, Memory> {
     Ok(wire)
 }
 
-/// The wire whose write of a number fails, by lack of memory where the word after it says so.
+/// The wire whose write of a number fails, by lack of memory if the word after it says so.
 fn narrow(rest: &str) -> Narrow {
     let (number, word) = rest.split_once(' ').unwrap_or((rest, ""));
     let fault = if word == "memory" {
@@ -106,7 +106,7 @@ fn call<L: Link>(
     }
 }
 
-/// The number of a port; 0 where it is none.
+/// The number of a port; 0 if it is none.
 fn port_of(text: &str) -> u16 {
     text.parse::<u16>().unwrap_or(0)
 }
@@ -157,26 +157,29 @@ pub fn show_bytes(rt: &impl Print, bytes: &[u8]) -> io::Result<()> {
 fn show_end(rt: &impl Print, alloc: Global, current: Current) -> io::Result<()> {
     match current {
         Current::None => Ok(()),
-        Current::World(world) => show_left(rt, world.into_export()),
-        Current::Stream(link) => {
-            for entry in link.into_wire().entries() {
-                if let WireEntry::Wrote { bytes } = entry {
-                    show_bytes(rt, bytes.bytes())?;
-                }
-            }
-            Ok(())
-        }
+        Current::World(world) => show_left(rt, &mut world.into_export()),
+        Current::Stream(link) => show_writes(rt, link.into_wire().entries()),
         Current::Narrow(link) => println!(rt; "  {} writes", link.into_wire().writes()),
     }
 }
 
+/// Prints what was written to a wire.
+fn show_writes(rt: &impl Print, entries: &[WireEntry]) -> io::Result<()> {
+    for entry in entries {
+        if let WireEntry::Wrote { bytes } = entry {
+            show_bytes(rt, bytes.bytes())?;
+        }
+    }
+    Ok(())
+}
+
 /// Prints the bytes of the file handle 2, and those after a restart.
-fn show_left(rt: &impl Print, mut export: Export) -> io::Result<()> {
-    show_file(rt, &mut export)?;
+fn show_left(rt: &impl Print, export: &mut Export) -> io::Result<()> {
+    show_file(rt, export)?;
     if !export.reboot() {
         println!(rt; "  no restart")?;
     }
-    show_file(rt, &mut export)
+    show_file(rt, export)
 }
 
 fn show_file(rt: &impl Print, export: &mut Export) -> io::Result<()> {

@@ -9,7 +9,7 @@ use rpc_record::StreamLink;
 use script_runs::run;
 use std::alloc::Global;
 use std::io;
-use world_link::{ScheduleFault, parse_schedule};
+use world_link::{ScheduleFault, World, parse_schedule};
 use xdr_codec::Memory;
 
 /// Prints how many operations the script asks for, or the line and kind of its fault.
@@ -36,21 +36,31 @@ fn show_fault(rt: &impl Print, fault: ScheduleFault) -> io::Result<()> {
     }
 }
 
-/// Runs the session over the simulated server, by the clock's readings where some are given, and prints its status and what
+/// Runs the session over the simulated server, by the clock's readings if some are given, and prints its status and what
 /// it wrote.
 pub fn run_over_world(rt: &impl Print, alloc: Global, case: &Case) -> io::Result<()> {
-    let (mut world, tick) = match parse_schedule(alloc, case.schedule.as_slice()) {
-        Ok(planned) => planned,
-        Err(fault) => return show_fault(rt, fault),
-    };
+    match parse_schedule(alloc, case.schedule.as_slice()) {
+        Ok((mut world, tick)) => run_by_clock(rt, alloc, case, &mut world, tick),
+        Err(fault) => show_fault(rt, fault),
+    }
+}
+
+/// Runs the session over that server, by the clock's readings or by the tick.
+fn run_by_clock(
+    rt: &impl Print,
+    alloc: Global,
+    case: &Case,
+    world: &mut World,
+    tick: u64,
+) -> io::Result<()> {
     if case.clock.is_empty() {
-        return run_over(rt, alloc, case, &mut world, &mut TickClock::new(tick));
+        return run_over(rt, alloc, case, world, &mut TickClock::new(tick));
     }
     run_over(
         rt,
         alloc,
         case,
-        &mut world,
+        world,
         &mut GivenClock::new(case.clock.as_slice()),
     )
 }
@@ -70,9 +80,16 @@ pub fn run_over_stream(rt: &impl Print, alloc: Global, case: &Case, number: u32)
         return println!(rt; "  out of memory");
     };
     let mut link = StreamLink::new(alloc, wire);
-    run_over(rt, alloc, case, &mut link, &mut TickClock::new(0))?;
+    let ran = run_over(rt, alloc, case, &mut link, &mut TickClock::new(0));
+    let wire = link.into_wire();
+    ran?;
+    show_write(rt, wire.entries(), number)
+}
+
+/// Prints what was written in the write of that number, counted from 1.
+fn show_write(rt: &impl Print, entries: &[WireEntry], number: u32) -> io::Result<()> {
     let mut writes = 0_u32;
-    for entry in link.into_wire().entries() {
+    for entry in entries {
         if let WireEntry::Wrote { bytes } = entry {
             writes = writes.saturating_add(1);
             if writes == number {
@@ -98,17 +115,37 @@ fn run_over<L: Link, C: Clock>(
     link: &mut L,
     clock: &mut C,
 ) -> io::Result<()> {
-    let script = case.script.as_slice();
-    let (Ok(mut source), Ok(mut sink)) = (
-        MemSource::new(alloc, script, case.reads.as_slice()),
-        MemSink::new(alloc, case.writes.as_slice()),
-    ) else {
-        return println!(rt; "  out of memory");
-    };
+    match ends_of(alloc, case) {
+        Ok(mut ends) => run_between(rt, alloc, case, link, clock, &mut ends),
+        Err(_) => println!(rt; "  out of memory"),
+    }
+}
+
+/// Where a session reads its script, and where it writes.
+#[derive(Drop)]
+struct Ends {
+    source: MemSource,
+    sink: MemSink,
+}
+
+fn ends_of(alloc: Global, case: &Case) -> Result<Ends, Memory> {
+    let source = MemSource::new(alloc, case.script.as_slice(), case.reads.as_slice())?;
+    let sink = MemSink::new(alloc, case.writes.as_slice())?;
+    Ok(Ends { source, sink })
+}
+
+fn run_between<L: Link, C: Clock>(
+    rt: &impl Print,
+    alloc: Global,
+    case: &Case,
+    link: &mut L,
+    clock: &mut C,
+    ends: &mut Ends,
+) -> io::Result<()> {
     let words = case.words.as_slice();
-    let status = run(alloc, words, &mut source, link, clock, &mut sink);
+    let status = run(alloc, words, &mut ends.source, link, clock, &mut ends.sink);
     println!(rt; "  status {status}")?;
-    match std::str::from_utf8(sink.bytes()) {
+    match std::str::from_utf8(ends.sink.bytes()) {
         Ok(text) => show_lines(rt, text),
         Err(_) => println!(rt; "  no text"),
     }

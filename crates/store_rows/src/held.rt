@@ -7,7 +7,7 @@ use crate::words::{
 };
 use page_store::{Disk, DiskCall, MemDisk, OpenFault, PageStore, StoreFault};
 use std::alloc::Global;
-use std::io;
+use std::{io, mem};
 
 /// What the lines so far led to.
 #[derive(Drop)]
@@ -22,26 +22,88 @@ pub enum Held {
 
 impl Held {
     /// Does a call.
-    pub fn row(self, rt: &HostRuntime, alloc: Global, word: &str, rest: &str) -> io::Result<Held> {
+    pub fn step(
+        &mut self,
+        rt: &HostRuntime,
+        alloc: Global,
+        word: &str,
+        rest: &str,
+    ) -> io::Result<()> {
+        match word {
+            "new" => self.renew(rt, alloc, rest),
+            "open" => self.open(rt, alloc, rest),
+            "close" => self.close(),
+            _ => self.call(rt, alloc, word, rest),
+        }
+    }
+
+    /// Does a call of what is held.
+    fn call(&mut self, rt: &HostRuntime, alloc: Global, word: &str, rest: &str) -> io::Result<()> {
         match self {
-            Held::Nothing => new_disk(rt, alloc, word, rest),
+            Held::Nothing => Ok(()),
             Held::Disk(disk) => on_disk(rt, alloc, disk, word, rest),
             Held::Store(store) => on_store(rt, alloc, store, word, rest),
         }
     }
-}
 
-/// Makes a disk, if the line asks for it.
-fn new_disk(rt: &HostRuntime, alloc: Global, word: &str, rest: &str) -> io::Result<Held> {
-    if word != "new" {
-        return Ok(Held::Nothing);
+    fn hold(&mut self, held: Held) {
+        *self = held;
     }
-    match MemDisk::new(alloc, &numbers(rest).map(small)) {
-        Ok(disk) => Ok(Held::Disk(disk)),
-        Err(_) => {
-            println!(rt; "= memory")?;
-            Ok(Held::Nothing)
+
+    /// Makes a disk in place of what is held.
+    fn renew(&mut self, rt: &HostRuntime, alloc: Global, rest: &str) -> io::Result<()> {
+        match MemDisk::new(alloc, &numbers(rest).map(small)) {
+            Ok(disk) => {
+                self.hold(Held::Disk(disk));
+                Ok(())
+            }
+            Err(_) => {
+                self.hold(Held::Nothing);
+                println!(rt; "= memory")
+            }
         }
+    }
+
+    /// Opens the disk that is held, if one is.
+    fn open(&mut self, rt: &HostRuntime, alloc: Global, rest: &str) -> io::Result<()> {
+        match mem::replace(self, Held::Nothing) {
+            Held::Disk(disk) => self.open_disk(rt, alloc, disk, rest),
+            other => {
+                self.hold(other);
+                Ok(())
+            }
+        }
+    }
+
+    /// Holds the store of a disk, or the disk again if it is none.
+    fn open_disk(
+        &mut self,
+        rt: &HostRuntime,
+        alloc: Global,
+        disk: MemDisk,
+        rest: &str,
+    ) -> io::Result<()> {
+        let [slots, ..] = numbers(rest);
+        match opened(alloc, disk, small(slots)) {
+            Ok(store) => {
+                self.hold(Held::Store(store));
+                println!(rt; "= done")
+            }
+            Err(OpenFault { disk, fault }) => {
+                self.hold(Held::Disk(disk));
+                println!(rt; "= {fault:?}")
+            }
+        }
+    }
+
+    /// Closes the store that is held, if one is: its disk is held again.
+    fn close(&mut self) -> io::Result<()> {
+        let held = match mem::replace(self, Held::Nothing) {
+            Held::Store(store) => Held::Disk(store.into_disk()),
+            other => other,
+        };
+        self.hold(held);
+        Ok(())
     }
 }
 
@@ -49,27 +111,23 @@ fn new_disk(rt: &HostRuntime, alloc: Global, word: &str, rest: &str) -> io::Resu
 fn on_disk(
     rt: &HostRuntime,
     alloc: Global,
-    disk: MemDisk,
+    disk: &mut MemDisk,
     word: &str,
     rest: &str,
-) -> io::Result<Held> {
-    let mut disk = disk;
+) -> io::Result<()> {
     let [a, b, ..] = numbers(rest);
     match word {
-        "new" => return new_disk(rt, alloc, word, rest),
-        "format" => show_done(rt, format(alloc, &mut disk, small(a)))?,
-        "open" => return open(rt, alloc, disk, small(a)),
-        "sync" => println!(rt; "= {:?}", disk.sync())?,
-        "crash" => println!(rt; "= {:?}", disk.crash())?,
-        "write" => write(rt, alloc, &mut disk, a, last(rest))?,
-        "bytes" => show_bytes(rt, alloc, part(disk.bytes(), a, b))?,
-        "last" => last_calls(rt, disk.calls(), a)?,
-        _ => {}
+        "format" => show_done(rt, format(alloc, disk, small(a))),
+        "sync" => println!(rt; "= {:?}", disk.sync()),
+        "crash" => println!(rt; "= {:?}", disk.crash()),
+        "write" => write(rt, alloc, disk, a, last(rest)),
+        "bytes" => show_bytes(rt, alloc, part(disk.bytes(), a, b)),
+        "last" => last_calls(rt, disk.calls(), a),
+        _ => Ok(()),
     }
-    Ok(Held::Disk(disk))
 }
 
-/// Formats a disk, for so many slots where a number from 1,024 to 65,536 is given.
+/// Formats a disk, for so many slots if a number from 1,024 to 65,536 is given.
 fn format(alloc: Global, disk: &mut MemDisk, slots: u32) -> Result<(), StoreFault> {
     if slots >= 1024 && slots <= 65_536 {
         PageStore::format_sized(alloc, disk, slots)
@@ -78,7 +136,7 @@ fn format(alloc: Global, disk: &mut MemDisk, slots: u32) -> Result<(), StoreFaul
     }
 }
 
-/// Opens a disk, with so many slots where a number from 1,024 to 65,536 is given.
+/// Opens a disk, with so many slots if a number from 1,024 to 65,536 is given.
 fn opened(
     alloc: Global,
     disk: MemDisk,
@@ -91,60 +149,68 @@ fn opened(
     }
 }
 
-/// Opens a store.
-fn open(rt: &HostRuntime, alloc: Global, disk: MemDisk, slots: u32) -> io::Result<Held> {
-    match opened(alloc, disk, slots) {
-        Ok(store) => {
-            println!(rt; "= done")?;
-            Ok(Held::Store(store))
-        }
-        Err(refused) => {
-            println!(rt; "= {:?}", refused.fault)?;
-            Ok(Held::Disk(refused.disk))
-        }
-    }
-}
-
-/// Does a call of a store.
+/// Does a call of a store that may change it.
 fn on_store(
     rt: &HostRuntime,
     alloc: Global,
-    pages: PageStore<MemDisk>,
+    pages: &mut PageStore<MemDisk>,
     word: &str,
     rest: &str,
-) -> io::Result<Held> {
-    let mut pages = pages;
+) -> io::Result<()> {
     let [a, b, c, d, ..] = numbers(rest);
     match word {
-        "new" => return new_disk(rt, alloc, word, rest),
-        "close" => return Ok(Held::Disk(pages.into_disk())),
-        "store" => match store(&mut pages, small(a), b, c, d, last(rest)) {
-            Some(result) => show_done(rt, result)?,
-            None => println!(rt; "= no such slot or page")?,
-        },
-        "begin" => begin(rt, alloc, &mut pages, rest)?,
-        "fill" => match fill(&mut pages, small(a), b, c, d, last(rest)) {
-            Some(Ok(true)) => println!(rt; "= done")?,
-            Some(Ok(false)) => println!(rt; "= not in the round")?,
-            Some(Err(fault)) => println!(rt; "= {fault:?}")?,
-            None => println!(rt; "= no such page")?,
-        },
-        "finish" => show_done(rt, pages.finish())?,
-        "empty" => println!(rt; "= {}", pages.is_empty())?,
-        "kept" => kept::row(rt, alloc, &mut pages, rest)?,
-        "label" if rest.is_empty() => show_label(rt, alloc, &pages)?,
-        "label" => match label(&mut pages, a, last(rest)) {
-            Some(result) => show_done(rt, result)?,
-            None => println!(rt; "= no such label")?,
-        },
-        "page" => show_slot(rt, alloc, &pages, small(a))?,
-        "find" => match pages.find(&handle(a), &stamp(b), c) {
-            Some(bytes) => show_bytes(rt, alloc, bytes)?,
-            None => println!(rt; "= none")?,
-        },
-        _ => {}
+        "store" => show_stored(rt, store(pages, small(a), b, c, d, last(rest))),
+        "begin" => begin(rt, alloc, pages, rest),
+        "fill" => show_filled(rt, fill(pages, small(a), b, c, d, last(rest))),
+        "finish" => show_done(rt, pages.finish()),
+        "kept" => kept::row(rt, alloc, pages, rest),
+        "label" if !rest.is_empty() => show_labelled(rt, label(pages, a, last(rest))),
+        _ => ask(rt, alloc, pages, word, rest),
     }
-    Ok(Held::Store(pages))
+}
+
+/// Prints what a line asks of a store.
+fn ask(
+    rt: &HostRuntime,
+    alloc: Global,
+    pages: &PageStore<MemDisk>,
+    word: &str,
+    rest: &str,
+) -> io::Result<()> {
+    let [a, b, c, ..] = numbers(rest);
+    match word {
+        "empty" => println!(rt; "= {}", pages.is_empty()),
+        "label" => show_label(rt, alloc, pages),
+        "page" => show_slot(rt, alloc, pages, small(a)),
+        "find" => match pages.find(&handle(a), &stamp(b), c) {
+            Some(bytes) => show_bytes(rt, alloc, bytes),
+            None => println!(rt; "= none"),
+        },
+        _ => Ok(()),
+    }
+}
+
+fn show_stored(rt: &HostRuntime, stored: Option<Result<(), StoreFault>>) -> io::Result<()> {
+    match stored {
+        Some(result) => show_done(rt, result),
+        None => println!(rt; "= no such slot or page"),
+    }
+}
+
+fn show_filled(rt: &HostRuntime, filled: Option<Result<bool, StoreFault>>) -> io::Result<()> {
+    match filled {
+        Some(Ok(true)) => println!(rt; "= done"),
+        Some(Ok(false)) => println!(rt; "= not in the round"),
+        Some(Err(fault)) => println!(rt; "= {fault:?}"),
+        None => println!(rt; "= no such page"),
+    }
+}
+
+fn show_labelled(rt: &HostRuntime, labelled: Option<Result<(), StoreFault>>) -> io::Result<()> {
+    match labelled {
+        Some(result) => show_done(rt, result),
+        None => println!(rt; "= no such label"),
+    }
 }
 
 /// Begins a round of these slots.

@@ -1,10 +1,10 @@
 //! Judges the histories that the lines of standard input tell, and prints what comes of each. A line is a word and what it needs:
 //!
-//! - `t LINE` adds a line to the trace, and `lines N LINE` adds that line so many times
-//! - `read N` and `write N` make that call of the source and of the sink fail
-//! - `check` prints the verdict on the trace
-//! - `print` says whether what is printed of it is the same text
-//! - `run` reads it from a source, writes the verdict to a sink, and prints the status and what was written
+//! - `t LINE` adds a line to the trace, and `lines N LINE` adds that line so many times.
+//! - `read N` and `write N` make that call of the source and of the sink fail.
+//! - `check` prints the verdict on the trace.
+//! - `print` says whether what is printed of it is the same text.
+//! - `run` reads it from a source, writes the verdict to a sink, and prints the status and what was written.
 //!
 //! After each of the last three the next trace begins. Any other line is only printed.
 #![tactic(auto)]
@@ -107,24 +107,32 @@ fn judges(rt: &impl Print, alloc: Global, case: &Case, word: &str) -> io::Result
     Ok(true)
 }
 
-fn main(rt: HostRuntime) -> io::Result<()> {
-    let alloc = rt.alloc();
-    let mut case = empty(alloc);
-    for line in rt.lines(alloc) {
-        let line = line?;
-        let line = line.as_str();
-        let (word, rest) = line.split_once(' ').unwrap_or((line, ""));
-        match takes(&mut case, word, rest) {
-            Ok(true) => {}
-            Ok(false) => {
-                if judges(&rt, alloc, &case, word)? {
-                    case = empty(alloc);
-                } else {
-                    println!(rt; "{line}")?;
-                }
+/// Takes what a line adds to the description, or judges what was described; else the line is printed.
+fn step(rt: &impl Print, alloc: Global, case: &mut Case, line: &str) -> io::Result<()> {
+    let (word, rest) = line.split_once(' ').unwrap_or((line, ""));
+    match takes(case, word, rest) {
+        Ok(true) => Ok(()),
+        Ok(false) => {
+            if !judges(rt, alloc, case, word)? {
+                return println!(rt; "{line}");
             }
-            Err(_) => println!(rt; "  out of memory")?,
+            *case = empty(alloc);
+            Ok(())
         }
+        Err(_) => println!(rt; "  out of memory"),
+    }
+}
+
+/// Makes the step of each line of standard input.
+fn step_all(rt: &HostRuntime, case: &mut Case) -> io::Result<()> {
+    for line in rt.lines(rt.alloc()) {
+        let line = line?;
+        step(rt, rt.alloc(), case, line.as_str())?;
     }
     Ok(())
+}
+
+fn main(rt: HostRuntime) -> io::Result<()> {
+    let mut case = empty(rt.alloc());
+    step_all(&rt, &mut case)
 }
