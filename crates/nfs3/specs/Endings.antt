@@ -1,62 +1,30 @@
 -- How the program ends.
-use Rattle.std.specs.Prelude.{ℕ, List, codes, ◌==◌, if◌then◌else◌, Option, Some, None}
+use Rattle.std.specs.Prelude.{ℕ}
 use Rattle.export_session.specs.declared.next.End.{End}
 use Rattle.export_session.specs.declared.next.End.TheVariants as ends
-use Rattle.world_link.specs.declared.schedule.ScheduleFault.{ScheduleFault}
-use Rattle.world_link.specs.declared.schedule.ScheduleFault.TheVariants as schedules
-use Rattle.net_edge.specs.declared.stand_ins.StandardStream.{StandardStream}
-use Rattle.net_edge.specs.declared.stand_ins.StandardStream.TheVariants as streams
 use Rattle.page_store.specs.declared.fault.StoreFault.{StoreFault}
 use Rattle.page_store.specs.declared.fault.StoreFault.TheVariants as faults
+use Rattle.session_commands.specs.declared.ending.SessionEnding.TheVariants as sessions
+use Rattle.session_commands.specs.Endings.{status_of}
 use Rattle.nfs3.specs.declared.ending.Ending.{Ending}
 use Rattle.nfs3.specs.declared.ending.Ending.TheVariants as endings
 
 -- the exit status
-abbrev pub status_of : Ending → ℕ
-status_of endings.Usage = 2
-status_of endings.Memory = 7
-status_of (endings.Schedule line) = 9
-status_of (endings.Ran status) = status
-status_of endings.Served = 0
-status_of endings.Made = 0
-status_of endings.Store = 9
-status_of endings.TooLong = 9
-status_of endings.Lost = 6
-status_of endings.ReadFault = 4
-status_of endings.WriteFault = 5
-
--- a schedule that can't be read from its text: its faulty line, or out of memory
-abbrev pub refused_as : ScheduleFault → Ending
-refused_as (schedules.Line line) = endings.Schedule line
-refused_as schedules.Memory = endings.Memory
+abbrev pub exit_status : Ending → ℕ
+exit_status (endings.Session ending) = status_of ending
+exit_status endings.Served = 0
+exit_status endings.Made = 0
+exit_status endings.Store = 9
+exit_status endings.TooLong = 9
+exit_status endings.Lost = 6
 
 -- a store that failed: its file can't be used, or out of memory
 abbrev pub unformatted_as : StoreFault → Ending
 unformatted_as faults.Fault = endings.Store
-unformatted_as faults.Memory = endings.Memory
-
--- a standard stream that is closed, where nothing can be opened in its place: input can't be read, and the others can't be written
-abbrev pub closed_as : StandardStream → Ending
-closed_as streams.Input = endings.ReadFault
-closed_as streams.Output = endings.WriteFault
-closed_as streams.Error = endings.WriteFault
+unformatted_as faults.Memory = endings.Session sessions.Memory
 
 -- the end of serving
 abbrev pub ended_as : End → Ending
 ended_as ends.Served = endings.Served
 ended_as ends.Lost = endings.Lost
-ended_as ends.Memory = endings.Memory
-
--- what standard error says of a session that ended with the status
-abbrev pub message_of : ℕ → Option (List ℕ)
-message_of status =
-    if status == 2 then Some (codes "usage")
-    else if status == 3 then Some (codes "script refused")
-    else if status == 4 then Some (codes "read fault")
-    else if status == 5 then Some (codes "write fault")
-    else if status == 6 then Some (codes "link lost")
-    else if status == 7 then Some (codes "want of memory")
-    else if status == 8 then Some (codes "mount refused")
-    else if status == 9 then Some (codes "trace")
-    else if status == 10 then Some (codes "no port")
-    else None
+ended_as ends.Memory = endings.Session sessions.Memory

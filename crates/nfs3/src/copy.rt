@@ -1,6 +1,5 @@
 //! Copies between this machine and a server.
 
-use crate::ending::Ending;
 use copy_scripts::{Progress, server_path};
 use copy_targets::Target;
 use disk_target::{DiskCheck, DiskTarget};
@@ -9,6 +8,7 @@ use fetch_scripts::Skips;
 use net_edge::{StandardError, SystemClock, TcpWire};
 use port_words::batch_words;
 use rpc_record::StreamLink;
+use session_commands::SessionEnding;
 use std::io::IsTerminal;
 
 /// How a copy is made.
@@ -39,14 +39,19 @@ impl Copying {
 }
 
 /// Copies what the words say: an export, where from, where to, and the arguments of a session.
-pub fn copy_over_tcp(rt: &HostRuntime, host: &str, how: Copying, mut words: Vec<String>) -> Ending {
+pub fn copy_over_tcp(
+    rt: &HostRuntime,
+    host: &str,
+    how: Copying,
+    mut words: Vec<String>,
+) -> SessionEnding {
     if words.len() < 4 {
-        return Ending::Usage;
+        return SessionEnding::Usage;
     }
     let from = words.remove(2);
     let to = words.remove(2);
     let Ok(words) = batch_words(rt.alloc(), words.as_slice()) else {
-        return Ending::Memory;
+        return SessionEnding::Memory;
     };
     let words = words.as_slice();
     match (
@@ -55,7 +60,7 @@ pub fn copy_over_tcp(rt: &HostRuntime, host: &str, how: Copying, mut words: Vec<
     ) {
         (None, Some(path)) => up(rt, host, how, words, from.as_str(), path),
         (Some(path), None) => down(rt, host, how, words, path, to.as_str()),
-        _ => Ending::Usage,
+        _ => SessionEnding::Usage,
     }
 }
 
@@ -67,13 +72,13 @@ fn up(
     words: &[String],
     from: &str,
     path: &str,
-) -> Ending {
+) -> SessionEnding {
     if how.check {
         return compare(rt, host, how, words, path, from);
     }
     match how.skips {
         Skips::Nothing => to_server(rt, host, how.progress, words, from, path),
-        Skips::Sizes => Ending::Usage,
+        Skips::Sizes => SessionEnding::Usage,
     }
 }
 
@@ -85,7 +90,7 @@ fn down(
     words: &[String],
     path: &str,
     to: &str,
-) -> Ending {
+) -> SessionEnding {
     if how.check {
         return compare(rt, host, how, words, path, to);
     }
@@ -101,12 +106,12 @@ fn to_server(
     words: &[String],
     from: &str,
     to: &str,
-) -> Ending {
+) -> SessionEnding {
     let alloc = rt.alloc();
     let to = match server_path(alloc, to) {
         Ok(Some(to)) => to,
-        Ok(None) => return Ending::Usage,
-        Err(_) => return Ending::Memory,
+        Ok(None) => return SessionEnding::Usage,
+        Err(_) => return SessionEnding::Memory,
     };
     let tree = DiskTree::new(rt, alloc, from);
     let mut link = StreamLink::new(alloc, TcpWire::new(rt, host));
@@ -116,7 +121,7 @@ fn to_server(
     let (status, _) = nfs_copy::run(
         alloc, words, tree, to, progress, &mut link, &mut clock, &mut out, &mut watch,
     );
-    Ending::Ran(status)
+    SessionEnding::Ran(status)
 }
 
 /// Compares what stands at a path of the server with what stands at one of this machine.
@@ -127,10 +132,10 @@ fn compare(
     words: &[String],
     path: &str,
     own: &str,
-) -> Ending {
+) -> SessionEnding {
     match DiskCheck::new(rt, rt.alloc(), own) {
         Ok(target) => from_server(rt, host, how, words, path, target),
-        Err(_) => Ending::Memory,
+        Err(_) => SessionEnding::Memory,
     }
 }
 
@@ -142,12 +147,12 @@ fn from_server<T: Target + Drop>(
     words: &[String],
     from: &str,
     target: T,
-) -> Ending {
+) -> SessionEnding {
     let alloc = rt.alloc();
     let from = match server_path(alloc, from) {
         Ok(Some(from)) => from,
-        Ok(None) => return Ending::Usage,
-        Err(_) => return Ending::Memory,
+        Ok(None) => return SessionEnding::Usage,
+        Err(_) => return SessionEnding::Memory,
     };
     let mut link = StreamLink::new(alloc, TcpWire::new(rt, host));
     let mut clock = SystemClock::new(rt);
@@ -165,5 +170,5 @@ fn from_server<T: Target + Drop>(
         &mut out,
         &mut watch,
     );
-    Ending::Ran(status)
+    SessionEnding::Ran(status)
 }

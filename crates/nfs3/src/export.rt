@@ -5,11 +5,11 @@ ghost use Rattle.script_text.specs.Numbers.{number_of};
 
 use crate::connections::serve_connections;
 use crate::ending::{Ending, ended};
-use crate::schedule_file::{refused, schedule_text};
 use export_fs::Export;
 use export_session::Serving;
 use net_edge::{LoopbackListener, UdpDatagrams};
 use script_text::number;
+use session_commands::{SessionEnding, refused, schedule_text};
 use world_link::read_schedule;
 
 /// What the records of a call go over.
@@ -21,7 +21,7 @@ enum Protocol {
 
 /// Serves an export at a port of 127.0.0.1, which the words name, until as many calls were answered as they say. A third
 /// word names the file of a schedule: its objects are there at the start, and its other lines have no effect. It is served
-/// over UDP where a word `--udp` stands before these, and else over TCP.
+/// over UDP if a word `--udp` stands before these, and else over TCP.
 pub fn export(rt: &HostRuntime, words: &[String]) -> Ending {
     match words {
         [word, rest @ ..] if word.as_str() == "--udp" => serve_words(rt, Protocol::Udp, rest),
@@ -33,17 +33,17 @@ fn serve_words(rt: &HostRuntime, over: Protocol, words: &[String]) -> Ending {
     match words {
         [port, calls] => serve(rt, over, port.as_str(), calls.as_str(), None),
         [port, calls, path] => serve(rt, over, port.as_str(), calls.as_str(), Some(path.as_str())),
-        _ => Ending::Usage,
+        _ => Ending::Session(SessionEnding::Usage),
     }
 }
 
 fn serve(rt: &HostRuntime, over: Protocol, port: &str, calls: &str, path: Option<&str>) -> Ending {
     let (Some(port), Some(calls)) = (port_number(port), call_count(calls)) else {
-        return Ending::Usage;
+        return Ending::Session(SessionEnding::Usage);
     };
     let serving = match export_of(rt, path) {
         Ok(fs) => Serving::new(rt.alloc(), fs, port, calls),
-        Err(ending) => return ending,
+        Err(ending) => return Ending::Session(ending),
     };
     match over {
         Protocol::Tcp => listen(rt, port, serving),
@@ -51,7 +51,7 @@ fn serve(rt: &HostRuntime, over: Protocol, port: &str, calls: &str, path: Option
     }
 }
 
-/// The port of a word. None exactly where it isn't a number from 1 to 65,535 in decimal digits.
+/// The port of a word. None exactly if it isn't a number from 1 to 65,535 in decimal digits.
 fn port_number(word: &str) -> Option<u16>
     ensures { result ≡ number_of 1 65535 word.now }
 {
@@ -59,7 +59,7 @@ fn port_number(word: &str) -> Option<u16>
     Some(port as u16)
 }
 
-/// The number of calls of a word. None exactly where it isn't a number from 1 to 4,294,967,295 in decimal digits.
+/// The number of calls of a word. None exactly if it isn't a number from 1 to 4,294,967,295 in decimal digits.
 fn call_count(word: &str) -> Option<u32>
     ensures { result ≡ number_of 1 4294967295 word.now }
 {
@@ -67,9 +67,9 @@ fn call_count(word: &str) -> Option<u32>
 }
 
 /// The export with the objects that a schedule begins with; without one it is empty.
-fn export_of(rt: &HostRuntime, path: Option<&str>) -> Result<Export, Ending> {
+fn export_of(rt: &HostRuntime, path: Option<&str>) -> Result<Export, SessionEnding> {
     let Some(path) = path else {
-        return Export::new(rt.alloc()).map_err(|_| Ending::Memory);
+        return Export::new(rt.alloc()).map_err(|_| SessionEnding::Memory);
     };
     let text = schedule_text(rt, path)?;
     match read_schedule(rt.alloc(), text.as_slice()) {
@@ -85,7 +85,7 @@ fn listen(rt: &HostRuntime, port: u16, mut serving: Serving) -> Ending {
     };
     match println!(rt; "listening {port}") {
         Ok(()) => serve_connections(rt.alloc(), &mut serving, &mut listener),
-        Err(_) => Ending::WriteFault,
+        Err(_) => Ending::Session(SessionEnding::WriteFault),
     }
 }
 
@@ -96,6 +96,6 @@ fn listen_to_datagrams(rt: &HostRuntime, port: u16, mut serving: Serving) -> End
     };
     match println!(rt; "listening {port}") {
         Ok(()) => ended(serving.serve_datagrams(&mut datagrams)),
-        Err(_) => Ending::WriteFault,
+        Err(_) => Ending::Session(SessionEnding::WriteFault),
     }
 }

@@ -8,6 +8,7 @@ use kept_runs::run_labelled;
 use net_edge::{StandardInput, StandardOutput, SystemClock, TcpWire};
 use page_store::{Disk, FileDisk, PageStore};
 use rpc_record::StreamLink;
+use session_commands::SessionEnding;
 use session_words::{Export, WordsFault, read_words};
 use std::alloc::Global;
 use std::fs::File;
@@ -35,7 +36,7 @@ pub fn run_sized(
 ) -> Ending {
     match page_count(pages) {
         Some(pages) => run_over(rt, path, pages, host, words),
-        None => Ending::Usage,
+        None => Ending::Session(SessionEnding::Usage),
     }
 }
 
@@ -47,11 +48,11 @@ fn run_over(rt: &HostRuntime, path: &str, pages: u32, host: &str, words: &[Strin
     let alloc = rt.alloc();
     let label = match label_of(alloc, host, words) {
         Ok(label) => label,
-        Err(ending) => return ending,
+        Err(ending) => return Ending::Session(ending),
     };
     let label = label.bytes();
     if label.len() > LABEL {
-        return Ending::Usage;
+        return Ending::Session(SessionEnding::Usage);
     }
     let mut store = match store_in(rt, path, pages, label) {
         Ok(store) => store,
@@ -61,7 +62,7 @@ fn run_over(rt: &HostRuntime, path: &str, pages: u32, host: &str, words: &[Strin
     let mut link = StreamLink::new(alloc, TcpWire::new(rt, host));
     let mut clock = SystemClock::new(rt);
     let mut sink = StandardOutput::new(rt.stdout());
-    Ending::Ran(run_labelled(
+    let status = run_labelled(
         alloc,
         words,
         label,
@@ -70,19 +71,20 @@ fn run_over(rt: &HostRuntime, path: &str, pages: u32, host: &str, words: &[Strin
         &mut clock,
         &mut sink,
         &mut store,
-    ))
+    );
+    Ending::Session(SessionEnding::Ran(status))
 }
 
 /// What a file is for: the host and what the words export.
-fn label_of(alloc: Global, host: &str, words: &[String]) -> Result<Blob, Ending> {
+fn label_of(alloc: Global, host: &str, words: &[String]) -> Result<Blob, SessionEnding> {
     let settings = match read_words(alloc, words) {
         Ok(settings) => settings,
-        Err(WordsFault::Refused) => return Err(Ending::Usage),
-        Err(WordsFault::Memory) => return Err(Ending::Memory),
+        Err(WordsFault::Refused) => return Err(SessionEnding::Usage),
+        Err(WordsFault::Memory) => return Err(SessionEnding::Memory),
     };
     match spelled(alloc, host, &settings.export) {
         Ok(label) => Ok(label),
-        Err(_) => Err(Ending::Memory),
+        Err(_) => Err(SessionEnding::Memory),
     }
 }
 

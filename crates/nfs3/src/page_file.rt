@@ -7,8 +7,9 @@ ghost use Rattle.nfs3.specs.Endings.{unformatted_as};
 use crate::ending::Ending;
 use page_store::{FileDisk, PageStore, StoreFault};
 use script_text::number;
+use session_commands::SessionEnding;
 
-/// How many pages a file has room for where no number is given, and the least.
+/// How many pages a file has room for if no number is given, and the least.
 pub(crate) const LEAST: u32 = 1024;
 
 /// The most.
@@ -21,13 +22,13 @@ pub fn make(rt: &HostRuntime, words: &[String]) -> Ending {
         [path] => format(rt, path.as_str(), LEAST),
         [path, name, pages] if name.as_str() == "--pages" => match page_count(pages.as_str()) {
             Some(pages) => format(rt, path.as_str(), pages),
-            None => Ending::Usage,
+            None => Ending::Session(SessionEnding::Usage),
         },
-        _ => Ending::Usage,
+        _ => Ending::Session(SessionEnding::Usage),
     }
 }
 
-/// The number of pages of a word. None exactly where it isn't a number from 1,024 to 65,536 in decimal digits.
+/// The number of pages of a word. None exactly if it isn't a number from 1,024 to 65,536 in decimal digits.
 pub(crate) fn page_count(word: &str) -> Option<u32>
     ensures value { result ≡ number_of 1024 65536 word.now }
     ensures within { IfSome result (λ n. (1024 ≤ n) × (n ≤ 65536)) }
@@ -49,12 +50,12 @@ fn format(rt: &HostRuntime, path: &str, pages: u32) -> Ending
     }
 }
 
-/// How the program ends where a store failed.
+/// How the program ends if a store failed.
 pub(crate) fn unformatted(fault: StoreFault) -> Ending
     ensures { result ≡ unformatted_as fault }
 {
     match fault {
         StoreFault::Fault => Ending::Store,
-        StoreFault::Memory => Ending::Memory,
+        StoreFault::Memory => Ending::Session(SessionEnding::Memory),
     }
 }

@@ -1,15 +1,14 @@
 //! Two sessions over one simulated server.
 
-use crate::ending::Ending;
-use crate::schedule_file::{refused, schedule_text};
 use net_edge::{StandardInput, StandardOutput, file_source};
 use outside::TickClock;
+use session_commands::{SessionEnding, refused, schedule_text};
 use two_clients::run_pair;
 use world_link::parse_pair;
 
-/// Runs the script on standard input and the one in the file of the second name, as two clients over the simulated server of the schedule in the file of the first
-/// name.
-pub fn pair(rt: &HostRuntime, schedule: &str, script: &str) -> Ending {
+/// Runs the script on standard input and the one in the file of the second name, as two clients of one simulated server. The file of the first name has its
+/// schedule.
+pub fn pair(rt: &HostRuntime, schedule: &str, script: &str) -> SessionEnding {
     let alloc = rt.alloc();
     let text = match schedule_text(rt, schedule) {
         Ok(text) => text,
@@ -20,12 +19,12 @@ pub fn pair(rt: &HostRuntime, schedule: &str, script: &str) -> Ending {
         Err(fault) => return refused(fault),
     };
     let Ok(mut second) = file_source(rt, script) else {
-        return Ending::ReadFault;
+        return SessionEnding::ReadFault;
     };
     let mut first = StandardInput::new(rt.stdin());
     let mut clock = TickClock::new(tick);
     let mut sink = StandardOutput::new(rt.stdout());
-    Ending::Ran(run_pair(
+    SessionEnding::Ran(run_pair(
         alloc,
         order.bytes(),
         &mut first,

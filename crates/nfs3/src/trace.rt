@@ -2,11 +2,11 @@
 
 use crate::ending::Ending;
 use crate::nowhere::Nowhere;
-use crate::schedule_file::{refused, schedule_text};
 use net_edge::{StandardInput, StandardOutput};
 use outside::LinkFault;
 use run_replay::replay;
 use script_runs::write_all;
+use session_commands::{SessionEnding, refused, schedule_text};
 use trace_text::print;
 use trace_words::trace_words;
 use world_link::{World, WorldLog};
@@ -23,29 +23,29 @@ const MOST_ENTRIES: usize = 4096;
 /// The most bytes of records that a trace shows as sent, two digits each.
 const MOST_SENT: usize = 524_288;
 
-/// Runs the words over the simulated server of the schedule in the file of that name, and writes the trace of what
+/// Runs the words over the simulated server of the schedule in the file of that name. It writes the trace of what
 /// happened in place of the answers.
 pub fn trace(rt: &HostRuntime, path: &str, words: &[String]) -> Ending {
     let alloc = rt.alloc();
     let text = match schedule_text(rt, path) {
         Ok(text) => text,
-        Err(ending) => return ending,
+        Err(ending) => return Ending::Session(ending),
     };
     let mut source = StandardInput::new(rt.stdin());
     match replay(alloc, text.as_slice(), words, &mut source, &mut Nowhere) {
-        Ok((_, NO_MEMORY)) => Ending::Memory,
+        Ok((_, NO_MEMORY)) => Ending::Session(SessionEnding::Memory),
         Ok((world, status)) => tell(rt, world, words, status),
-        Err(fault) => refused(fault),
+        Err(fault) => Ending::Session(refused(fault)),
     }
 }
 
 /// Writes what the world tells of a session that ended with the status; nothing if its words are refused.
 fn tell(rt: &HostRuntime, world: World, words: &[String], status: u8) -> Ending {
     match trace_text(rt, world, words) {
-        Ok(Told::Text(text)) => write(rt, &text, status),
+        Ok(Told::Text(text)) => Ending::Session(write(rt, &text, status)),
         Ok(Told::TooLong) => Ending::TooLong,
-        Ok(Told::Refused) => Ending::Usage,
-        Err(_) => Ending::Memory,
+        Ok(Told::Refused) => Ending::Session(SessionEnding::Usage),
+        Err(_) => Ending::Session(SessionEnding::Memory),
     }
 }
 
@@ -90,11 +90,11 @@ fn trace_text(rt: &HostRuntime, world: World, words: &[String]) -> Result<Told, 
 }
 
 /// Writes a text on standard output.
-fn write(rt: &HostRuntime, text: &Blob, status: u8) -> Ending {
+fn write(rt: &HostRuntime, text: &Blob, status: u8) -> SessionEnding {
     let mut sink = StandardOutput::new(rt.stdout());
     match write_all(&mut sink, text.bytes()) {
-        Ok(()) => Ending::Ran(status),
-        Err(LinkFault::Failed) => Ending::WriteFault,
-        Err(LinkFault::Memory) => Ending::Memory,
+        Ok(()) => SessionEnding::Ran(status),
+        Err(LinkFault::Failed) => SessionEnding::WriteFault,
+        Err(LinkFault::Memory) => SessionEnding::Memory,
     }
 }
