@@ -3,6 +3,7 @@
 # resident size. Instructions of one call are the difference of a script of N and one of 2N; what grows is told by the
 # instructions of 2N operations over those of N. Run it as root on Debian 12: it installs what is missing. The program is the
 # one that bin/nfs3 built, or the one that NFS3 names; callgrind can't run a build without a proof, which checks its addresses.
+# Memory is kept as bin/nfs3 keeps it.
 # The words are the parts that are counted, of calls, growth, size and many; without words all but `many` are, which makes
 # 1,000,000 calls.
 set -u
@@ -28,6 +29,7 @@ prepare() {
 
 # The program over the script that is made by this command: the command.
 session() {
+    . "$here/../../bin/heap.sh"
     "$@" >"$work/script"
     "${runner[@]}" "$nfs3" run 127.0.0.1 /srv --uid 0 --gid 0 --mount-port "$mount_port" --nfs-port "$nfs_port" \
         --calls 2000000 "${words[@]}" <"$work/script" >"$work/said" 2>"$work/told" || stop "$* ended with the status $?"

@@ -3,6 +3,7 @@
  * that of the export, and KIND is one of
  *   write   creates the file PATH, writes COUNT pieces of 65,536 bytes, and commits them
  *   read    reads COUNT pieces of 65,536 bytes of the file PATH, and throws them away
+ *   wide    reads the same in calls of 1,048,576 bytes, of which COUNT / 16 are made
  *   show    reads the same, and writes to standard output the lines that nfs3 answers its script with: `N ok` for each
  *           of LANES lines that open the file, then `N ok` and the piece's bytes in hex, each line with its lane before it
  *   small   creates COUNT files of 100 bytes each, whose names begin with PATH, and commits each
@@ -16,9 +17,9 @@
 #include <unistd.h>
 #include <nfsc/libnfs.h>
 
-enum { PIECE = 65536, SMALL = 100 };
+enum { PIECE = 65536, WIDE = 16 * PIECE, SMALL = 100 };
 
-static char piece[PIECE];
+static char piece[WIDE];
 static char text[32 + 2 * PIECE];
 static char digits[256][2];
 
@@ -41,12 +42,12 @@ static void write_file(struct nfs_context *nfs, const char *path, int pieces, in
     nfs_close(nfs, file);
 }
 
-static void read_file(struct nfs_context *nfs, const char *path, int pieces)
+static void read_file(struct nfs_context *nfs, const char *path, int pieces, int bytes)
 {
     struct nfsfh *file;
     check(nfs, nfs_open(nfs, path, O_RDONLY, &file) != 0, "open");
     for (int i = 0; i < pieces; i++)
-        check(nfs, nfs_pread(nfs, file, (uint64_t)i * PIECE, PIECE, piece) != PIECE, "read");
+        check(nfs, nfs_pread(nfs, file, (uint64_t)i * bytes, bytes, piece) != bytes, "read");
     nfs_close(nfs, file);
 }
 
@@ -125,7 +126,9 @@ int main(int argc, char **argv)
     if (strcmp(kind, "write") == 0)
         write_file(nfs, path, count, PIECE);
     else if (strcmp(kind, "read") == 0)
-        read_file(nfs, path, count);
+        read_file(nfs, path, count, PIECE);
+    else if (strcmp(kind, "wide") == 0)
+        read_file(nfs, path, count / 16, WIDE);
     else if (strcmp(kind, "show") == 0)
         show_file(nfs, path, count, lanes);
     else if (strcmp(kind, "small") == 0)

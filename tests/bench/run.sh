@@ -4,11 +4,11 @@
 # runs, or of as many as RUNS says, and their ratio, and what the two took of the processor, which tells more where other
 # programs run beside. Run it as root on Debian 12: it installs what is missing. The program is the one that bin/nfs3 built,
 # or the one that NFS3 names; a build without a proof isn't optimised, and its times tell nothing. The words are the rows that
-# are wanted, of write, read, read4, read16, show, show4, show16, small, small16 and list; without words all are. The status is 0
-# where all work was done.
+# are wanted, of write, read, read4, read16, wide16, show, show4, show16, small, small16, list and list10; without words all are.
+# The status is 0 where all work was done.
 #
-# nfs3 writes what it read as hex digits on its answer lines. In the rows `read` libnfs throws the bytes away; in the rows
-# `show` libnfs_work writes the same lines.
+# nfs3 writes what it read as hex digits on its answer lines. In the rows `read` and `wide` libnfs throws the bytes away, and in
+# `wide` it reads a MiB with each call; in the rows `show` libnfs_work writes the same lines.
 set -u
 
 here=$(dirname -- "$(readlink -f -- "${BASH_SOURCE[0]}")")
@@ -16,7 +16,7 @@ nfs3=${NFS3:-$here/../../crates/nfs3/out/nfs3}
 runs=${RUNS:-7}
 work=$(mktemp -d -p /dev/shm nfs3-bench.XXXXXX)
 chmod 755 "$work"
-mkdir "$work/served" "$work/served/small" "$work/served/names"
+mkdir "$work/served" "$work/served/small" "$work/served/names" "$work/served/many"
 
 . "$here/../lib.sh"
 . "$here/../ganesha.sh"
@@ -29,6 +29,7 @@ prepare() {
     start_all
     head -c 67108864 /dev/urandom >"$work/served/read"
     (cd -- "$work/served/names" && seq -f 'name_%04g' 1000 | xargs touch)
+    (cd -- "$work/served/many" && seq -f 'name_%05g' 10000 | xargs touch)
 }
 
 # The scripts of nfs3, each by the path that libnfs_work gets too. With a number of lanes the work is shared out among them.
@@ -49,6 +50,10 @@ script_of_read() {
     for piece in {0..1023}; do
         echo "$((piece % lanes + 1)) read 1 $((piece * 65536)) 65536"
     done
+}
+
+script_of_wide() {
+    script_of_read "$@"
 }
 
 script_of_show() {
@@ -119,18 +124,20 @@ row() {
         read) compare 'read 64 MiB, libnfs throws it away' read /read 1024 ;;
         read4) compare 'read 64 MiB, nfs3 in 4 lanes, libnfs throws it away' read /read 1024 4 ;;
         read16) compare 'read 64 MiB, nfs3 in 16 lanes, libnfs throws it away' read /read 1024 16 ;;
+        wide16) compare 'read 64 MiB, nfs3 in 16 lanes, libnfs in calls of 1 MiB' wide /read 1024 16 ;;
         show) check_lines && compare 'read 64 MiB, libnfs writes the same lines' show /read 1024 ;;
         show4) compare 'read 64 MiB, nfs3 in 4 lanes, libnfs writes the same lines' show /read 1024 4 ;;
         show16) compare 'read 64 MiB, nfs3 in 16 lanes, libnfs writes the same lines' show /read 1024 16 ;;
         small) compare '1,000 small files' small "/small/lane$$-" 1000 ;;
         small16) compare '1,000 small files, nfs3 in 16 lanes' small "/small/lanes$$-" 1000 16 ;;
         list) compare 'list of 1,000 names' list /names 1000 ;;
+        list10) compare 'list of 10,000 names' list /many 10000 ;;
         *) stop "there is no row $1" ;;
     esac
 }
 
 main() {
-    local it rows=(write read read4 read16 show show4 show16 small small16 list)
+    local it rows=(write read read4 read16 wide16 show show4 show16 small small16 list list10)
     [ $# -gt 0 ] && rows=("$@")
     trap end_all EXIT
     prepare
