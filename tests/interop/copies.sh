@@ -42,23 +42,23 @@ make_a_tree() {
 
 # Up and down, twice each, and compared both ways.
 try_trees() {
-    local there=$work/served/tree
+    local there=$work/served/copied
     make_a_tree "$work/tree"
-    copies 0 '' '' "$work/tree" :/tree
+    copies 0 '' '' "$work/tree" :/copied
     same_trees "$work/tree" "$there"
-    copies 0 '' '' "$work/tree" :/tree
+    copies 0 '' '' "$work/tree" :/copied
     same_trees "$work/tree" "$there"
-    copies 0 '' --check "$work/tree" :/tree
-    copies 0 '' '' :/tree "$work/back"
+    copies 0 '' --check "$work/tree" :/copied
+    copies 0 '' '' :/copied "$work/back"
     same_trees "$work/tree" "$work/back"
-    copies 0 '' '' :/tree "$work/back"
+    copies 0 '' '' :/copied "$work/back"
     same_trees "$work/tree" "$work/back"
-    copies 0 '' --check :/tree "$work/back"
+    copies 0 '' --check :/copied "$work/back"
     printf y >>"$work/back/a/7"
     mkdir "$work/back/more"
     ln -sfn elsewhere "$work/back/link"
-    copies 1 $'nfs3: /tree/a/7: differs\nnfs3: /tree/link: differs\nnfs3: /tree/more: isn\'t on the server' --check :/tree "$work/back"
-    copies 0 '' --size-only :/tree/a "$work/back/a"
+    copies 1 $'nfs3: /copied/a/7: differs\nnfs3: /copied/link: differs\nnfs3: /copied/more: isn\'t on the server' --check :/copied "$work/back"
+    copies 0 '' --size-only :/copied/a "$work/back/a"
     cmp -s "$work/back/a/7" "$there/a/7"
     count $? 'a file of another size is copied again'
 }
@@ -88,13 +88,13 @@ try_copies_over_restarts() {
     local size=64
     head -c $((size * 1048576)) /dev/urandom >"$work/tree/large"
     rm -f -- "$work/late"
-    copy '' "$work/tree" :/tree2 &
+    copy '' "$work/tree" :/copied2 &
     local client=$!
-    restart_at "$work/served/tree2" 16 "$size"
+    restart_at "$work/served/copied2" 16 "$size"
     wait "$client"
     ended $? 0 '' 'over a restart'
-    same_trees "$work/tree" "$work/served/tree2"
-    copy '' :/tree2 "$work/back2" &
+    same_trees "$work/tree" "$work/served/copied2"
+    copy '' :/copied2 "$work/back2" &
     client=$!
     restart_at "$work/back2" 16 "$size"
     wait "$client"
@@ -102,7 +102,7 @@ try_copies_over_restarts() {
     same_trees "$work/tree" "$work/back2"
     [ ! -e "$work/late" ]
     count $? 'the server ends in the midst'
-    rm -f -- "$work/tree/large" "$work/served/tree2/large" "$work/back2/large"
+    rm -f -- "$work/tree/large" "$work/served/copied2/large" "$work/back2/large"
 }
 
 # Each file that isn't named, with an error of the server, is there whole: FROM TO.
@@ -141,18 +141,18 @@ try_full_server() {
 
 # A target without room names the files that don't fit, and leaves nothing of them.
 try_full_target() {
-    mkdir "$work/small" "$work/served/much"
+    mkdir "$work/little" "$work/served/much"
     cp "$work/much"/* "$work/served/much"
-    mount -t tmpfs -o size=6m none "$work/small" 2>/dev/null || return 0
-    copy '' :/much "$work/small/much"
+    mount -t tmpfs -o size=6m none "$work/little" 2>/dev/null || return 0
+    copy '' :/much "$work/little/much"
     [ $? -eq 1 ]
     count $? "a full target: $(head -5 "$work/warned")"
     sed -i 's/: the system refused it$/: nfs 28/' "$work/warned"
-    named_or_whole "$work/much" "$work/small/much"
+    named_or_whole "$work/much" "$work/little/much"
     count $? "what doesn't fit is named: $(head -5 "$work/warned")"
-    [ "$(find "$work/small/much" -type f | wc -l)" -eq "$((20 - $(wc -l <"$work/warned")))" ]
+    [ "$(find "$work/little/much" -type f | wc -l)" -eq "$((20 - $(wc -l <"$work/warned")))" ]
     count $? 'nothing stands there of what was refused'
-    umount "$work/small"
+    umount "$work/little"
 }
 
 # Holds the N-th call of a procedure, runs a command meanwhile, and then lets the copy go on: PROC N COMMAND STATUS LINES WORDS.
