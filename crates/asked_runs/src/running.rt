@@ -46,7 +46,12 @@ pub(crate) fn run_scripts<A: Asker, L: Link, C: Clock>(
 {
     setup.pages.is_sound();
     match Session::new(alloc, settings, setup, tally) {
-        Ok(mut session) => run_in(alloc, &mut session, first, asker, link, clock),
+        Ok(mut session) => {
+            let ran = run_in(alloc, &mut session, first, asker, link, clock);
+            // Dropped by a call, since the prover takes a drop in place apart, field by field.
+            drop(session);
+            ran
+        }
         Err(_) => Err(Stop::Memory),
     }
 }

@@ -61,18 +61,23 @@ pub(crate) fn run_scripts<S: Source, L: Link, C: Clock, K: Sink>(
 {
     setup.pages.is_sound();
     match Session::new(alloc, settings, setup, tally) {
-        Ok(mut session) => run_in(
-            alloc,
-            settings.count,
-            &mut session,
-            first,
-            batches,
-            answered,
-            source,
-            link,
-            clock,
-            out,
-        ),
+        Ok(mut session) => {
+            let ran = run_in(
+                alloc,
+                settings.count,
+                &mut session,
+                first,
+                batches,
+                answered,
+                source,
+                link,
+                clock,
+                out,
+            );
+            // Dropped by a call, since the prover takes a drop in place apart, field by field.
+            drop(session);
+            ran
+        }
         Err(_) => Err(Stop::Memory),
     }
 }

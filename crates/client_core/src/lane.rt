@@ -10,6 +10,7 @@ ghost use Rattle.client_core.specs.declared.lane.State.TheVariants as states;
 use client_shelf::{Came, Shelf, Step, Turn};
 use op_machines::Machine;
 use std::alloc::Global;
+use std::mem;
 use world_model::{Answer, Fault};
 
 /// What a call was made for.
@@ -129,7 +130,8 @@ impl Lane {
     pub(crate) fn end(&mut self, answer: Answer)
         ensures { self.new ≡ record { number = self.old.number; state = states.Over answer } }
     {
-        self.state = State::Over(answer);
+        // Dropped by a call, since the prover takes a drop in place apart, field by field.
+        drop(mem::replace(&mut self.state, State::Over(answer)));
     }
 
     /// The lesser of a number and its own, if it has its answer.
@@ -150,7 +152,7 @@ impl Lane {
         ensures { self.new ≡ lost_lane self.old }
     {
         if let State::Busy(_) = self.state {
-            self.state = State::Over(Answer::Refused(Fault::Lost));
+            self.end(Answer::Refused(Fault::Lost));
         }
     }
 }

@@ -115,6 +115,8 @@ impl Work {
         self.count(now);
         self.a_lane_is_left(lane);
         if self.is_lost() {
+            // Dropped by a call, since the prover takes a drop in place apart, field by field.
+            drop(machine);
             self.push(lane, State::Over(Answer::Refused(Fault::Lost)));
             return;
         }
@@ -376,6 +378,7 @@ impl Work {
         let turn = self.turn();
         let next = self.lanes[at].resume(self.alloc, self.wsize, turn, &mut self.shelf);
         if waits(&next) {
+            drop(next);
             return false;
         }
         self.lead(at, turn, next);

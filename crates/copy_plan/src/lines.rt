@@ -77,6 +77,8 @@ impl Lines {
         ensures err { OnErr result (self.new ≡ self.old) }
     {
         if self.lines.len() >= MOST_LINES || self.next > LAST_LINE {
+            // Dropped by a call, since the prover takes a drop in place apart, field by field.
+            drop(op);
             return Err(PlanFault::Full);
         }
         let line = ScriptLine {
@@ -84,11 +86,16 @@ impl Lines {
             line: self.next,
             op,
         };
-        if self.lines.push(line).is_err() {
-            return Err(PlanFault::Memory);
+        match self.lines.push(line) {
+            Ok(()) => {
+                self.next += 1;
+                Ok(())
+            }
+            Err(refused) => {
+                drop(refused);
+                Err(PlanFault::Memory)
+            }
         }
-        self.next += 1;
-        Ok(())
     }
 
     /// The lines of the script, which is done: the next one begins.

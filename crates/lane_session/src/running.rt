@@ -98,12 +98,15 @@ impl Session {
             noac: settings.noac,
             nocto: !settings.noac && settings.nocto,
         };
+        // The core comes last, so that no failure has one to drop.
+        let lanes = Lanes::new(alloc)?;
+        let core = Core::new(alloc, setup)?;
         Ok(Session {
             alloc,
             mounted,
             port: settings.nfs_port,
-            core: Core::new(alloc, setup)?,
-            lanes: Lanes::new(alloc)?,
+            core,
+            lanes,
             counts: Counts { tally },
             status: status::WELL,
             attempts: ATTEMPTS,
@@ -557,7 +560,11 @@ impl Session {
                 self.core.begin(lane, machine, now);
                 Ok(())
             }
-            Err(wanting) => Err(wanting),
+            Err(wanting) => {
+                // Dropped by a call, since the prover takes a drop in place apart, field by field.
+                drop(machine);
+                Err(wanting)
+            }
         }
     }
 

@@ -160,7 +160,11 @@ fn run_lines<L: Link, C: Clock, K: Sink>(
                 pages,
             })
         }
-        Err(halt) => Err(halt),
+        Err(halt) => {
+            // Dropped by a call, since the prover takes a drop in place apart, field by field.
+            drop(session);
+            Err(halt)
+        }
     }
 }
 

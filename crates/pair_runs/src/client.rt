@@ -26,6 +26,7 @@ use pair_ends::{End, Side};
 use session_setup::{SetUp, SetUpFault, set_up};
 use session_words::Settings;
 use std::alloc::Global;
+use std::mem;
 use xdr_codec::Memory;
 
 /// A client, and the script that it runs.
@@ -159,15 +160,13 @@ impl Client {
     {
         match done {
             Some(status) => {
-                self.state = State::Done(status);
+                // Dropped by a call, since the prover takes a drop in place apart, field by field.
+                drop(mem::replace(&mut self.state, State::Done(status)));
                 false
             }
             None => true,
         }
     }
-
-    /// The client is let go.
-    pub(crate) fn end(self) {}
 
     /// The status by its answers so far.
     pub(crate) fn status(&self) -> u8

@@ -144,7 +144,8 @@ fn run_scripts<P: PairLink, C: Clock, K: Sink>(
     match set_up_both(alloc, first, second, link) {
         Ok(mut pair) => {
             let status = pair.finish(order, link, clock, out);
-            pair.end();
+            // Dropped by a call, since the prover takes a drop in place apart, field by field.
+            drop(pair);
             status
         }
         Err(_) => status::NO_MEMORY,
@@ -167,6 +168,11 @@ fn set_up_both<P: PairLink>(
     ensures opens { PairRelates (P.told link.old) (P.told link.new) (λ h k. h.steps ≡ [] → PairOpens first second result h k) }
 {
     let a = Client::open(alloc, Side::A, first, FIRST_XID, link)?;
-    let b = Client::open(alloc, Side::B, second, OTHER_XID, link)?;
-    Ok(Pair { a, b })
+    match Client::open(alloc, Side::B, second, OTHER_XID, link) {
+        Ok(b) => Ok(Pair { a, b }),
+        Err(memory) => {
+            drop(a);
+            Err(memory)
+        }
+    }
 }

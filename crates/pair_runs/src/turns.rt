@@ -179,10 +179,4 @@ impl Pair {
     {
         of_both(self.a.status(), self.b.status())
     }
-
-    /// Both clients are let go.
-    pub(crate) fn end(self) {
-        self.a.end();
-        self.b.end();
-    }
 }

@@ -67,6 +67,8 @@ pub fn run_lanes<L: Link, C: Clock, K: Sink>(
         SessionFrom (LeavesOver stock) settings.now script.now given before h result.0 text))) }
 {
     if script.count() == 0 {
+        // Dropped by a call, since the prover takes a drop in place apart, field by field.
+        drop(stock);
         let (status, _) = session(alloc, settings, script, None, NO_CALLS, link, clock, out);
         return (status, None);
     }
@@ -74,6 +76,7 @@ pub fn run_lanes<L: Link, C: Clock, K: Sink>(
     match set_up(alloc, settings, first, link) {
         Ok(ready) => run_ready(alloc, settings, stock, script, ready, link, clock, out),
         Err(fault) => {
+            drop(stock);
             let status = end_early(alloc, settings, script, fault, link, clock, out);
             (status, None)
         }

@@ -146,13 +146,26 @@ pub fn run_stocked<S: Source, L: Link, C: Clock, K: Sink>(
 {
     let text = match read_script(alloc, script) {
         Ok(text) => text,
-        Err(ReadFault::Failed) => return (status::READ_FAULT, None),
-        Err(ReadFault::Memory) => return (status::NO_MEMORY, None),
+        Err(ReadFault::Failed) => {
+            // Dropped by a call, since the prover takes a drop in place apart, field by field.
+            drop(stock);
+            return (status::READ_FAULT, None);
+        }
+        Err(ReadFault::Memory) => {
+            drop(stock);
+            return (status::NO_MEMORY, None);
+        }
     };
     match parse(alloc, text.as_slice()) {
         Ok(script) => run_lanes(alloc, settings, stock, &script, link, clock, out),
-        Err(ParseFault::Script(fault)) => (refuse(alloc, &fault, out), None),
-        Err(ParseFault::Memory) => (status::NO_MEMORY, None),
+        Err(ParseFault::Script(fault)) => {
+            drop(stock);
+            (refuse(alloc, &fault, out), None)
+        }
+        Err(ParseFault::Memory) => {
+            drop(stock);
+            (status::NO_MEMORY, None)
+        }
     }
 }
 

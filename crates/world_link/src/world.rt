@@ -276,6 +276,8 @@ impl World {
         ensures ends { OnOk result (world_ends self.new ≡ routing.after (routing.after (world_ends self.old) end (Dialed port)) end Failed) }
         ensures same_ends { OnErr result (world_ends self.new ≡ world_ends self.old) }
     {
+        // The entries are made once there is room, so that a failure has none to drop.
+        self.server.told.reserve(2)?;
         let dialed = Told {
             end,
             entry: Entry::Dialed { port },
@@ -284,7 +286,6 @@ impl World {
             end,
             entry: Entry::Failed,
         };
-        self.server.told.reserve(2)?;
         self.server.told.push(dialed).unwrap();
         self.server.told.push(failed).unwrap();
         self.dials = self.dials.saturating_add(1);

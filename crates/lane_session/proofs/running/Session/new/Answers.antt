@@ -6,8 +6,8 @@ pub returns-clause-fresh : goal.returns-clause-fresh
 returns-clause-fresh c = elim c.if-not-settings.branch [
   | then-not-settings w ↦ record {
     mounted = search rules;
-    core = c.in_ok-new.ensures;
-    lanes = c.in_ok-new-2.ensures;
+    core = c.in_ok-core.ensures;
+    lanes = c.in_ok-lanes.ensures;
     status = refl;
     attempts = refl;
     dropped = refl;
@@ -15,8 +15,8 @@ returns-clause-fresh c = elim c.if-not-settings.branch [
   }
   | else-not-settings w ↦ record {
     mounted = search rules;
-    core = c.in_ok-new.ensures;
-    lanes = c.in_ok-new-2.ensures;
+    core = c.in_ok-core.ensures;
+    lanes = c.in_ok-lanes.ensures;
     status = refl;
     attempts = refl;
     dropped = refl;
