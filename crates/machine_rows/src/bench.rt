@@ -7,6 +7,7 @@ use client_shelf::{Came, Shelf, Step, Turn};
 use op_machines::{Machine, Mounted, steps_number_writes, steps_stay_fit, steps_stay_ready};
 use std::alloc::Global;
 use std::marker::Model;
+use std::mem;
 use world_model::Op;
 use xdr_codec::Memory;
 
@@ -53,11 +54,11 @@ impl Model for Running {
 
 impl Running {
     /// An operation that hasn't made a step yet. None if no script can ask for it, or there is no memory.
-    pub(crate) fn new(alloc: Global, mounted: &Mounted, lane: u8, op: Op) -> Option<Running> {
-        if !is_asked(&op) {
+    pub(crate) fn new(alloc: Global, mounted: &Mounted, lane: u8, op: &Op) -> Option<Running> {
+        if !is_asked(op) {
             return None;
         }
-        let Ok(machine) = Machine::new(alloc, mounted, lane, &op) else {
+        let Ok(machine) = Machine::new(alloc, mounted, lane, op) else {
             return None;
         };
         Some(Running { machine })
@@ -100,7 +101,8 @@ impl Bench {
     /// Nothing is kept any more, if there is memory for that.
     pub(crate) fn renew(&mut self, alloc: Global) {
         if let Ok(bench) = Bench::new(alloc) {
-            *self = bench;
+            // Dropped by a call, since the prover takes a drop in place apart, field by field.
+            drop(mem::replace(self, bench));
         }
     }
 

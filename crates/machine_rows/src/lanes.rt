@@ -7,7 +7,7 @@ use crate::shown::{show_answer, show_call};
 use crate::words::{first_word, numbers};
 use client_shelf::{Step, Turn};
 use std::alloc::Global;
-use std::io;
+use std::{io, mem};
 
 /// How many calls of an operation are known by their numbers.
 const MOST_CALLS: usize = 80;
@@ -38,7 +38,13 @@ impl Lane {
 
     /// No operation is under way any more.
     pub(crate) fn rest(&mut self) {
-        self.running = None;
+        self.hold(None);
+    }
+
+    /// From now on this operation is under way, if one is. It made no call yet.
+    fn hold(&mut self, running: Option<Running>) {
+        // Dropped by a call, since the prover takes a drop in place apart, field by field.
+        drop(mem::replace(&mut self.running, running));
         self.made = 0;
     }
 
@@ -101,7 +107,8 @@ pub(crate) fn run(
         _ => match operation(alloc, word, words) {
             Some(op) => {
                 let mounted = mounted(setting.rsize, words);
-                let running = Running::new(alloc, &mounted, number, op);
+                let running = Running::new(alloc, &mounted, number, &op);
+                drop(op);
                 begin(rt, alloc, running, lane, bench, setting)
             }
             None => take(rt, alloc, 0, lane, bench, setting, line),
@@ -122,8 +129,7 @@ fn begin(
         return println!(rt; "  can't be asked for");
     };
     let step = bench.start(alloc, &mut running, setting);
-    lane.running = Some(running);
-    lane.made = 0;
+    lane.hold(Some(running));
     lane.show(rt, step)
 }
 

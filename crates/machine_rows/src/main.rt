@@ -99,7 +99,10 @@ fn main(rt: HostRuntime) -> io::Result<()> {
         second: Lane::new(),
         setting: Setting::new(),
     };
-    step_all(&rt, &mut rows)
+    let ended = step_all(&rt, &mut rows);
+    // Dropped by a call, since the prover takes a drop in place apart, field by field.
+    drop(rows);
+    ended
 }
 
 /// Makes the step of each line of standard input.

@@ -33,6 +33,13 @@ pub(crate) fn operation(alloc: Global, word: &str, words: &str) -> Option<Op> {
         "list" => Some(Op::List {
             path: path(alloc, first)?,
         }),
+        _ => change(alloc, word, first, rest),
+    }
+}
+
+/// The operation that a line asks for, if it changes what stands at a path, or is on a slot.
+fn change(alloc: Global, word: &str, first: &str, rest: &str) -> Option<Op> {
+    match word {
         "mkdir" => Some(Op::MakeDir {
             path: path(alloc, first)?,
         }),

@@ -31,6 +31,26 @@ fn show_dir_call(rt: &impl Print, number: usize, call: &DirCall) -> io::Result<(
             println!(rt; "  {number}. LOOKUP {}/{}", shown(dir), named(name))
         }
         DirCall::ReadLink { file } => println!(rt; "  {number}. READLINK {}", shown(file)),
+        DirCall::ReadDirPlus {
+            dir,
+            cookie,
+            verf,
+            dircount,
+            maxcount,
+        } => {
+            println!(rt;
+                "  {number}. READDIRPLUS {} cookie {cookie} verifier {:?} counts {dircount} {maxcount}",
+                shown(dir),
+                verf.0
+            )
+        }
+        _ => show_naming(rt, number, call),
+    }
+}
+
+/// The same of a call that adds or removes a name of an object.
+fn show_naming(rt: &impl Print, number: usize, call: &DirCall) -> io::Result<()> {
+    match call {
         DirCall::Remove { dir, name } => {
             println!(rt; "  {number}. REMOVE {}/{}", shown(dir), named(name))
         }
@@ -57,19 +77,6 @@ fn show_dir_call(rt: &impl Print, number: usize, call: &DirCall) -> io::Result<(
                 named(from),
                 shown(to_dir),
                 named(to)
-            )
-        }
-        DirCall::ReadDirPlus {
-            dir,
-            cookie,
-            verf,
-            dircount,
-            maxcount,
-        } => {
-            println!(rt;
-                "  {number}. READDIRPLUS {} cookie {cookie} verifier {:?} counts {dircount} {maxcount}",
-                shown(dir),
-                verf.0
             )
         }
         _ => show_making(rt, number, call),
@@ -127,6 +134,17 @@ fn show_file_call(rt: &impl Print, number: usize, call: &FileCall) -> io::Result
             offset,
             count,
         } => { println!(rt; "  {number}. READ {} {offset} {count}", shown(file)) }
+        FileCall::Access { file, bits } => println!(rt;
+            "  {number}. ACCESS {} {bits}",
+            shown(file)
+        ),
+        _ => show_file_change(rt, number, call),
+    }
+}
+
+/// The same of a call that writes a file, or sets what it is.
+fn show_file_change(rt: &impl Print, number: usize, call: &FileCall) -> io::Result<()> {
+    match call {
         FileCall::Write {
             file,
             offset,
@@ -156,10 +174,6 @@ fn show_file_call(rt: &impl Print, number: usize, call: &FileCall) -> io::Result
                 println!(rt; "  {number}. SETATTR {} size {size} and more", shown(file))
             }
         }
-        FileCall::Access { file, bits } => println!(rt;
-            "  {number}. ACCESS {} {bits}",
-            shown(file)
-        ),
         _ => println!(rt; "  {number}. another call"),
     }
 }

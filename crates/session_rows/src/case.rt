@@ -2,6 +2,7 @@
 
 use crate::text::{bytes_of, number_of};
 use std::alloc::{AllocError, Global};
+use std::mem;
 
 /// What some lines describe.
 #[derive(Drop)]
@@ -22,6 +23,14 @@ pub struct Case {
     pub records: Vec<Vec<u8>>,
     /// The calls of a wire that fail, counted from 1.
     pub fails: Vec<u32>,
+}
+
+impl Case {
+    /// These words are described, and no others.
+    fn take_words(&mut self, words: Vec<String>) {
+        // Dropped by a call, since the prover takes a drop in place apart, field by field.
+        drop(mem::replace(&mut self.words, words));
+    }
 }
 
 /// Nothing is described yet.
@@ -84,11 +93,19 @@ fn add_pieces(
 /// Takes what a line adds to the description; false if it adds nothing.
 pub fn takes(alloc: Global, case: &mut Case, word: &str, rest: &str) -> Result<bool, AllocError> {
     match word {
-        "words" => case.words = words_of(alloc, rest)?,
         "script" => add_lines(&mut case.script, 1, rest)?,
         "script-bytes" => add_bytes(alloc, &mut case.script, rest)?,
         "schedule" => add_lines(&mut case.schedule, 1, rest)?,
         "schedule-bytes" => add_bytes(alloc, &mut case.schedule, rest)?,
+        _ => return takes_item(alloc, case, word, rest),
+    }
+    Ok(true)
+}
+
+/// Takes the words of a line, or what it adds to a list.
+fn takes_item(alloc: Global, case: &mut Case, word: &str, rest: &str) -> Result<bool, AllocError> {
+    match word {
+        "words" => case.take_words(words_of(alloc, rest)?),
         "clock" => case.clock.push(number_of(rest))?,
         "read" => case.reads.push(number_of(rest))?,
         "write" => case.writes.push(number_of(rest))?,

@@ -191,9 +191,21 @@ fn show_file(rt: &impl Print, export: &mut Export) -> io::Result<()> {
         offset: 0,
         count: 99,
     });
-    match export.execute(&call) {
-        Ok(Reply::File(FileKept::Read { bytes, .. })) => show_bytes(rt, bytes.bytes()),
-        Ok(_) => println!(rt; "  refused"),
+    let came = export.execute(&call);
+    // Dropped by a call, since the prover takes a drop in place apart, field by field.
+    drop(call);
+    match came {
+        Ok(reply) => show_reply(rt, reply),
         Err(_) => println!(rt; "  out of memory"),
+    }
+}
+
+fn show_reply(rt: &impl Print, reply: Reply) -> io::Result<()> {
+    match reply {
+        Reply::File(FileKept::Read { bytes, .. }) => show_bytes(rt, bytes.bytes()),
+        other => {
+            drop(other);
+            println!(rt; "  refused")
+        }
     }
 }

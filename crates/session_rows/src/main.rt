@@ -33,7 +33,7 @@ use crate::case::{Case, empty, takes};
 use crate::link::{Current, at_link, make_link};
 use crate::text::{number_of, spread};
 use std::alloc::Global;
-use std::io;
+use std::{io, mem};
 
 /// Does what a line asks for; whether it ends the description.
 fn row(
@@ -62,7 +62,8 @@ fn row(
 }
 
 fn replace(current: &mut Current, made: Current) {
-    *current = made;
+    // Dropped by a call, since the prover takes a drop in place apart, field by field.
+    drop(mem::replace(current, made));
 }
 
 /// Takes what a line adds to the description, or does what it asks for.
@@ -78,7 +79,7 @@ fn step(
         Ok(true) => Ok(()),
         Ok(false) => {
             if row(rt, alloc, case, current, word, rest)? {
-                *case = empty(alloc);
+                drop(mem::replace(case, empty(alloc)));
             }
             Ok(())
         }
@@ -103,5 +104,7 @@ fn step_all(rt: &HostRuntime, case: &mut Case, current: &mut Current) -> io::Res
 fn main(rt: HostRuntime) -> io::Result<()> {
     let mut case = empty(rt.alloc());
     let mut current = Current::None;
-    step_all(&rt, &mut case, &mut current)
+    let ended = step_all(&rt, &mut case, &mut current);
+    drop(current);
+    ended
 }

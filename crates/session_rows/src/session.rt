@@ -40,7 +40,12 @@ fn show_fault(rt: &impl Print, fault: ScheduleFault) -> io::Result<()> {
 /// it wrote.
 pub fn run_over_world(rt: &impl Print, alloc: Global, case: &Case) -> io::Result<()> {
     match parse_schedule(alloc, case.schedule.as_slice()) {
-        Ok((mut world, tick)) => run_by_clock(rt, alloc, case, &mut world, tick),
+        Ok((mut world, tick)) => {
+            let ran = run_by_clock(rt, alloc, case, &mut world, tick);
+            // Dropped by a call, since the prover takes a drop in place apart, field by field.
+            drop(world);
+            ran
+        }
         Err(fault) => show_fault(rt, fault),
     }
 }

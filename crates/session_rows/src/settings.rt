@@ -17,15 +17,17 @@ pub fn show(rt: &impl Print, alloc: Global, line: &str) -> io::Result<()> {
 /// Prints for how long a command line lets attributes be believed, and what goes by them.
 pub fn show_modes(rt: &impl Print, alloc: Global, line: &str) -> io::Result<()> {
     match settings_of(alloc, line) {
-        Ok(settings) => {
-            let lives = settings.lives;
-            print!(rt; "  reg {} {}", lives.reg_min, lives.reg_max)?;
-            print!(rt; " dir {} {}", lives.dir_min, lives.dir_max)?;
-            print!(rt; "{}", if settings.noac { " noac" } else { "" })?;
-            println!(rt; "{}", if settings.nocto { " nocto" } else { "" })
-        }
+        Ok(settings) => show_lives(rt, &settings),
         Err(fault) => show_fault(rt, fault),
     }
+}
+
+fn show_lives(rt: &impl Print, settings: &Settings) -> io::Result<()> {
+    let lives = settings.lives;
+    print!(rt; "  reg {} {}", lives.reg_min, lives.reg_max)?;
+    print!(rt; " dir {} {}", lives.dir_min, lives.dir_max)?;
+    print!(rt; "{}", if settings.noac { " noac" } else { "" })?;
+    println!(rt; "{}", if settings.nocto { " nocto" } else { "" })
 }
 
 /// The settings of a command line.

@@ -4,6 +4,7 @@ use crate::words::{show_done, show_slot, store};
 use outside::Failed;
 use page_store::{Disk, FileDisk, PageStore};
 use std::alloc::Global;
+use std::fs::File;
 use std::os::unix::fs::PermissionsExt;
 use std::{fs, io};
 
@@ -15,22 +16,44 @@ pub fn row(rt: &HostRuntime, alloc: Global, path: &str) -> io::Result<()> {
     let Ok(disk) = FileDisk::make(rt, path) else {
         return println!(rt; "= not made");
     };
+    if stored_in(rt, alloc, path, disk)? {
+        show_again(rt, alloc, path)?;
+        fs::remove_file(rt, path)
+    } else {
+        Ok(())
+    }
+}
+
+/// Shows that a file that was made is locked, and stores pages in it; whether they are stored.
+fn stored_in(
+    rt: &HostRuntime,
+    alloc: Global,
+    path: &str,
+    disk: FileDisk<File>,
+) -> io::Result<bool> {
+    show_locked(rt, path)?;
+    let disk = filled(rt, alloc, disk)?;
+    Ok(disk.is_some())
+}
+
+/// Prints the mode of a file, and that nobody else can open it.
+fn show_locked(rt: &HostRuntime, path: &str) -> io::Result<()> {
     let mode = fs::metadata(rt, path)?.permissions().mode() & 0o777;
     println!(rt; "= made with mode {mode:o}")?;
     if FileDisk::open(rt, path).is_err() {
         println!(rt; "= in use")?;
     }
-    let Some(disk) = filled(rt, alloc, disk)? else {
-        return Ok(());
-    };
-    drop(disk);
+    Ok(())
+}
+
+/// Prints the length of a file, and what its pages are.
+fn show_again(rt: &HostRuntime, alloc: Global, path: &str) -> io::Result<()> {
     let length = fs::metadata(rt, path)?.len();
     println!(rt; "= {length} bytes")?;
     match FileDisk::open(rt, path) {
-        Ok(disk) => show(rt, alloc, disk)?,
-        Err(Failed) => println!(rt; "= not opened")?,
+        Ok(disk) => show(rt, alloc, disk),
+        Err(Failed) => println!(rt; "= not opened"),
     }
-    fs::remove_file(rt, path)
 }
 
 /// Formats a disk and stores two pages; the disk, or None if that failed.

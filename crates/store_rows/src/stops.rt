@@ -48,13 +48,7 @@ pub fn round(rt: &HostRuntime, alloc: Global, rest: &str) -> io::Result<()> {
             return println!(rt; "= call {call}: the round is done");
         };
         println!(rt; "= call {call}")?;
-        match PageStore::open(alloc, disk) {
-            Ok(pages) => {
-                show_slot(rt, alloc, &pages, SLOT)?;
-                show_slot(rt, alloc, &pages, SLOT + 1)?;
-            }
-            Err(refused) => println!(rt; "= {:?}", refused.fault)?,
-        }
+        show_round(rt, alloc, disk)?;
     }
     Ok(())
 }
@@ -66,13 +60,7 @@ pub fn relabel(rt: &HostRuntime, alloc: Global) -> io::Result<()> {
             return println!(rt; "= call {call}: the label is written");
         };
         println!(rt; "= call {call}")?;
-        match PageStore::open(alloc, disk) {
-            Ok(pages) => {
-                show_slot(rt, alloc, &pages, SLOT)?;
-                show_label(rt, alloc, &pages)?;
-            }
-            Err(refused) => println!(rt; "= {:?}", refused.fault)?,
-        }
+        show_labelled(rt, alloc, disk)?;
     }
     Ok(())
 }
@@ -139,4 +127,34 @@ fn show_found(rt: &HostRuntime, alloc: Global, disk: MemDisk) -> io::Result<()> 
         Ok(pages) => show_slot(rt, alloc, &pages, SLOT),
         Err(refused) => println!(rt; "= {:?}", refused.fault),
     }
+}
+
+/// Prints what a store finds in the slot and in the next one.
+fn show_round(rt: &HostRuntime, alloc: Global, disk: MemDisk) -> io::Result<()> {
+    match PageStore::open(alloc, disk) {
+        Ok(pages) => show_slots(rt, alloc, &pages),
+        Err(refused) => println!(rt; "= {:?}", refused.fault),
+    }
+}
+
+fn show_slots(rt: &HostRuntime, alloc: Global, pages: &PageStore<MemDisk>) -> io::Result<()> {
+    show_slot(rt, alloc, pages, SLOT)?;
+    show_slot(rt, alloc, pages, SLOT + 1)
+}
+
+/// Prints what a store finds in the slot, and its label.
+fn show_labelled(rt: &HostRuntime, alloc: Global, disk: MemDisk) -> io::Result<()> {
+    match PageStore::open(alloc, disk) {
+        Ok(pages) => show_slot_and_label(rt, alloc, &pages),
+        Err(refused) => println!(rt; "= {:?}", refused.fault),
+    }
+}
+
+fn show_slot_and_label(
+    rt: &HostRuntime,
+    alloc: Global,
+    pages: &PageStore<MemDisk>,
+) -> io::Result<()> {
+    show_slot(rt, alloc, pages, SLOT)?;
+    show_label(rt, alloc, pages)
 }
