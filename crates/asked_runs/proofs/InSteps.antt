@@ -1,15 +1,14 @@
 -- A session goes on by a script, or ends so, with what the clock gave.
 use Rattle.std.proofs.Common.{ℕ, List, ◌∷◌, [], ◌++◌, All, Option, Some, None, Ok, Err, append-nil, subst}
+use Rattle.xdr_codec.specs.declared.blob.Memory.{Memory}
 use Rattle.world_model.specs.History.{History}
 use Rattle.nfs_script.specs.Asked.{IsAskedLine}
 use Rattle.nfs_script.specs.declared.script.ScriptLine.{ScriptLine}
 use Rattle.lane_session.specs.declared.running.Session.{Session}
 use Rattle.lane_session.specs.Holding.{IsHeld}
-use Rattle.asked_runs.specs.declared.stop.Stop.{Stop}
-use Rattle.asked_runs.specs.declared.stop.Stop.TheVariants as stops
 use Rattle.asked_runs.specs.Asking.{Round}
 use Rattle.asked_runs.specs.Running.{RunsIn, RunsNext, RunsTo, Shows, first_round}
-use Rattle.asked_runs.specs.Stops.{EndsBy}
+use Rattle.asked_runs.specs.Statuses.{EndsBy}
 use Rattle.asked_runs.proofs.Cuts.{cut-none, up-cut}
 use Rattle.asked_runs.proofs.Showing.{shows-less, shows-same, shows-then}
 use Rattle.asked_runs.proofs.Steps.{UpIn, step-ends, step-on, step-stops}
@@ -47,17 +46,17 @@ module _ (A : Type 0) (asks : A → List Round → A → Type 0) (first : List S
           (λ given given_now h k l up r m setup start goes bonded.
           step-ends m setup start (Since now) (Since after) (Calls now after) (one-on now after) script may s new given given_now h k l (up m setup start goes bonded) status ends r) u p
 
-      pub in-stops : (stop : Stop) → Shows r1 r2 t1 t2 (RunsNext (Calls now after) script s new (Err stop))
-          → Shows r0 r2 t0 t2 (RunsIn (Since after) first session (Err stop))
-      in-stops stop p =
-          shows-then r0 r1 r2 t0 t1 t2 (UpIn (Since now) first session script s) (RunsNext (Calls now after) script s new (Err stop)) (RunsIn (Since after) first session (Err stop))
+      pub in-stops : (e : Memory) → Shows r1 r2 t1 t2 (RunsNext (Calls now after) script s new (Err e))
+          → Shows r0 r2 t0 t2 (RunsIn (Since after) first session (Err e))
+      in-stops e p =
+          shows-then r0 r1 r2 t0 t1 t2 (UpIn (Since now) first session script s) (RunsNext (Calls now after) script s new (Err e)) (RunsIn (Since after) first session (Err e))
           (λ given given_now h k l up r m setup start goes bonded.
-          step-stops m setup start (Since now) (Since after) (Calls now after) (one-on now after) script may s new given given_now h k l (up m setup start goes bonded) stop r) u p
+          step-stops m setup start (Since now) (Since after) (Calls now after) (one-on now after) script may s new given given_now h k l (up m setup start goes bonded) e r) u p
 
     -- no further script is run
-    pub in-full : (r0 r1 : Option (List ℕ)) (t0 t1 : Option History) (now : A) (script : List ScriptLine) (may : All IsAskedLine script) (s : Session) → IsHeld script s
-        → Shows r0 r1 t0 t1 (UpIn (Since now) first session script s) → Shows r0 r1 t0 t1 (RunsIn (Since now) first session (Err stops.Memory))
-    in-full r0 r1 t0 t1 now script may s held u =
-        shows-less r0 r1 t0 t1 (UpIn (Since now) first session script s) (RunsIn (Since now) first session (Err stops.Memory))
+    pub in-full : (r0 r1 : Option (List ℕ)) (t0 t1 : Option History) (now : A) (script : List ScriptLine) (may : All IsAskedLine script) (s : Session) (e : Memory) → IsHeld script s
+        → Shows r0 r1 t0 t1 (UpIn (Since now) first session script s) → Shows r0 r1 t0 t1 (RunsIn (Since now) first session (Err e))
+    in-full r0 r1 t0 t1 now script may s e held u =
+        shows-less r0 r1 t0 t1 (UpIn (Since now) first session script s) (RunsIn (Since now) first session (Err e))
         (λ given h k up m setup start goes bonded.
-        subst (λ (g : List ℕ). RunsTo (Since now) m setup start.from (Err stops.Memory) g h k) (append-nil given) (up-cut m setup start (Since now) (Since now) script may s given [] h k k (up m setup start goes bonded) stops.Memory (cut-none script s k held))) u
+        subst (λ (g : List ℕ). RunsTo (Since now) m setup start.from (Err e) g h k) (append-nil given) (up-cut m setup start (Since now) (Since now) script may s given [] h k k (up m setup start goes bonded) e (cut-none script s k held))) u

@@ -1,5 +1,6 @@
 -- What a session comes to, once its set-up did.
-use Rattle.std.proofs.Common.{◌≡◌, ◌≤◌, ◌⊎◌, ℕ, List, [], ◌∷◌, Option, Some, None, Result, Ok, Err, refl, sym, ap, subst, arith}
+use Rattle.std.proofs.Common.{◌≡◌, ◌≤◌, ◌⊎◌, ℕ, List, [], ◌∷◌, Option, Some, None, Result, Ok, Err, refl, ap, arith}
+use Rattle.xdr_codec.specs.declared.blob.Memory.{Memory as OutOfMemory}
 use Rattle.world_model.specs.declared.answer.Fault.{Fault}
 use Rattle.world_model.specs.declared.entry.Entry.{Entry}
 use Rattle.world_model.specs.declared.tally.Tally.{Tally}
@@ -16,15 +17,13 @@ use Rattle.lane_session.specs.Bonds.{IsOpened}
 use Rattle.lane_session.specs.Streams.{ReadsAll as LaneReadsAll}
 use Rattle.script_runs.specs.LaneRuns.{Leaves, setup_of}
 use Rattle.script_runs.specs.Readings.{Reads, ReadsAll, ReadsOnce}
-use Rattle.script_runs.specs.Run.{IsCutOff, IsFirst}
+use Rattle.script_runs.specs.Run.{IsFirst}
 use Rattle.script_runs.proofs.LaneRuns.{fresh}
 use Rattle.script_runs.proofs.Readings.{reads_more, reads_none}
-use Rattle.asked_runs.specs.declared.stop.Stop.{Stop}
 use Rattle.asked_runs.specs.Asking.{Round}
 use Rattle.asked_runs.specs.Running.{RunsOver, Shows}
 use Rattle.asked_runs.specs.Runs.{RunsAsked, cut_before, lost, no_script, ready, refused, rounds_of, unready}
-use Rattle.asked_runs.specs.Stops.{ended_with, status_of}
-use Rattle.asked_runs.proofs.Cuts.{stop-cuts}
+use Rattle.asked_runs.specs.Statuses.{ended_with}
 
 first-in : (wanted : Option ℕ) (ms first : ℕ) (given : List ℕ) → IsFirst (ms ∷ []) wanted first → IsFirst (ms ∷ given) wanted first
 first-in None ms first given e = e
@@ -51,7 +50,7 @@ all-read (Some a) (Some b) given p = p
 abbrev pub RunSays : (a b : Option (List ℕ)) (old new : Option History) (Asked : List Round → Type 0) (s : Settings) (status : ℕ) → Type 0
 RunSays a b old new Asked s status = Reads a b (λ given. Relates old new (λ before h. before ≡ [] → RunsAsked Leaves Asked s given h status))
 
-module _ (Asked : List Round → Type 0) (s : Settings) (result : Result ℕ Stop) (first : ℕ) (a b c : Option (List ℕ)) (old mid new : Option History)
+module _ (Asked : List Round → Type 0) (s : Settings) (result : Result ℕ OutOfMemory) (first : ℕ) (a b c : Option (List ℕ)) (old mid new : Option History)
     (one : ReadsOnce a b (λ ms. IsFirst (ms ∷ []) s.xid first)) where
   -- it was set up
   ready-told : (ms : ℕ) (is : IsFirst (ms ∷ []) s.xid first) (old mid new : Option History) (v : SetUp) (given : List ℕ) → FitsSession s first v
@@ -84,7 +83,7 @@ module _ (Asked : List Round → Type 0) (s : Settings) (status : ℕ) (first : 
   pub lost-says : (old mid : Option History) (tally : Tally) → Along old mid (λ h k. ours h ≡ [] → SetsUp s first (Err (Lost tally)) k) → status ≡ 6 → RunSays a b old mid Asked s status
   lost-says old mid tally up six = unset-says (SetsUp s first (Err (Lost tally))) (λ h so. lost one.0 first refl one.2 tally so six) old mid up
 
-  pub refused-says : (old mid : Option History) (fault : Fault) → Along old mid (λ h k. ours h ≡ [] → SetsUp s first (Err (Refused fault)) k) → (status ≡ 8) ⊎ IsCutOff status
+  pub refused-says : (old mid : Option History) (fault : Fault) → Along old mid (λ h k. ours h ≡ [] → SetsUp s first (Err (Refused fault)) k) → (status ≡ 8) ⊎ (status ≡ 7)
       → RunSays a b old mid Asked s status
   refused-says old mid fault up how = unset-says (SetsUp s first (Err (Refused fault))) (λ h so. refused one.0 first refl one.2 fault so how) old mid up
 
@@ -123,10 +122,5 @@ module _ (a : Option (List ℕ)) (old : Option History) (Asked : List Round → 
   pub none-says : (status : ℕ) → Asked (rounds_of [] 0 []) → status ≤ 1 → RunSays a a old old Asked s status
   none-says status asked few = uncalled status (λ h e. no_script e asked few)
 
-  pub stop-says : (stop : Stop) → RunSays a a old old Asked s (status_of stop)
-  stop-says stop = uncalled (status_of stop) (λ h e. cut_before e (stop-cuts stop))
-
--- the same status
-pub ended-says : (a b : Option (List ℕ)) (old new : Option History) (Asked : List Round → Type 0) (s : Settings) (stop : Stop) (status : ℕ) → status ≡ status_of stop
-    → RunSays a b old new Asked s (status_of stop) → RunSays a b old new Asked s status
-ended-says a b old new Asked s stop status is said = subst (λ (n : ℕ). RunSays a b old new Asked s n) (sym is) said
+  pub stop-says : RunSays a a old old Asked s 7
+  stop-says = uncalled 7 (λ h e. cut_before e refl)

@@ -1,6 +1,7 @@
 -- A session on its way: the scripts that were run so far, and the one before whose lines it stands.
 use Rattle.std.proofs.Common.{◌≡◌, ◌≢◌, ◌≤◌, ℕ, List, [], ◌∷◌, ◌++◌, All, length, drop, Option, Some, None, Result, refl, sym, ap, subst, ◌∙◌, append-nil, append_assoc, arith}
 use Rattle.std.proofs.lemmas.List.{append_cancel_left}
+use Rattle.xdr_codec.specs.declared.blob.Memory.{Memory}
 use Rattle.world_model.specs.declared.entry.Entry.{Entry}
 use Rattle.world_model.specs.Clocked.{clocks}
 use Rattle.world_model.specs.Follows.{Finishes, Follows}
@@ -14,17 +15,16 @@ use Rattle.lane_session.specs.Bonds.{Bonded, Start}
 use Rattle.lane_session.specs.Endings.{entries_of}
 use Rattle.lane_session.specs.Going.{Goes}
 use Rattle.lane_session.specs.Labels.{told_by}
-use Rattle.lane_session.specs.Statuses.{HasStatus, IsEnding}
+use Rattle.lane_session.specs.Statuses.{HasStatus}
 use Rattle.lane_session.specs.TogetherFrom.{TogetherFrom}
 use Rattle.lane_session.proofs.Labels.{told-append, told-plain}
 use Rattle.lane_session.proofs.Reaching.{core-of}
 use Rattle.script_runs.specs.Scripts.{StandsBefore}
 use Rattle.script_runs.proofs.Finishing.{all-append, script-finishes, script-follows}
-use Rattle.asked_runs.specs.declared.stop.Stop.{Stop}
 use Rattle.asked_runs.specs.Asking.{Round}
 use Rattle.asked_runs.specs.Runs.{AreKept, ArePartsFrom, Part, entries_in, last_status, lines_in}
 use Rattle.asked_runs.specs.Running.{RunsTo, RunsWhole, first_round}
-use Rattle.asked_runs.specs.Stops.{ended_with}
+use Rattle.asked_runs.specs.Statuses.{IsEnding, ended_with}
 use Rattle.asked_runs.proofs.Parts.{entries-more, kept-more, lines-more, parts-more, rounds-more, rounds-none, rounds_to, status-more}
 
 -- The session stands before the lines of a script, which was asked for behind those that were run.
@@ -134,7 +134,7 @@ module _ (m : Mounted) (setup : Setup) (start : Start) (Asked After : List Round
   }
 
   -- there is none, or the run ends so for another cause
-  pub up-over : (result : Result ℕ Stop) → IsEnding (ended_with result) → (ended_with result ≡ 6 → new.status ≡ 6) → (ended_with result ≤ 1 → new.status ≢ 6)
+  pub up-over : (result : Result ℕ Memory) → IsEnding (ended_with result) → (ended_with result ≡ 6 → new.status ≡ 6) → (ended_with result ≤ 1 → new.status ≢ 6)
       → (ended_with result ≤ 1 → Asks (record { answers = answers; status = new.status; script = None })) → RunsTo After m setup start.from result (given ++ given_now) h l
   up-over result ending lost kept asks =
       let none : lines_in parts-now ++ [] ≡ lines_in u.parts ++ script = append-nil (lines_in parts-now) ∙ lines-now in

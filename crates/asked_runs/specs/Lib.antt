@@ -1,4 +1,4 @@
 pub mod Asking
 pub mod Running
 pub mod Runs
-pub mod Stops
+pub mod Statuses

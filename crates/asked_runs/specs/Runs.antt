@@ -12,10 +12,11 @@ use Rattle.session_setup.specs.declared.opening.SetUpFault.TheVariants.{Refused,
 use Rattle.session_setup.specs.Outcomes.{SetsUp}
 use Rattle.lane_session.specs.Endings.{NotesAll, entries_of}
 use Rattle.lane_session.specs.Going.{AllTimed}
-use Rattle.lane_session.specs.Statuses.{HasStatus, IsEnding}
+use Rattle.lane_session.specs.Statuses.{HasStatus}
 use Rattle.lane_session.specs.TogetherFrom.{TogetherFrom}
-use Rattle.script_runs.specs.Run.{IsCutOff, IsFirst}
+use Rattle.script_runs.specs.Run.{IsFirst}
 use Rattle.asked_runs.specs.Asking.{Round}
+use Rattle.asked_runs.specs.Statuses.{IsEnding}
 
 -- A script that was run: its lines, what the history got by it, and its status.
 pub record Part : Type 0 where
@@ -59,15 +60,15 @@ abbrev pub ArePartsFrom : List Entry → List ScriptLine → List Part → Type 
 ArePartsFrom h done [] = Unit {0}
 ArePartsFrom h done (p ∷ ps) = PartIs h done p × ArePartsFrom (h ++ p.entries) (done ++ p.lines) ps
 
--- Scripts were run one after another, before which the set-up left the history; and perhaps one more was begun, in which the session was cut off. At 6 an
--- answer to the last of them was that the session is lost, and at 0 and 1 none of any was.
+-- Scripts were run one after another, before which the set-up left the history; and at 7 perhaps one more was begun, in which the session was cut off. At 6
+-- an answer to the last of them was that the session is lost, and at 0 and 1 none of any was.
 pub record SessionOf (given : List ℕ) (before h : List Entry) (status : ℕ) : Type 0 where
   pub parts : List Part
   pub rest : List ScriptLine
   pub last : List Entry
   pub are : ArePartsFrom before [] parts
   pub history : h ≡ before ++ (entries_in parts ++ last)
-  pub whole : (IsCutOff status → ⊥) → (rest ≡ []) × (last ≡ [])
+  pub whole : status ≢ 7 → (rest ≡ []) × (last ≡ [])
   pub lost : status ≡ 6 → last_status 0 parts ≡ 6
   pub kept : status ≤ 1 → AreKept parts
   pub ending : IsEnding status
@@ -84,12 +85,12 @@ lines_of session = lines_in session.parts ++ session.rest
 pub data RunsAsked (R : Settings → List ScriptLine → ℕ → SetUp → List Entry → List Entry → Type 0) (Asked : List Round → Type 0) (s : Settings)
     (given : List ℕ) (h : List Entry) (status : ℕ) : Type 0 where
   no_script : h ≡ [] → Asked (rounds_of [] 0 []) → status ≤ 1 → RunsAsked R Asked s given h status
-  cut_before : h ≡ [] → IsCutOff status → RunsAsked R Asked s given h status
+  cut_before : h ≡ [] → status ≡ 7 → RunsAsked R Asked s given h status
   ready : (ms first : ℕ) (later : List ℕ) → given ≡ ms ∷ later → IsFirst given s.xid first → (v : SetUp) (before : List Entry) → SetsUp s first (Ok v) before
       → (session : SessionOf later before h status) → (status ≤ 1 → Asked (rounds_of [] 0 session.parts)) → R s (lines_of session) first v before h
       → RunsAsked R Asked s given h status
   lost : (ms first : ℕ) → given ≡ ms ∷ [] → IsFirst given s.xid first → (tally : Tally) → SetsUp s first (Err (Lost tally)) h → status ≡ 6
       → RunsAsked R Asked s given h status
   refused : (ms first : ℕ) → given ≡ ms ∷ [] → IsFirst given s.xid first → (fault : Fault) → SetsUp s first (Err (Refused fault)) h
-      → (status ≡ 8) ⊎ IsCutOff status → RunsAsked R Asked s given h status
+      → (status ≡ 8) ⊎ (status ≡ 7) → RunsAsked R Asked s given h status
   unready : (ms first : ℕ) → given ≡ ms ∷ [] → IsFirst given s.xid first → SetsUp s first (Err Memory) h → status ≡ 7 → RunsAsked R Asked s given h status

@@ -3,10 +3,10 @@
 ghost use Rattle.std.specs.Prelude.{◌≡◌, ◌≤◌, ◌++◌, [], ◌∷◌, ℕ, List, IfOk, IfSome};
 ghost use Rattle.asked_runs.specs.Asking.{MayRun, Round};
 
-use crate::stop::Stop;
 use nfs_script::Script;
 use std::alloc::Global;
 use world_model::Fault;
+use xdr_codec::Memory;
 
 /// What asks for the scripts of a session, one after another.
 pub trait Asker {
@@ -21,7 +21,7 @@ pub trait Asker {
 
     /// The next script; none at the end. The answers are the lines that were written of the one before, and its status is 0, 1 or 6; before the first they are
     /// empty and 0. Once a session is lost it is called so for the last time, and a script that it gives then isn't run.
-    fn next(&mut self, alloc: Global, answers: &[u8], status: u8) -> Result<Option<Script>, Stop>
+    fn next(&mut self, alloc: Global, answers: &[u8], status: u8) -> Result<Option<Script>, Memory>
         requires { status ≤ 6 }
         ensures goes { IfOk result (λ next. (first : Self) (rounds : List Round) → asks first rounds self.old
             → asks first (rounds ++ record { answers = answers.now; status = status; script = next } ∷ []) self.new) }
@@ -29,7 +29,7 @@ pub trait Asker {
         ensures stays { (first : Self) → stays first self.old → stays first self.new };
 
     /// The mount was refused, and no further script is asked for.
-    fn refuse(&mut self, alloc: Global, fault: Fault) -> Result<(), Stop>
+    fn refuse(&mut self, alloc: Global, fault: Fault) -> Result<(), Memory>
         ensures { (first : Self) → stays first self.old → stays first self.new };
 
     /// The status by all that was asked for, 0 or 1.

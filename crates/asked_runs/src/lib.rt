@@ -5,9 +5,7 @@
 mod asker;
 mod running;
 mod status;
-mod stop;
 mod top;
 
 pub use asker::Asker;
-pub use stop::Stop;
 pub use top::run_with;

@@ -9,11 +9,10 @@ ghost use Rattle.lane_session.specs.Places.{AreIdle};
 ghost use Rattle.lane_session.specs.Ports.{KeepsPort};
 ghost use Rattle.asked_runs.specs.Asking.{MayRun, Round};
 ghost use Rattle.asked_runs.specs.Running.{FindsNext, GoesOver, RunsIn, RunsNext, RunsOver, RunsScript, Shows, first_round};
-ghost use Rattle.asked_runs.specs.Stops.{EndsBy, IsOwn};
+ghost use Rattle.asked_runs.specs.Statuses.{EndsBy, IsOwn};
 
 use crate::asker::Asker;
 use crate::status;
-use crate::stop::{Stop, of_halt};
 use client_core::Setup;
 use lane_session::Session;
 use nfs_script::Script;
@@ -21,6 +20,7 @@ use outside::{Clock, Link, MemSink};
 use session_words::Settings;
 use std::alloc::Global;
 use world_model::Tally;
+use xdr_codec::Memory;
 
 /// Runs a script, and those that the asker asks for by its answers, over a set-up. It answers the status.
 pub(crate) fn run_scripts<A: Asker, L: Link, C: Clock>(
@@ -32,7 +32,7 @@ pub(crate) fn run_scripts<A: Asker, L: Link, C: Clock>(
     asker: &mut A,
     link: &mut L,
     clock: &mut C,
-) -> Result<u8, Stop>
+) -> Result<u8, Memory>
     requires may { MaySetUp setup }
     requires run { MayRun first }
     ensures runs { Shows (C.readings clock.old) (C.readings clock.new) (L.told link.old) (L.told link.new) (λ given h k. IsOpened (Some setup) h
@@ -52,7 +52,7 @@ pub(crate) fn run_scripts<A: Asker, L: Link, C: Clock>(
             drop(session);
             ran
         }
-        Err(_) => Err(Stop::Memory),
+        Err(_) => Err(Memory),
     }
 }
 
@@ -64,7 +64,7 @@ fn run_in<A: Asker, L: Link, C: Clock>(
     asker: &mut A,
     link: &mut L,
     clock: &mut C,
-) -> Result<u8, Stop>
+) -> Result<u8, Memory>
     requires run { MayRun first }
     requires held { IsHeld first session.old }
     ensures runs { Shows (C.readings clock.old) (C.readings clock.new) (L.told link.old) (L.told link.new)
@@ -81,10 +81,10 @@ fn run_in<A: Asker, L: Link, C: Clock>(
         match run_next(alloc, session, &script, asker, link, clock) {
             Ok(Some(next)) => script = next,
             Ok(None) => return Ok(ending(session, asker)),
-            Err(stop) => return Err(stop),
+            Err(memory) => return Err(memory),
         }
     }
-    Err(Stop::Memory)
+    Err(Memory)
 }
 
 /// Runs the lines of a script, and asks for the next one, before whose lines the session stands then. None at the end, and once the session is lost.
@@ -95,7 +95,7 @@ fn run_next<A: Asker, L: Link, C: Clock>(
     asker: &mut A,
     link: &mut L,
     clock: &mut C,
-) -> Result<Option<Script>, Stop>
+) -> Result<Option<Script>, Memory>
     requires run { MayRun script.now }
     requires held { IsHeld script.now session.old }
     ensures runs { Shows (C.readings clock.old) (C.readings clock.new) (L.told link.old) (L.told link.new)
@@ -110,7 +110,7 @@ fn run_next<A: Asker, L: Link, C: Clock>(
 {
     match run_script(alloc, session, script, link, clock) {
         Ok(answers) => find_next(alloc, session, script, &answers, asker),
-        Err(stop) => Err(stop),
+        Err(memory) => Err(memory),
     }
 }
 
@@ -121,7 +121,7 @@ fn run_script<L: Link, C: Clock>(
     script: &Script,
     link: &mut L,
     clock: &mut C,
-) -> Result<MemSink, Stop>
+) -> Result<MemSink, Memory>
     requires run { MayRun script.now }
     requires held { IsHeld script.now session.old }
     ensures idle { OnOk result (AreIdle session.new.lanes) }
@@ -134,11 +134,12 @@ fn run_script<L: Link, C: Clock>(
     ensures honest { L.honest link.old → L.honest link.new }
 {
     let Ok(mut answers) = MemSink::new(alloc, &[]) else {
-        return Err(Stop::Memory);
+        return Err(Memory);
     };
     match session.work(script, &[], link, clock, &mut answers) {
         Ok(()) => Ok(answers),
-        Err(halt) => Err(of_halt(halt)),
+        // The answers are kept in memory, so that a halt of either kind is want of it.
+        Err(_halt) => Err(Memory),
     }
 }
 
@@ -149,7 +150,7 @@ fn find_next<A: Asker>(
     script: &Script,
     answers: &MemSink,
     asker: &mut A,
-) -> Result<Option<Script>, Stop>
+) -> Result<Option<Script>, Memory>
     requires held { IsHeld script.now session.old }
     requires idle { AreIdle session.old.lanes }
     requires quiet { AreQuiet script.now session.old }
@@ -164,12 +165,12 @@ fn find_next<A: Asker>(
     match asker.next(alloc, answers.bytes(), status) {
         Ok(Some(next)) => go_over(session, script, next),
         Ok(None) => Ok(None),
-        Err(stop) => Err(stop),
+        Err(memory) => Err(memory),
     }
 }
 
 /// The session goes on to the lines of the next script, if it isn't lost and has room for them.
-fn go_over(session: &mut Session, script: &Script, next: Script) -> Result<Option<Script>, Stop>
+fn go_over(session: &mut Session, script: &Script, next: Script) -> Result<Option<Script>, Memory>
     requires held { IsHeld script.now session.old }
     requires idle { AreIdle session.old.lanes }
     requires quiet { AreQuiet script.now session.old }
@@ -182,7 +183,7 @@ fn go_over(session: &mut Session, script: &Script, next: Script) -> Result<Optio
         return Ok(None);
     }
     if !session.has_room(script, &next) {
-        return Err(Stop::Memory);
+        return Err(Memory);
     }
     session.next_script(script);
     Ok(Some(next))

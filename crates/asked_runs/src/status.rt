@@ -2,8 +2,6 @@
 
 /// Before the first script.
 pub const WELL: u8 = 0;
-/// Writing failed.
-pub const WRITE_FAULT: u8 = 5;
 /// The session is lost.
 pub const LINK_LOST: u8 = 6;
 /// Out of memory outside an operation.

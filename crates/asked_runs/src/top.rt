@@ -12,12 +12,11 @@ ghost use Rattle.script_runs.specs.Run.{IsXidOption};
 ghost use Rattle.asked_runs.specs.Asking.{MayRun};
 ghost use Rattle.asked_runs.specs.Running.{RunsOver, Shows, first_round};
 ghost use Rattle.asked_runs.specs.Runs.{RunsAsked};
-ghost use Rattle.asked_runs.specs.Stops.{IsOutcome, IsOwn, ended_with};
+ghost use Rattle.asked_runs.specs.Statuses.{IsOutcome, IsOwn, ended_with};
 
 use crate::asker::Asker;
 use crate::running::run_scripts;
 use crate::status;
-use crate::stop::Stop;
 use client_core::Setup;
 use nfs_script::Script;
 use outside::{Clock, Link};
@@ -27,9 +26,10 @@ use session_setup::{SetUp, SetUpFault, set_up};
 use session_words::Settings;
 use std::alloc::Global;
 use world_model::Fault;
+use xdr_codec::Memory;
 
 /// Runs the scripts that are asked for, by settings that are known, and answers the status: that of the asker, 0 or 1; 6 if the session is lost; 7 for lack of
-/// memory outside an operation, or 5 if writing failed; or 8 if the mount is refused. Without a script no call is made.
+/// memory outside an operation; or 8 if the mount is refused. Without a script no call is made.
 pub fn run_with<A: Asker, L: Link, C: Clock>(
     alloc: Global,
     settings: &Settings,
@@ -42,8 +42,8 @@ pub fn run_with<A: Asker, L: Link, C: Clock>(
     requires xid { IsXidOption settings.now.xid }
     ensures statuses { result ≤ 8 }
 
-    // Neither 2, 3 nor 4 comes.
-    ensures taken { 2 ≤ result → 5 ≤ result }
+    // None of 2 to 5 comes.
+    ensures taken { 2 ≤ result → 6 ≤ result }
     ensures stays { (first : L) → L.stays first link.old → L.stays first link.new }
     ensures honest { L.honest link.old → L.honest link.new }
     ensures asker { (first : A) → A.stays first asker.old → A.stays first asker.new }
@@ -56,18 +56,18 @@ pub fn run_with<A: Asker, L: Link, C: Clock>(
 {
     match run_all(alloc, settings, asker, link, clock) {
         Ok(status) => status,
-        Err(stop) => stop.status(),
+        Err(_) => status::NO_MEMORY,
     }
 }
 
-/// The same, but what stops it is an error.
+/// The same, but want of memory is an error.
 fn run_all<A: Asker, L: Link, C: Clock>(
     alloc: Global,
     settings: &Settings,
     asker: &mut A,
     link: &mut L,
     clock: &mut C,
-) -> Result<u8, Stop>
+) -> Result<u8, Memory>
     requires options { IsOptions settings.now }
     requires most { settings.now.calls < 2 ^ 31 }
     requires xid { IsXidOption settings.now.xid }
@@ -83,7 +83,7 @@ fn run_all<A: Asker, L: Link, C: Clock>(
     match asker.next(alloc, &[], status::WELL) {
         Ok(Some(script)) => open(alloc, settings, script, asker, link, clock),
         Ok(None) => Ok(asker.status()),
-        Err(stop) => Err(stop),
+        Err(memory) => Err(memory),
     }
 }
 
@@ -95,7 +95,7 @@ fn open<A: Asker, L: Link, C: Clock>(
     asker: &mut A,
     link: &mut L,
     clock: &mut C,
-) -> Result<u8, Stop>
+) -> Result<u8, Memory>
     requires options { IsOptions settings.now }
     requires most { settings.now.calls < 2 ^ 31 }
     requires xid { IsXidOption settings.now.xid }
@@ -114,18 +114,18 @@ fn open<A: Asker, L: Link, C: Clock>(
         Ok(ready) => open_ready(alloc, settings, script, ready, asker, link, clock),
         Err(SetUpFault::Lost(_tally)) => Ok(status::LINK_LOST),
         Err(SetUpFault::Refused(fault)) => refuse(alloc, fault, asker),
-        Err(SetUpFault::Memory) => Err(Stop::Memory),
+        Err(SetUpFault::Memory) => Err(Memory),
     }
 }
 
 /// The mount was refused.
-fn refuse<A: Asker>(alloc: Global, fault: Fault, asker: &mut A) -> Result<u8, Stop>
+fn refuse<A: Asker>(alloc: Global, fault: Fault, asker: &mut A) -> Result<u8, Memory>
     ensures is { IfOk result (λ status. status ≡ 8) }
     ensures asker { (first : A) → A.stays first asker.old → A.stays first asker.new }
 {
     match asker.refuse(alloc, fault) {
         Ok(()) => Ok(status::MOUNT_REFUSED),
-        Err(stop) => Err(stop),
+        Err(memory) => Err(memory),
     }
 }
 
@@ -138,7 +138,7 @@ fn open_ready<A: Asker, L: Link, C: Clock>(
     asker: &mut A,
     link: &mut L,
     clock: &mut C,
-) -> Result<u8, Stop>
+) -> Result<u8, Memory>
     requires may { MaySetUp (setup_of settings.now ready) }
     requires run { MayRun script }
     ensures runs { Shows (C.readings clock.old) (C.readings clock.new) (L.told link.old) (L.told link.new)
@@ -153,7 +153,7 @@ fn open_ready<A: Asker, L: Link, C: Clock>(
     ensures honest { L.honest link.old → L.honest link.new }
 {
     let Ok(pages) = PageCache::new(alloc) else {
-        return Err(Stop::Memory);
+        return Err(Memory);
     };
     let setup = Setup {
         root: ready.root,

@@ -20,7 +20,6 @@ use Rattle.copy_scripts.proofs.Uploads.{cant-behind, cant-front, gives-none, giv
 use Rattle.session_words.specs.declared.settings.Settings.{Settings}
 use Rattle.lane_session.specs.Statuses as statuses
 use Rattle.lane_session.specs.Statuses.{HasStatus, IsAnswered}
-use Rattle.script_runs.specs.Run.{IsCutOff}
 use Rattle.asked_runs.specs.Asking.{Round}
 use Rattle.asked_runs.specs.Runs as runs
 use Rattle.asked_runs.specs.Runs.{ArePartsFrom, Part, RunsAsked, SessionOf, entries_in, rounds_of}
@@ -138,17 +137,13 @@ module _ {T : Type 0} (given : T → Option (List Given)) (over : T → Type 0) 
       (λ f. refused f.fault (subst (λ (k : List Entry). IsAnswered k (Refused f.fault)) (sym session.history)
       (answered-behind before (entries_in session.parts ++ session.last) (Refused f.fault) (answered-front (entries_in session.parts) session.last (Refused f.fault) f.answered))))
 
-  not-cut : (status : ℕ) → status ≡ 1 → IsCutOff status → ⊥
-  not-cut status one (inl five) = absurd (omega (arith, one, five))
-  not-cut status one (inr seven) = absurd (omega (arith, one, seven))
-
   by-run : (readings : List ℕ) (h : List Entry) (status : ℕ) → status ≡ 1 → RunsAsked Promised AskedFor s readings h status → Missed to g h
   by-run readings h status one (runs.no_script none asked few) = by-parts [] [] h asked tt (λ f. absurd (no-fault f))
-  by-run readings h status one (runs.cut_before none off) = absurd (not-cut status one off)
+  by-run readings h status one (runs.cut_before none seven) = absurd (omega (arith, one, seven))
   by-run readings h status one (runs.ready ms first later is by v before so session asked promised) = by-session later before h status session (asked (omega (arith, one)))
   by-run readings h status one (runs.lost ms first is by tally so six) = absurd (omega (arith, one, six))
   by-run readings h status one (runs.refused ms first is by fault so (inl eight)) = absurd (omega (arith, one, eight))
-  by-run readings h status one (runs.refused ms first is by fault so (inr off)) = absurd (not-cut status one off)
+  by-run readings h status one (runs.refused ms first is by fault so (inr seven)) = absurd (omega (arith, one, seven))
   by-run readings h status one (runs.unready ms first is by so seven) = absurd (omega (arith, one, seven))
 
 -- ---- the whole clause

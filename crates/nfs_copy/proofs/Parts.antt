@@ -1,5 +1,5 @@
 -- What the calls for scripts say of the scripts that were run.
-use Rattle.std.proofs.Common.{◌≡◌, ◌≢◌, ◌⊎◌, inl, inr, ℕ, List, [], ◌∷◌, ◌++◌, Bool, true, false, cond, nat_eq, Option, Some, None, refl, sym, ap, subst, ◌∙◌}
+use Rattle.std.proofs.Common.{◌≡◌, ◌≢◌, ◌≤◌, ◌⊎◌, inl, inr, ℕ, List, [], ◌∷◌, ◌++◌, length, Bool, true, false, cond, nat_eq, Option, Some, None, Result, Ok, Err, IfOk, IfSome, refl, sym, ap, subst, ◌∙◌}
 use Rattle.std.specs.List.{All}
 use Rattle.std.proofs.lemmas.Bool.{eqb-true}
 use Rattle.std.proofs.lemmas.List.Elements.{All-head, All-tail}
@@ -7,16 +7,18 @@ use Rattle.world_model.specs.declared.entry.Entry.{Entry}
 use Rattle.world_model.specs.declared.entry.Entry.TheVariants.{Began}
 use Rattle.world_model.specs.Follows.{begun}
 use Rattle.nfs_script.specs.declared.script.ScriptLine.{ScriptLine}
+use Rattle.nfs_script.specs.Asked.{IsAskedLine}
+use Rattle.xdr_codec.specs.declared.blob.Memory.{Memory}
 use Rattle.file_trees.specs.declared.tree.Given.{Given}
 use Rattle.file_trees.specs.Giving.{Gives}
 use Rattle.copy_plan.specs.Files.{FilesView}
 use Rattle.copy_plan.specs.Lines.{IsNameLine}
 use Rattle.copy_plan.specs.Trees.{plan_of}
 use Rattle.copy_scripts.specs.declared.upload.Sent.TheVariants as sents
-use Rattle.copy_scripts.specs.Uploads.{AreWhole, Right, Sends, UploadView, files, names, none, taken}
+use Rattle.copy_scripts.specs.Uploads.{AreWhole, Gave, NextIs, Right, Sends, UploadView, files, names, none, taken}
 use Rattle.copy_scripts.proofs.Uploads.{gives-then, plan-then, whole-then}
 use Rattle.lane_session.specs.Endings.{entries_of}
-use Rattle.asked_runs.specs.Asking.{Round}
+use Rattle.asked_runs.specs.Asking.{MayRun, Round}
 use Rattle.world_model.specs.Transcript.{transcript}
 use Rattle.asked_runs.specs.Runs.{Part, lines_in, rounds_of}
 use Rattle.nfs_copy.specs.Calls.{AskedOnce, AskedSo}
@@ -31,6 +33,23 @@ asked-then {T} given over [] round u t v s w r so once =
     (w, r, subst (λ (x : UploadView). AskedOnce given over round x t w r) so.0 (subst (λ (x : T). AskedOnce given over round v x w r) so.1 once), (refl, refl))
 asked-then given over (first ∷ rounds) round u t v s w r so once =
     (so.0, so.1, so.2, asked-then given over rounds round so.0 so.1 v s w r so.3 once)
+
+-- the same of a call for a script, which may fail
+pub asked-next : {T A : Type 0} (given : T → Option (List Given)) (over : T → Type 0) (upload : A → UploadView) (tree : A → T) (answers : List ℕ) (status : ℕ) (v : UploadView) (s : T)
+    (w : UploadView) (r : T) (result : Result (Option (List ScriptLine)) Memory) → IfOk result (λ script. Gave (given s) (given r) (λ more. NextIs status script more v w))
+    → (result ≡ Ok None → over r) → IfOk result (λ script. (first : A) (rounds : List Round) → AskedSo given over rounds (upload first) (tree first) v s
+    → AskedSo given over (rounds ++ record { answers = answers; status = status; script = script } ∷ []) (upload first) (tree first) w r)
+asked-next given over upload tree answers status v s w r (Ok script) gave ends = λ first rounds so.
+    asked-then given over rounds (record { answers = answers; status = status; script = script }) (upload first) (tree first) v s w r so
+    (record { gave = gave; ends = λ none. ends (ap Ok none) })
+asked-next given over upload tree answers status v s w r (Err e) gave ends = tt
+
+-- a script that is made may be run
+pub next-may : (result : Result (Option (List ScriptLine)) Memory) → IfOk result (λ script. IfSome script (λ lines. All IsAskedLine lines))
+    → IfOk result (λ script. IfSome script (λ lines. length lines ≤ 16384)) → IfOk result (λ script. IfSome script MayRun)
+next-may (Ok None) asked few = tt
+next-may (Ok (Some lines)) asked few = record { asked = asked; few = few }
+next-may (Err e) asked few = tt
 
 -- all that a tree gave, if it had given nothing before
 pub all-given : (a b : Option (List Given)) (more g : List Given) → a ≡ Some [] → b ≡ Some g → Gives a b more → more ≡ g

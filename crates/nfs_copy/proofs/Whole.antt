@@ -26,7 +26,6 @@ use Rattle.session_setup.specs.Origins.{modes_of, origin_of, terms_by}
 use Rattle.session_setup.specs.Outcomes.{SetsUp}
 use Rattle.session_setup.specs.Sendings.{IsUnmarked}
 use Rattle.lane_session.specs.Endings.{cut, entries_of}
-use Rattle.script_runs.specs.Run.{IsCutOff}
 use Rattle.script_runs.proofs.LaneRuns.{fresh}
 use Rattle.asked_runs.specs.Asking.{Round}
 use Rattle.asked_runs.specs.Runs.{ArePartsFrom, Part, RunsAsked, SessionOf, cut_before, entries_in, lines_in, lines_of, lost, no_script, ready, refused, rounds_of, unready}
@@ -87,13 +86,9 @@ all-stay s lines first v before h to given p copied t is lawful once file has =
     rows : (lane x y : ℕ) (op : Op) (value : Value) → Ended t.entries lane x op y (answers.Done value) → OkRow (terms_by s first) t.entries lane x y op value
     rows lane x y op value e =
         subst (λ (k : List Entry). OkRow (terms_by s first) k lane x y op value) (sym is)
-        ((p.caused 5 (cut (inl refl))).ok lane x y op value (subst (λ (k : List Entry). Ended k lane x op y (answers.Done value)) is e))
+        ((p.caused 7 (cut (inr refl))).ok lane x y op value (subst (λ (k : List Entry). Ended k lane x op y (answers.Done value)) is e))
 
 -- ---- a session that ended with 0
-
-not-cut : (status : ℕ) → status ≡ 0 → IsCutOff status → ⊥
-not-cut status zero_is (inl five) = absurd (omega (arith, zero_is, five))
-not-cut status zero_is (inr seven) = absurd (omega (arith, zero_is, seven))
 
 no-follows : Follows [] []
 no-follows = record { alternates = λ lane. no_marks [] refl; begins = λ lane. record { rest = []; is = refl } }
@@ -117,7 +112,7 @@ module _ {T : Type 0} (given : T → Option (List Given)) (over : T → Type 0) 
   by-session : (first : ℕ) (setup : SetUp) (later : List ℕ) (before h : List Entry) (status : ℕ) → status ≡ 0 → SetsUp s first (Ok setup) before
       → (session : SessionOf later before h status) → AskedFor (rounds_of [] 0 session.parts) → Promised s (lines_of session) first setup before h → over r × Copies s to g h
   by-session first setup later before h status zero_is so session asked promised =
-      let whole = session.whole (not-cut status zero_is) in
+      let whole = session.whole (λ seven. absurd (omega (arith, zero_is, seven))) in
       by-parts session.parts before h asked
       (session.history ∙ ap (λ (k : List Entry). before ++ (entries_in session.parts ++ k)) whole.1 ∙ ap (λ (k : List Entry). before ++ k) (append-nil (entries_in session.parts)))
       (set-up-before before so.unmarked)
@@ -128,12 +123,12 @@ module _ {T : Type 0} (given : T → Option (List Given)) (over : T → Type 0) 
   by-run : (readings : List ℕ) (h : List Entry) (status : ℕ) → status ≡ 0 → RunsAsked Promised AskedFor s readings h status → over r × Copies s to g h
   by-run readings h status zero_is (no_script none asked few) =
       by-parts [] [] h asked none nothing-before tt (subst (λ (k : List Entry). Follows [] k) (sym none) no-follows) (none-stay s to g h none)
-  by-run readings h status zero_is (cut_before none cut_off) = absurd (not-cut status zero_is cut_off)
+  by-run readings h status zero_is (cut_before none seven) = absurd (omega (arith, zero_is, seven))
   by-run readings h status zero_is (ready ms first later is by setup before so session asked promised) =
       by-session first setup later before h status zero_is so session (asked (omega (arith, zero_is))) promised
   by-run readings h status zero_is (lost ms first is by tally so six) = absurd (omega (arith, zero_is, six))
   by-run readings h status zero_is (refused ms first is by fault so (inl eight)) = absurd (omega (arith, zero_is, eight))
-  by-run readings h status zero_is (refused ms first is by fault so (inr cut_off)) = absurd (not-cut status zero_is cut_off)
+  by-run readings h status zero_is (refused ms first is by fault so (inr seven)) = absurd (omega (arith, zero_is, seven))
   by-run readings h status zero_is (unready ms first is by so seven) = absurd (omega (arith, zero_is, seven))
 
 -- ---- the whole clause

@@ -2,14 +2,14 @@
 
 ghost use Rattle.std.specs.Prelude.{◌≡◌};
 
-use asked_runs::{Asker, Stop};
+use asked_runs::Asker;
 use copy_scripts::{Teller, Upload};
 use file_trees::Tree;
 use nfs_script::{Script, mount_line};
 use outside::{Clock, Sink};
 use std::alloc::Global;
 use world_model::Fault;
-use xdr_codec::Writer;
+use xdr_codec::{Memory, Writer};
 
 /// A copy that is under way: its scripts, the tree that they are made of, and where it is told what wasn't copied.
 #[derive(Drop)]
@@ -39,14 +39,17 @@ impl<T: Tree + Drop, K: Sink, C: Clock> Asker for Copying<'_, T, K, C> {
 
     ghost tells = { λ x status. TellsWrong x.upload.wrong status };
 
-    fn next(&mut self, alloc: Global, answers: &[u8], status: u8) -> Result<Option<Script>, Stop> {
-        let next = self
-            .upload
-            .next(alloc, &mut self.tree, &mut self.teller, answers, status)?;
-        Ok(next)
+    fn next(
+        &mut self,
+        alloc: Global,
+        answers: &[u8],
+        status: u8,
+    ) -> Result<Option<Script>, Memory> {
+        self.upload
+            .next(alloc, &mut self.tree, &mut self.teller, answers, status)
     }
 
-    fn refuse(&mut self, alloc: Global, fault: Fault) -> Result<(), Stop> {
+    fn refuse(&mut self, alloc: Global, fault: Fault) -> Result<(), Memory> {
         let mut text = Writer::new(alloc);
         mount_line(&mut text, fault)?;
         self.teller.say(text.finish().bytes());

@@ -1,5 +1,5 @@
 -- What the calls for scripts and the scripts that were run say of the files that a target took.
-use Rattle.std.proofs.Common.{◌≡◌, ◌≢◌, ◌≤◌, ◌<◌, ◌^◌, ◌⊎◌, inl, inr, ℕ, suc, List, [], ◌∷◌, ◌++◌, length, Bool, true, false, cond, nat_eq, Option, Some, None, refl, sym, ap, subst, ◌∙◌, append_assoc, append-nil, arith}
+use Rattle.std.proofs.Common.{◌≡◌, ◌≢◌, ◌≤◌, ◌<◌, ◌^◌, ◌⊎◌, inl, inr, ℕ, suc, List, [], ◌∷◌, ◌++◌, length, Bool, true, false, cond, nat_eq, Option, Some, None, Result, Ok, Err, IfOk, IfSome, refl, sym, ap, subst, ◌∙◌, append_assoc, append-nil, arith}
 use Rattle.std.specs.List.{All}
 use Rattle.std.proofs.lemmas.Bool.{eqb-true}
 use Rattle.std.proofs.lemmas.List.Elements.{All-cons, All-head, All-nil, All-tail}
@@ -9,6 +9,7 @@ use Rattle.world_model.specs.declared.entry.Entry.TheVariants.{Began}
 use Rattle.world_model.specs.Follows.{Alternates, Finishes, begun, marks_of}
 use Rattle.world_model.specs.Transcript.{transcript}
 use Rattle.nfs_script.specs.declared.script.ScriptLine.{ScriptLine}
+use Rattle.xdr_codec.specs.declared.blob.Memory.{Memory}
 use Rattle.nfs_script.specs.Asked.{IsAskedLine}
 use Rattle.copy_plan.specs.Files.{FilesView}
 use Rattle.copy_plan.specs.Lines.{IsNameLine}
@@ -17,9 +18,10 @@ use Rattle.copy_targets.specs.declared.target.Took.TheVariants as took
 use Rattle.copy_targets.specs.Files.{File, Taken, taken_after, with_one}
 use Rattle.copy_targets.specs.Taking.{Takes}
 use Rattle.fetch_scripts.specs.declared.span.Span.{Span}
+use Rattle.fetch_scripts.specs.Downloads.{IsScript}
 use Rattle.fetch_scripts.specs.Fetches.{AreAsked, AreOthers, Asks, DownloadView, Gave, NextIs, Sends, SpansTook, TakesAnswers, files, names, none as no_script, sent}
 use Rattle.lane_session.specs.Endings.{entries_of}
-use Rattle.asked_runs.specs.Asking.{Round}
+use Rattle.asked_runs.specs.Asking.{MayRun, Round}
 use Rattle.asked_runs.specs.Runs.{ArePartsFrom, Part, PartIs, entries_in, lines_in, rounds_of}
 use Rattle.nfs_fetch.specs.Calls.{AskedOnce, AskedSo}
 use Rattle.nfs_fetch.proofs.Answering.{Telling, telling}
@@ -35,6 +37,21 @@ pub asked-then : {T : Type 0} (told : T → Option (List Took)) (rounds : List R
 asked-then {T} told [] round u t v s w r so once =
     (w, r, subst (λ (x : DownloadView). AskedOnce told round x t w r) so.0 (subst (λ (x : T). AskedOnce told round v x w r) so.1 once), (refl, refl))
 asked-then told (first ∷ rounds) round u t v s w r so once = (so.0, so.1, so.2, asked-then told rounds round so.0 so.1 v s w r so.3 once)
+
+-- the same of a call for a script, which may fail
+pub asked-next : {T A : Type 0} (told : T → Option (List Took)) (download : A → DownloadView) (target : A → T) (answers : List ℕ) (status : ℕ) (v : DownloadView) (s : T) (w : DownloadView) (r : T)
+    (result : Result (Option (List ScriptLine)) Memory) → IfOk result (λ script. Gave (told s) (told r) (NextIs answers script v w))
+    → IfOk result (λ script. (first : A) (rounds : List Round) → AskedSo told rounds (download first) (target first) v s
+    → AskedSo told (rounds ++ record { answers = answers; status = status; script = script } ∷ []) (download first) (target first) w r)
+asked-next told download target answers status v s w r (Ok script) gave = λ first rounds so.
+    asked-then told rounds (record { answers = answers; status = status; script = script }) (download first) (target first) v s w r so gave
+asked-next told download target answers status v s w r (Err e) gave = tt
+
+-- a script that is made may be run
+pub next-may : (result : Result (Option (List ScriptLine)) Memory) → IfOk result (λ script. IfSome script IsScript) → IfOk result (λ script. IfSome script MayRun)
+next-may (Ok None) is = tt
+next-may (Ok (Some lines)) is = record { asked = is.asked; few = is.few }
+next-may (Err e) is = tt
 
 -- ---- lines in lanes
 

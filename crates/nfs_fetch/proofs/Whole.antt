@@ -28,7 +28,6 @@ use Rattle.session_setup.specs.Origins.{terms_by}
 use Rattle.session_setup.specs.Outcomes.{SetsUp}
 use Rattle.session_setup.specs.Sendings.{IsUnmarked}
 use Rattle.lane_session.specs.Endings.{cut, entries_of}
-use Rattle.script_runs.specs.Run.{IsCutOff}
 use Rattle.script_runs.proofs.LaneRuns.{fresh}
 use Rattle.asked_runs.specs.Asking.{Round}
 use Rattle.asked_runs.specs.Runs.{ArePartsFrom, Part, RunsAsked, SessionOf, cut_before, entries_in, lines_in, lines_of, lost, no_script, ready, refused, rounds_of, unready}
@@ -92,10 +91,6 @@ none-are (x ∷ xs) e ys no_way = absurd cc
 
 -- ---- a session that ended with 0 or 1
 
-not-cut : (status : ℕ) → status ≤ 1 → IsCutOff status → ⊥
-not-cut status few (inl five) = absurd (omega (arith, few, five))
-not-cut status few (inr seven) = absurd (omega (arith, few, seven))
-
 module _ {T : Type 0} (told : T → Option (List Took)) (s : Settings) (from : List (List ℕ)) (t : T) (v : DownloadView) (r q : T) (start : told t ≡ Some [])
     (left : Takes (told r) (told q) []) (g : List Took) (end : told q ≡ Some g) where
   -- nothing was taken at the end
@@ -129,7 +124,7 @@ module _ {T : Type 0} (told : T → Option (List Took)) (s : Settings) (from : L
   by-session : (first : ℕ) (setup : SetUp) (later : List ℕ) (before h : List Entry) (status : ℕ) → status ≤ 1 → SetsUp s first (Ok setup) before
       → (session : SessionOf later before h status) → AskedFor (rounds_of [] 0 session.parts) → Promised s (lines_of session) first setup before h → AllFetched from g h
   by-session first setup later before h status few so session asked promised =
-      let whole = session.whole (not-cut status few) in
+      let whole = session.whole (λ seven. absurd (omega (arith, few, seven))) in
       let lines_are : lines_of session ≡ lines_in session.parts =
       ap (λ (l : List ScriptLine). lines_in session.parts ++ l) whole.0 ∙ append-nil (lines_in session.parts) in
       by-parts (terms_by s first) session.parts before h asked
@@ -137,7 +132,7 @@ module _ {T : Type 0} (told : T → Option (List Took)) (s : Settings) (from : L
       (set-up-finishes before so.unmarked) (fresh before so.unmarked) session.are
       (subst (λ (l : List ScriptLine). Follows (entries_of l) h) lines_are session.follows)
       (subst (All IsAskedLine) lines_are promised.asked)
-      (λ lane x y op value e. (promised.caused 5 (cut (inl refl))).ok lane x y op value e)
+      (λ lane x y op value e. (promised.caused 7 (cut (inr refl))).ok lane x y op value e)
 
   by-run : (readings : List ℕ) (h : List Entry) (status : ℕ) → status ≤ 1 → RunsAsked Promised AskedFor s readings h status → AllFetched from g h
   by-run readings h status few (no_script none asked less) = subst (AllFetched from g) (sym none)
@@ -158,11 +153,11 @@ module _ {T : Type 0} (told : T → Option (List Took)) (s : Settings) (from : L
               let rest : ans_marks w.lane (done_ans w.lane (w.opening ∷ w.reads) ++ w.after) ≡ done_marks w.lane (w.opening ∷ w.reads) ++ ans_marks w.lane w.after =
               ans-append w.lane (done_ans w.lane (w.opening ∷ w.reads)) w.after ∙ ap (λ (t : List Entry). t ++ ans_marks w.lane w.after) (done-ans w.lane (w.opening ∷ w.reads)) in
               none-are (ans_marks w.lane w.before) (Began w.lane w.opening.line w.opening.op) _ (whole ∙ ap (λ (t : List Entry). ans_marks w.lane w.before ++ t) rest)
-  by-run readings h status few (cut_before none cut_off) = absurd (not-cut status few cut_off)
+  by-run readings h status few (cut_before none seven) = absurd (omega (arith, few, seven))
   by-run readings h status few (ready ms first later is by setup before so session asked promised) = by-session first setup later before h status few so session (asked few) promised
   by-run readings h status few (lost ms first is by tally so six) = absurd (omega (arith, few, six))
   by-run readings h status few (refused ms first is by fault so (inl eight)) = absurd (omega (arith, few, eight))
-  by-run readings h status few (refused ms first is by fault so (inr cut_off)) = absurd (not-cut status few cut_off)
+  by-run readings h status few (refused ms first is by fault so (inr seven)) = absurd (omega (arith, few, seven))
   by-run readings h status few (unready ms first is by so seven) = absurd (omega (arith, few, seven))
 
 -- ---- the whole clause
@@ -195,4 +190,4 @@ module _ {T : Type 0} (told : T → Option (List Took)) (s : Settings) (from : L
 -- memory ran out before it
 pub unbegun : (s : Settings) (told : Option History) → Relates told told (λ before h. before ≡ [] → Ends s h 7)
 unbegun s None = tt
-unbegun s (Some t) = λ none. unasked none (inr (inr refl))
+unbegun s (Some t) = λ none. unasked none (inr refl)

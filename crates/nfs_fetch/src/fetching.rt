@@ -2,7 +2,7 @@
 
 ghost use Rattle.std.specs.Prelude.{◌≡◌};
 
-use asked_runs::{Asker, Stop};
+use asked_runs::Asker;
 use copy_scripts::Teller;
 use copy_targets::Target;
 use fetch_scripts::Download;
@@ -10,7 +10,7 @@ use nfs_script::{Script, mount_line};
 use outside::{Clock, Sink};
 use std::alloc::Global;
 use world_model::Fault;
-use xdr_codec::Writer;
+use xdr_codec::{Memory, Writer};
 
 /// A copy that is under way: its scripts, the target that takes what they read, and where it is told what wasn't copied.
 #[derive(Drop)]
@@ -40,14 +40,17 @@ impl<T: Target + Drop, K: Sink, C: Clock> Asker for Fetching<'_, T, K, C> {
 
     ghost tells = { λ x status. TellsWrong x.download.wrong status };
 
-    fn next(&mut self, alloc: Global, answers: &[u8], _status: u8) -> Result<Option<Script>, Stop> {
-        let next = self
-            .download
-            .next(alloc, &mut self.target, &mut self.teller, answers)?;
-        Ok(next)
+    fn next(
+        &mut self,
+        alloc: Global,
+        answers: &[u8],
+        _status: u8,
+    ) -> Result<Option<Script>, Memory> {
+        self.download
+            .next(alloc, &mut self.target, &mut self.teller, answers)
     }
 
-    fn refuse(&mut self, alloc: Global, fault: Fault) -> Result<(), Stop> {
+    fn refuse(&mut self, alloc: Global, fault: Fault) -> Result<(), Memory> {
         let mut text = Writer::new(alloc);
         mount_line(&mut text, fault)?;
         self.teller.say(text.finish().bytes());

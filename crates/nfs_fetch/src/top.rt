@@ -49,6 +49,9 @@ pub fn run<T: Target + Drop, L: Link, C: Clock, K: Sink, W: Clock>(
     ensures words { result.0 ≡ 2 → (s : SettingsOf) → IsCommand (map string_bytes words.now) s → ⊥ }
     ensures no_words { ((s : SettingsOf) → IsCommand (map string_bytes words.now) s → ⊥) → (result.0 ≡ 2) ⊎ (result.0 ≡ 7) }
 
+    // None of 3 to 5 comes.
+    ensures apart { 3 ≤ result.0 → 6 ≤ result.0 }
+
     ensures stays { (first : L) → L.stays first link.old → L.stays first link.new }
     ensures honest { L.honest link.old → L.honest link.new }
 
@@ -86,8 +89,8 @@ pub fn fetch<T: Target + Drop, L: Link, C: Clock, K: Sink, W: Clock>(
     requires xid { IsXidOption settings.now.xid }
     ensures statuses { result.0 ≤ 8 }
 
-    // The words were taken: neither 2, 3 nor 4 comes.
-    ensures taken { 2 ≤ result.0 → 5 ≤ result.0 }
+    // The words were taken: none of 2 to 5 comes.
+    ensures taken { 2 ≤ result.0 → 6 ≤ result.0 }
     ensures stays { (first : L) → L.stays first link.old → L.stays first link.new }
     ensures honest { L.honest link.old → L.honest link.new }
 

@@ -21,14 +21,14 @@ use Rattle.session_setup.specs.Outcomes.{SetsUp}
 use Rattle.session_setup.specs.Sendings.{IsUnmarked}
 use Rattle.lane_session.specs.Endings.{entries_of}
 use Rattle.lane_session.specs.Statuses as statuses
-use Rattle.lane_session.specs.Statuses.{HasStatus, IsAnswered, IsEnding}
+use Rattle.lane_session.specs.Statuses.{HasStatus, IsAnswered}
 use Rattle.lane_session.proofs.Ending.{broken-none}
 use Rattle.script_runs.specs.Readings.{Reads}
-use Rattle.script_runs.specs.Run.{IsCutOff}
 use Rattle.script_runs.proofs.LaneRuns.{fresh}
 use Rattle.asked_runs.specs.Asking.{Round}
 use Rattle.asked_runs.specs.Runs as runs
 use Rattle.asked_runs.specs.Runs.{AreKept, ArePartsFrom, Part, RunsAsked, SessionOf, entries_in, last_status, lines_in, lines_of}
+use Rattle.asked_runs.specs.Statuses.{IsEnding}
 use Rattle.run_asked.specs.Ends.{Ends, RanTo, cut, kept, lost, lost_before, ran, unasked, unmounted, unready}
 use Rattle.run_asked.specs.Promised.{Promised}
 
@@ -114,10 +114,6 @@ kept-in h done (p ∷ parts) are others a =
 
 -- ---- a session that was set up
 
-not-cut : (n status : ℕ) → n ≢ 5 → n ≢ 7 → status ≡ n → IsCutOff status → ⊥
-not-cut n status five seven is (inl so) = five (sym is ∙ so)
-not-cut n status five seven is (inr so) = seven (sym is ∙ so)
-
 module _ (s : Settings) (first : ℕ) (later : List ℕ) (v : SetUp) (before h : List Entry) (status : ℕ) (so : SetsUp s first (Ok v) before) (session : SessionOf later before h status)
   where
     rooted : Rooted (origin_of s.export) h (length h) v.root
@@ -127,7 +123,7 @@ module _ (s : Settings) (first : ℕ) (later : List ℕ) (v : SetUp) (before h :
         Rooted-wide (origin_of s.export) h (length before) (length h) v.root (omega (arith, long))
         (subst (λ (k : List Entry). Rooted (origin_of s.export) k (length before) v.root) (sym session.history) (Rooted-grow (origin_of s.export) before more (length before) v.root so.ends.rooted))
 
-    module _ (uncut : IsCutOff status → ⊥) where
+    module _ (uncut : status ≢ 7) where
       all-parts : h ≡ before ++ entries_in session.parts
       all-parts =
           session.history
@@ -158,16 +154,13 @@ module _ (s : Settings) (first : ℕ) (later : List ℕ) (v : SetUp) (before h :
     ran-to = by session.ending
       where
         by : IsEnding status → RanTo (lines_of session) h status
-        by (inl zero_is) =
-            let uncut : IsCutOff status → ⊥ = not-cut 0 status (λ e. absurd (omega (arith, e))) (λ e. absurd (omega (arith, e))) zero_is in
-            kept (omega (arith, zero_is)) (finishes uncut) (kept-here uncut (omega (arith, zero_is)))
-        by (inr (inl one)) =
-            let uncut : IsCutOff status → ⊥ = not-cut 1 status (λ e. absurd (omega (arith, e))) (λ e. absurd (omega (arith, e))) one in
-            kept (omega (arith, one)) (finishes uncut) (kept-here uncut (omega (arith, one)))
-        by (inr (inr (inl six))) =
-            let uncut : IsCutOff status → ⊥ = not-cut 6 status (λ e. absurd (omega (arith, e))) (λ e. absurd (omega (arith, e))) six in
+        by (inl (inl few)) =
+            let uncut : status ≢ 7 = λ seven. absurd (omega (arith, few, seven)) in
+            kept few (finishes uncut) (kept-here uncut few)
+        by (inl (inr six)) =
+            let uncut : status ≢ 7 = λ seven. absurd (omega (arith, six, seven)) in
             lost six (finishes uncut) (lost-here uncut six)
-        by (inr (inr (inr off))) = cut off
+        by (inr seven) = cut seven
 
     ready-ends : Promised s (lines_of session) first v before h → Ends s h status
     ready-ends promised = ran (lines_of session) first v before rooted session.follows promised ran-to

@@ -19,7 +19,6 @@ use Rattle.session_setup.specs.declared.opening.SetUp.{SetUp}
 use Rattle.session_setup.specs.Origins.{origin_of}
 use Rattle.lane_session.specs.Endings.{entries_of}
 use Rattle.lane_session.specs.Statuses.{IsAnswered}
-use Rattle.script_runs.specs.Run.{IsCutOff}
 use Rattle.run_asked.specs.Promised.{Promised}
 
 abbrev pub NoneBegan : List Entry → Type 0
@@ -34,20 +33,20 @@ pub record IsUnmounted (s : Settings) (h : List Entry) : Type 0 where
   pub none : NoneBegan h
 
 -- The lines of its scripts were run. Each was begun and answered, and the status is what was asked for by the answers, 0 or 1. It is 6 if an answer is that
--- the session is lost. Or the session was cut off.
+-- the session is lost. Or the session was cut off for want of memory.
 pub data RanTo (lines : List ScriptLine) (h : List Entry) (status : ℕ) : Type 0 where
   kept : status ≤ 1 → Finishes (entries_of lines) h → (IsAnswered h (Refused faults.Lost) → ⊥) → RanTo lines h status
   lost : status ≡ 6 → Finishes (entries_of lines) h → IsAnswered h (Refused faults.Lost) → RanTo lines h status
-  cut : IsCutOff status → RanTo lines h status
+  cut : status ≡ 7 → RanTo lines h status
 
--- No script was asked for, or the call for the first one failed. Or the root was found and scripts were run, and what a session promises is so. Or the session
--- was lost, or memory ran out, before a line began; or the mount was refused.
+-- No script was asked for, or memory ran out at the call for the first one. Or the root was found and scripts were run, and what a session promises is so.
+-- Or the session was lost, or memory ran out, before a line began; or the mount was refused.
 pub data Ends (s : Settings) (h : List Entry) (status : ℕ) : Type 0 where
-  unasked : h ≡ [] → (status ≤ 1) ⊎ IsCutOff status → Ends s h status
+  unasked : h ≡ [] → (status ≤ 1) ⊎ (status ≡ 7) → Ends s h status
   ran : (lines : List ScriptLine) (first : ℕ) (v : SetUp) (before : List Entry) → Rooted (origin_of s.export) h (length h) v.root → Follows (entries_of lines) h
       → Promised s lines first v before h → RanTo lines h status → Ends s h status
   lost_before : status ≡ 6 → Loses h (length h) → NoneBegan h → Ends s h status
-  unmounted : (status ≡ 8) ⊎ IsCutOff status → IsUnmounted s h → Ends s h status
+  unmounted : (status ≡ 8) ⊎ (status ≡ 7) → IsUnmounted s h → Ends s h status
   unready : status ≡ 7 → NoneBegan h → Ends s h status
 
 -- The same of a session by words: they are refused, or memory ran out for them, and no call was made; or they give these settings.

@@ -15,7 +15,7 @@ use session_words::Settings;
 use std::alloc::Global;
 
 /// Runs the scripts that are asked for, by settings that are known, and answers the status: that of the asker, 0 or 1; 6 if the session is lost; 7 for lack of
-/// memory outside an operation, or 5 if writing failed; or 8 if the mount is refused. Without a script no call is made.
+/// memory outside an operation; or 8 if the mount is refused. Without a script no call is made.
 pub fn run_with<A: Asker, L: Link, C: Clock>(
     alloc: Global,
     settings: &Settings,
@@ -28,8 +28,8 @@ pub fn run_with<A: Asker, L: Link, C: Clock>(
     requires xid { IsXidOption settings.now.xid }
     ensures statuses { result ≤ 8 }
 
-    // Neither 2, 3 nor 4 comes.
-    ensures taken { 2 ≤ result → 5 ≤ result }
+    // None of 2 to 5 comes.
+    ensures taken { 2 ≤ result → 6 ≤ result }
     ensures stays { (first : L) → L.stays first link.old → L.stays first link.new }
     ensures honest { L.honest link.old → L.honest link.new }
     ensures asker { (first : A) → A.stays first asker.old → A.stays first asker.new }

@@ -46,7 +46,7 @@ pub returns-in-Err-clause-runs : goal.returns-in-Err-clause-runs
 returns-in-Err-clause-runs g c =
     let i = c.loop.invariant in
     in-stops g.row.A.Denot g.A.Asker.asks c.args.first c.args.asker.now c.args.session.now _ _ _ _ _ _ c.loop.asker c.run_next.new.asker c.loop.script i.may.asked
-    c.loop.session c.run_next.new.session i.runs c.in-Err.stop c.in-Err.ensures.runs
+    c.loop.session c.run_next.new.session i.runs c.in-Err.memory c.in-Err.ensures.runs
 
 pub returns-in-Err-clause-dials : goal.returns-in-Err-clause-dials
 returns-in-Err-clause-dials g c = keeps_then _ _ _ _ _ _ c.loop.invariant.dials c.in-Err.ensures.dials
@@ -54,4 +54,4 @@ returns-in-Err-clause-dials g c = keeps_then _ _ _ _ _ _ c.loop.invariant.dials 
 pub returns-clause-runs : goal.returns-clause-runs
 returns-clause-runs g c =
     let i = c.loop.invariant in
-    in-full g.row.A.Denot g.A.Asker.asks c.args.first c.args.asker.now c.args.session.now _ _ _ _ c.loop.asker c.loop.script i.may.asked c.loop.session i.held i.runs
+    in-full g.row.A.Denot g.A.Asker.asks c.args.first c.args.asker.now c.args.session.now _ _ _ _ c.loop.asker c.loop.script i.may.asked c.loop.session (record {}) i.held i.runs

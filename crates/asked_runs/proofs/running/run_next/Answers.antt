@@ -9,4 +9,4 @@ pub returns-in-Ok-clause-dials : goal.returns-in-Ok-clause-dials
 returns-in-Ok-clause-dials g c = port-same _ _ _ _ _ c.in-Ok.ensures.dials c.find_next.ensures.port
 
 pub returns-in-Err-clause-runs : goal.returns-in-Err-clause-runs
-returns-in-Err-clause-runs g c = stop-shows _ _ _ _ _ c.args.script.now c.args.session.now c.run_script.new.session c.run_script.new.session c.in-Err.stop c.in-Err.ensures.runs
+returns-in-Err-clause-runs g c = stop-shows _ _ _ _ _ c.args.script.now c.args.session.now c.run_script.new.session c.run_script.new.session c.in-Err.memory c.in-Err.ensures.runs

@@ -3,7 +3,7 @@ use Rattle.asked_runs.proofs.Scripts.{script-cut, script-none, script-ran}
 use Rattle.asked_runs.proofs.running.run_script.Goals as goal
 
 pub returns-in_default-clause-runs : goal.returns-in_default-clause-runs
-returns-in_default-clause-runs g c = script-none _ _ c.args.script.now c.args.session.now c.requires.held
+returns-in_default-clause-runs g c = script-none _ _ c.args.script.now c.args.session.now (record {}) c.requires.held
 
 pub returns-in_default-clause-dials : goal.returns-in_default-clause-dials
 returns-in_default-clause-dials g c = keeps_none _ _
@@ -15,4 +15,4 @@ returns-in-Ok-work-clause-runs g c =
 
 pub returns-in-Err-clause-runs : goal.returns-in-Err-clause-runs
 returns-in-Err-clause-runs g c =
-    script-cut _ _ _ _ c.args.script.now c.args.session.now c.work.new.self _ _ c.in-Err.halt c.of_halt.result c.of_halt.ensures c.in-Err.ensures.goes
+    script-cut _ _ _ _ c.args.script.now c.args.session.now c.work.new.self _ _ c.in-Err._halt (record {}) c.in-Err.ensures.goes

@@ -15,7 +15,7 @@ pub returns-in-Ok-clause-dials : goal.returns-in-Ok-clause-dials
 returns-in-Ok-clause-dials g c = only_as _ _ _ _ c.in-Ok.ensures.port c.run_in-ran.ensures.dials.only
 
 pub returns-in-Err-clause-runs : goal.returns-in-Err-clause-runs
-returns-in-Err-clause-runs g c = none-shows _ _ _ c.args.settings.now c.args.setup c.requires.may c.is_sound.ensures
+returns-in-Err-clause-runs g c = none-shows _ _ _ c.args.settings.now c.args.setup (record {}) c.requires.may c.is_sound.ensures
 
 pub returns-in-Err-clause-dials : goal.returns-in-Err-clause-dials
 returns-in-Err-clause-dials g c = dials_same _ _

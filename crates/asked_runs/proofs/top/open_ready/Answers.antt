@@ -5,7 +5,7 @@ use Rattle.asked_runs.proofs.Over.{none-shows}
 use Rattle.asked_runs.proofs.top.open_ready.Goals as goal
 
 pub returns-in_default-clause-runs : goal.returns-in_default-clause-runs
-returns-in_default-clause-runs g c = none-shows _ _ _ c.args.settings.now (setup_of c.args.settings.now c.args.ready) c.requires.may nothing-sound
+returns-in_default-clause-runs g c = none-shows _ _ _ c.args.settings.now (setup_of c.args.settings.now c.args.ready) (record {}) c.requires.may nothing-sound
 
 pub returns-in_default-clause-dials : goal.returns-in_default-clause-dials
 returns-in_default-clause-dials g c = dials_same _ _

@@ -16,4 +16,4 @@ pub returns-in-Ok-None-clause-statuses : goal.returns-in-Ok-None-clause-statuses
 returns-in-Ok-None-clause-statuses g c = inl (inl c.status.ensures.few)
 
 pub returns-in-Err-clause-runs : goal.returns-in-Err-clause-runs
-returns-in-Err-clause-runs g c = stop-says _ _ _ c.args.settings.now c.in-Err.stop
+returns-in-Err-clause-runs g c = stop-says _ _ _ c.args.settings.now

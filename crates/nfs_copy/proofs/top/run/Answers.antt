@@ -6,6 +6,9 @@ use Rattle.nfs_copy.proofs.top.run.Goals as goal
 pub returns-in-Ok-clause-words : goal.returns-in-Ok-clause-words
 returns-in-Ok-clause-words g c = λ two. let taken = c.copy.ensures.taken in absurd (omega (arith, two, taken (omega (arith, two))))
 
+pub returns-in-Ok-clause-apart : goal.returns-in-Ok-clause-apart
+returns-in-Ok-clause-apart g c = λ three. c.copy.ensures.taken (omega (arith, three))
+
 pub returns-in-Ok-clause-no_words : goal.returns-in-Ok-clause-no_words
 returns-in-Ok-clause-no_words g c = λ none. absurd (none c.in-Ok.settings c.in-Ok.ensures.found)
 

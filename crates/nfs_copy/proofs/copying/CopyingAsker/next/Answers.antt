@@ -1,7 +1,9 @@
-use Rattle.std.proofs.Common.{ap, Ok}
-use Rattle.nfs_copy.proofs.Parts.{asked-then}
+use Rattle.nfs_copy.proofs.Parts.{asked-next, next-may}
 use Rattle.nfs_copy.proofs.copying.CopyingAsker.next.Goals as goal
 
 pub returns-clause-goes : goal.returns-clause-goes
-returns-clause-goes g c = λ first rounds so.
-    asked-then g.T.Tree.given g.T.Tree.over rounds _ _ _ _ _ _ _ so (record { gave = c.in_ok-next.ensures.goes; ends = λ none. c.in_ok-next.ensures.over (ap Ok none) })
+returns-clause-goes g c =
+    asked-next g.T.Tree.given g.T.Tree.over (λ x. x.upload) (λ x. x.tree) c.args.answers.now c.args.status _ _ _ _ c.next.result c.next.ensures.goes c.next.ensures.over
+
+pub returns-clause-may : goal.returns-clause-may
+returns-clause-may g c = next-may c.next.result c.next.ensures.asked c.next.ensures.few

@@ -1,5 +1,9 @@
-use Rattle.nfs_fetch.proofs.Parts.{asked-then}
+use Rattle.nfs_fetch.proofs.Parts.{asked-next, next-may}
 use Rattle.nfs_fetch.proofs.fetching.FetchingAsker.next.Goals as goal
 
 pub returns-clause-goes : goal.returns-clause-goes
-returns-clause-goes g c = λ first rounds so. asked-then g.T.Target.took rounds _ _ _ _ _ _ _ so c.in_ok-next.ensures.goes
+returns-clause-goes g c =
+    asked-next g.T.Target.took (λ x. x.download) (λ x. x.target) c.args.answers.now c.args._status _ _ _ _ c.next.result c.next.ensures.goes
+
+pub returns-clause-may : goal.returns-clause-may
+returns-clause-may g c = next-may c.next.result c.next.ensures.script

@@ -1,28 +1,21 @@
--- Why a session doesn't go on.
+-- The statuses with which a session of scripts that are asked for ends.
 use Rattle.std.specs.Prelude.{◌≡◌, ◌≢◌, ◌≤◌, ◌⊎◌, ℕ, Result, Ok, Err}
-use Rattle.lane_session.specs.declared.halt.Halt.{Halt}
-use Rattle.lane_session.specs.declared.halt.Halt.TheVariants as halts
-use Rattle.asked_runs.specs.declared.stop.Stop.{Stop}
-use Rattle.asked_runs.specs.declared.stop.Stop.TheVariants as stops
+use Rattle.xdr_codec.specs.declared.blob.Memory.{Memory}
 
-abbrev pub status_of : Stop → ℕ
-status_of stops.Output = 5
-status_of stops.Memory = 7
-
-abbrev pub of_halt : Halt → Stop
-of_halt halts.Output = stops.Output
-of_halt halts.Memory = stops.Memory
-
--- the status of a run
-abbrev pub ended_with : Result ℕ Stop → ℕ
+-- the status of a run: 7 if memory runs out
+abbrev pub ended_with : Result ℕ Memory → ℕ
 ended_with (Ok status) = status
-ended_with (Err stop) = status_of stop
+ended_with (Err e) = 7
 
 -- a session whose scripts were run ends by itself with one of these
 abbrev pub IsOwn : ℕ → Type 0
 IsOwn status = (status ≤ 1) ⊎ (status ≡ 6)
 
--- so does any, if it isn't cut off
+-- a session that was set up ends with one of these
+abbrev pub IsEnding : ℕ → Type 0
+IsEnding status = IsOwn status ⊎ (status ≡ 7)
+
+-- any session ends with one of these, unless memory runs out
 abbrev pub IsOutcome : ℕ → Type 0
 IsOutcome status = IsOwn status ⊎ (status ≡ 8)
 
