@@ -1,10 +1,11 @@
 //! What lines describe: a tree or a target, the path on the server, and the server.
 
-use copy_targets::{FileSize, Refusal, Why};
+use copy_targets::{FileSize, MemTarget, Refusal, Why};
 use fetch_scripts::Skips;
-use file_trees::{Cut, Given, Item, Node, Piece};
+use file_trees::{Cut, Given, Item, MemTree, Node, Piece};
 use script_text::{contents, path, target};
 use std::alloc::Global;
+use std::mem;
 use world_model::Path;
 use xdr_codec::Memory;
 
@@ -31,6 +32,25 @@ pub struct Case {
     pub script: Vec<u8>,
 }
 
+impl Case {
+    /// Hands over the tree, and keeps an empty one.
+    pub fn take_tree(&mut self, alloc: Global) -> MemTree {
+        MemTree::new(alloc, mem::replace(&mut self.tree, Vec::new(alloc)))
+    }
+
+    /// Hands over the path on the server, and keeps that of the root.
+    pub fn take_place(&mut self, alloc: Global) -> Path {
+        mem::replace(&mut self.place, Path::of(Vec::new(alloc)))
+    }
+
+    /// Hands over the target, and keeps one without files that refuses nothing.
+    pub fn take_target(&mut self, alloc: Global) -> MemTarget {
+        let refusals = mem::replace(&mut self.refusals, Vec::new(alloc));
+        let sizes = mem::replace(&mut self.sizes, Vec::new(alloc));
+        MemTarget::new(alloc, refusals, sizes)
+    }
+}
+
 /// Nothing is described yet.
 pub fn empty(alloc: Global) -> Case {
     Case {
@@ -49,22 +69,24 @@ pub fn empty(alloc: Global) -> Case {
 /// Takes what a line adds to the description: whether it is well formed.
 pub fn takes(alloc: Global, case: &mut Case, word: &str, rest: &str) -> Result<bool, Memory> {
     match word {
-        "words" => case.words = words_of(alloc, rest)?,
-        "schedule" => add_line(&mut case.schedule, rest)?,
-        ">" => add_line(&mut case.script, rest)?,
-        "<" => add_line(&mut case.before, rest)?,
-        "to" | "from" => return stands_at(alloc, case, rest),
-        "refuse" => return refuses(case, rest),
-        "has" => return has_file(alloc, case, rest),
-        "sizes" => case.skips = Skips::Sizes,
-        "bytes" => return gives_bytes(alloc, case, rest),
-        "end" => case.tree.push(Given::Piece(Piece::End))?,
-        "changed" => case.tree.push(Given::Piece(Piece::Cut(Cut::Changed)))?,
-        "cut" => case
-            .tree
-            .push(Given::Piece(Piece::Cut(Cut::Unread(number_of(rest)))))?,
-        _ => return gives_item(alloc, case, word, rest),
+        "words" => takes_words(alloc, case, rest),
+        "schedule" => adds_line(&mut case.schedule, rest),
+        ">" => adds_line(&mut case.script, rest),
+        "<" => adds_line(&mut case.before, rest),
+        "to" | "from" => stands_at(alloc, case, rest),
+        "refuse" => refuses(case, rest),
+        "has" => has_file(alloc, case, rest),
+        "sizes" => {
+            case.skips = Skips::Sizes;
+            Ok(true)
+        }
+        _ => gives(alloc, case, word, rest),
     }
+}
+
+/// The words are those of a line from now on.
+fn takes_words(alloc: Global, case: &mut Case, line: &str) -> Result<bool, Memory> {
+    case.words = words_of(alloc, line)?;
     Ok(true)
 }
 
@@ -77,11 +99,11 @@ fn words_of(alloc: Global, line: &str) -> Result<Vec<String>, Memory> {
     Ok(words)
 }
 
-/// Adds a line to a text.
-fn add_line(text: &mut Vec<u8>, line: &str) -> Result<(), Memory> {
+/// Adds a line to a text. Each line is well formed.
+fn adds_line(text: &mut Vec<u8>, line: &str) -> Result<bool, Memory> {
     text.extend_from_slice(line.as_bytes())?;
     text.push(b'\n')?;
-    Ok(())
+    Ok(true)
 }
 
 /// The number that digits spell; 0 if it is none.
@@ -130,11 +152,28 @@ fn has_file(alloc: Global, case: &mut Case, text: &str) -> Result<bool, Memory> 
     Ok(true)
 }
 
+/// Takes what the tree gives next: a piece of a file, or what stands at a path.
+fn gives(alloc: Global, case: &mut Case, word: &str, rest: &str) -> Result<bool, Memory> {
+    match word {
+        "bytes" => gives_bytes(alloc, case, rest),
+        "end" => gives_piece(case, Piece::End),
+        "changed" => gives_piece(case, Piece::Cut(Cut::Changed)),
+        "cut" => gives_piece(case, Piece::Cut(Cut::Unread(number_of(rest)))),
+        _ => gives_item(alloc, case, word, rest),
+    }
+}
+
+/// The tree gives bytes of a file next: `bytes HEX`.
 fn gives_bytes(alloc: Global, case: &mut Case, hex: &str) -> Result<bool, Memory> {
-    let Some(bytes) = contents(alloc, hex.as_bytes())? else {
-        return Ok(false);
-    };
-    case.tree.push(Given::Piece(Piece::Bytes(bytes)))?;
+    match contents(alloc, hex.as_bytes())? {
+        Some(bytes) => gives_piece(case, Piece::Bytes(bytes)),
+        None => Ok(false),
+    }
+}
+
+/// The tree gives a piece of a file next.
+fn gives_piece(case: &mut Case, piece: Piece) -> Result<bool, Memory> {
+    case.tree.push(Given::Piece(piece))?;
     Ok(true)
 }
 

@@ -21,10 +21,9 @@ use crate::case::{Case, empty, takes};
 use crate::taken::show_taken;
 use copy_scripts::Progress;
 use copy_targets::MemTarget;
-use file_trees::MemTree;
 use outside::{MemSink, MemSource, TickClock};
 use std::alloc::Global;
-use std::{io, mem};
+use std::io;
 use world_link::{World, parse_schedule};
 
 /// Which way a case goes.
@@ -36,8 +35,8 @@ enum Way {
     Down,
 }
 
-/// Copies, and prints what comes of it.
-fn run(rt: &impl Print, alloc: Global, case: Case, way: Way) -> io::Result<()> {
+/// Copies, and prints what comes of it. The case gives up its tree, its path and its target.
+fn run(rt: &impl Print, alloc: Global, case: &mut Case, way: Way) -> io::Result<()> {
     match parse_schedule(alloc, case.schedule.as_slice()) {
         Ok((mut world, tick)) => run_over(rt, alloc, case, way, &mut world, tick),
         Err(fault) => println!(rt; "  {fault}"),
@@ -48,7 +47,7 @@ fn run(rt: &impl Print, alloc: Global, case: Case, way: Way) -> io::Result<()> {
 fn run_over(
     rt: &impl Print,
     alloc: Global,
-    case: Case,
+    case: &mut Case,
     way: Way,
     world: &mut World,
     tick: u64,
@@ -68,76 +67,93 @@ fn run_over(
 fn copy_to(
     rt: &impl Print,
     alloc: Global,
-    case: Case,
+    case: &mut Case,
     world: &mut World,
     clock: &mut TickClock,
     tick: u64,
 ) -> io::Result<()> {
-    let Case {
-        words,
-        tree,
-        place,
-        script,
-        ..
-    } = case;
     let Ok(mut told) = MemSink::new(alloc, &[]) else {
         return println!(rt; "  out of memory");
     };
-    let tree = MemTree::new(alloc, tree);
+    let status = copy_tree(alloc, case, world, clock, tick, &mut told);
+    show_end(rt, status, told.bytes())?;
+    let words = case.words.as_slice();
+    look(rt, alloc, words, case.script.as_slice(), world, clock)
+}
+
+/// Copies the tree to that server, and gives the status.
+fn copy_tree(
+    alloc: Global,
+    case: &mut Case,
+    world: &mut World,
+    clock: &mut TickClock,
+    tick: u64,
+    told: &mut MemSink,
+) -> u8 {
+    let tree = case.take_tree(alloc);
+    let place = case.take_place(alloc);
     let mut watch = TickClock::new(tick);
     let (status, _) = nfs_copy::run(
         alloc,
-        words.as_slice(),
+        case.words.as_slice(),
         tree,
         place,
         Progress::Hidden,
         world,
         clock,
-        &mut told,
+        told,
         &mut watch,
     );
-    println!(rt; "  status {status}")?;
-    show(rt, told.bytes())?;
-    look(rt, alloc, words.as_slice(), script.as_slice(), world, clock)
+    status
 }
 
 /// Copies from that server, and prints what the target took.
 fn copy_from(
     rt: &impl Print,
     alloc: Global,
-    case: Case,
+    case: &mut Case,
     world: &mut World,
     clock: &mut TickClock,
     tick: u64,
 ) -> io::Result<()> {
-    let Case {
-        words,
-        place,
-        refusals,
-        sizes,
-        skips,
-        ..
-    } = case;
     let Ok(mut told) = MemSink::new(alloc, &[]) else {
         return println!(rt; "  out of memory");
     };
-    let target = MemTarget::new(alloc, refusals, sizes);
+    let (status, target) = fetch_tree(alloc, case, world, clock, tick, &mut told);
+    show_end(rt, status, told.bytes())?;
+    show_taken(rt, target.took())
+}
+
+/// Copies from that server, and gives the status and the target.
+fn fetch_tree(
+    alloc: Global,
+    case: &mut Case,
+    world: &mut World,
+    clock: &mut TickClock,
+    tick: u64,
+    told: &mut MemSink,
+) -> (u8, MemTarget) {
+    let place = case.take_place(alloc);
+    let target = case.take_target(alloc);
     let mut watch = TickClock::new(tick);
-    let (status, target) = nfs_fetch::run(
+    nfs_fetch::run(
         alloc,
-        words.as_slice(),
+        case.words.as_slice(),
         place,
-        skips,
+        case.skips,
         target,
         Progress::Hidden,
         world,
         clock,
-        &mut told,
+        told,
         &mut watch,
-    );
+    )
+}
+
+/// Prints the status, and what was told.
+fn show_end(rt: &impl Print, status: u8, told: &[u8]) -> io::Result<()> {
     println!(rt; "  status {status}")?;
-    show(rt, told.bytes())?;
-    show_taken(rt, target.took())
+    show(rt, told)
 }
 
 /// Runs a script in a session of its own, and prints its answers.
@@ -191,7 +207,9 @@ fn is_silent(line: &str) -> bool {
 fn step(rt: &impl Print, alloc: Global, case: &mut Case, line: &str) -> io::Result<()> {
     let (word, rest) = line.split_once(' ').unwrap_or((line, ""));
     if let Some(way) = way_of(word) {
-        return run(rt, alloc, mem::replace(case, empty(alloc)), way);
+        let ran = run(rt, alloc, case, way);
+        *case = empty(alloc);
+        return ran;
     }
     match takes(alloc, case, word, rest) {
         Ok(true) => Ok(()),

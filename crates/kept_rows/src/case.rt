@@ -44,11 +44,20 @@ fn add_line(text: &mut Vec<u8>, line: &str) -> Result<(), AllocError> {
 /// Takes what a line adds to the description.
 pub fn takes(alloc: Global, case: &mut Case, word: &str, rest: &str) -> Result<(), AllocError> {
     match word {
-        "schedule" => add_line(&mut case.schedule, rest)?,
-        "words" => case.words = words_of(alloc, rest)?,
-        "script" => add_line(&mut case.script, rest)?,
-        "label" => case.label = Vec::from_slice(alloc, rest.as_bytes())?,
-        _ => {}
+        "schedule" => add_line(&mut case.schedule, rest),
+        "words" => take_words(alloc, case, rest),
+        "script" => add_line(&mut case.script, rest),
+        "label" => take_label(alloc, case, rest),
+        _ => Ok(()),
     }
+}
+
+fn take_words(alloc: Global, case: &mut Case, line: &str) -> Result<(), AllocError> {
+    case.words = words_of(alloc, line)?;
+    Ok(())
+}
+
+fn take_label(alloc: Global, case: &mut Case, line: &str) -> Result<(), AllocError> {
+    case.label = Vec::from_slice(alloc, line.as_bytes())?;
     Ok(())
 }

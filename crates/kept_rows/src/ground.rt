@@ -19,6 +19,13 @@ pub struct Ground {
     pub store: PageStore<MemDisk>,
 }
 
+impl Ground {
+    /// The store. The server is dropped.
+    pub fn into_store(self) -> PageStore<MemDisk> {
+        self.store
+    }
+}
+
 /// The server of a schedule, and a store of an empty disk whose calls of these numbers fail. None for a faulty schedule, and if
 /// the disk fails before the store is there.
 pub fn begin(alloc: Global, schedule: &[u8], fails: &[u32]) -> Option<Ground> {
@@ -45,13 +52,7 @@ fn empty_store(alloc: Global, fails: &[u32]) -> Option<PageStore<MemDisk>> {
 
 /// Prints the pages of a store, how many there are, and the words of its label.
 pub fn show_store(rt: &impl Print, alloc: Global, store: &PageStore<MemDisk>) -> io::Result<()> {
-    let mut count = 0_u32;
-    for slot in 0..store.count() {
-        if let Some(page) = store.slot_page(slot) {
-            show_page(rt, alloc, page.index, page.bytes)?;
-            count = count.saturating_add(1);
-        }
-    }
+    let count = show_pages(rt, alloc, store)?;
     match store.words() {
         Some(words) => println!(rt;
             "  pages {count} label '{}'",
@@ -59,6 +60,18 @@ pub fn show_store(rt: &impl Print, alloc: Global, store: &PageStore<MemDisk>) ->
         ),
         None => println!(rt; "  pages {count} no label"),
     }
+}
+
+/// Prints the pages of a store, and gives how many there are.
+fn show_pages(rt: &impl Print, alloc: Global, store: &PageStore<MemDisk>) -> io::Result<u32> {
+    let mut count = 0_u32;
+    for slot in 0..store.count() {
+        if let Some(page) = store.slot_page(slot) {
+            show_page(rt, alloc, page.index, page.bytes)?;
+            count = count.saturating_add(1);
+        }
+    }
+    Ok(count)
 }
 
 /// Prints the number of a page in its file, and its bytes in hex.

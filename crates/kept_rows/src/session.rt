@@ -10,6 +10,13 @@ use std::io;
 /// The most bytes of a label.
 const LABEL: usize = 4096;
 
+/// What a session came to.
+#[derive(Drop)]
+pub struct Ran {
+    status: u8,
+    sink: MemSink,
+}
+
 /// Runs a session, and prints its status and the lines that it wrote.
 pub fn show_run(
     rt: &impl Print,
@@ -17,15 +24,28 @@ pub fn show_run(
     case: &Case,
     ground: &mut Ground,
 ) -> io::Result<()> {
-    let (Ok(mut source), Ok(mut sink)) = (
-        MemSource::new(alloc, case.script.as_slice(), &[]),
-        MemSink::new(alloc, &[]),
-    ) else {
-        return println!(rt; "  out of memory");
-    };
+    show_ran(rt, &run(alloc, case, ground))
+}
+
+/// Runs a session. None if memory runs out before it begins.
+pub fn run(alloc: Global, case: &Case, ground: &mut Ground) -> Option<Ran> {
+    let mut source = MemSource::new(alloc, case.script.as_slice(), &[]).ok()?;
+    let mut sink = MemSink::new(alloc, &[]).ok()?;
     let status = run_case(alloc, case, ground, &mut source, &mut sink);
+    Some(Ran { status, sink })
+}
+
+/// Prints the status of a session and the lines that it wrote, if it was run.
+pub fn show_ran(rt: &impl Print, ran: &Option<Ran>) -> io::Result<()> {
+    match ran {
+        Some(ran) => show_end(rt, ran.status, ran.sink.bytes()),
+        None => println!(rt; "  out of memory"),
+    }
+}
+
+fn show_end(rt: &impl Print, status: u8, bytes: &[u8]) -> io::Result<()> {
     println!(rt; "  status {status}")?;
-    match std::str::from_utf8(sink.bytes()) {
+    match std::str::from_utf8(bytes) {
         Ok(text) => show_lines(rt, text),
         Err(_) => println!(rt; "  no text"),
     }

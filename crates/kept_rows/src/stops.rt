@@ -2,7 +2,7 @@
 
 use crate::case::Case;
 use crate::ground::{Ground, begin, ground_over, show_store};
-use crate::session::show_run;
+use crate::session::{Ran, run, show_ran, show_run};
 use page_store::{MemDisk, PageStore};
 use std::alloc::Global;
 use std::io;
@@ -28,8 +28,21 @@ fn show_call(rt: &impl Print, alloc: Global, case: &Case, call: u32) -> io::Resu
 /// Runs the session over a disk one of whose calls fails, and then over what a crash leaves.
 fn show_stopped(rt: &impl Print, alloc: Global, case: &Case, ground: Ground) -> io::Result<()> {
     let mut ground = ground;
-    show_run(rt, alloc, case, &mut ground)?;
-    match left_of(alloc, case, ground) {
+    let ran = run(alloc, case, &mut ground);
+    let mut left = left_of(alloc, case, ground);
+    show_both(rt, alloc, case, &ran, &mut left)
+}
+
+/// Prints what the session came to, and then runs it over what the crash left.
+fn show_both(
+    rt: &impl Print,
+    alloc: Global,
+    case: &Case,
+    ran: &Option<Ran>,
+    left: &mut Option<Ground>,
+) -> io::Result<()> {
+    show_ran(rt, ran)?;
+    match left {
         Some(left) => show_left(rt, alloc, case, left),
         None => println!(rt; "  no store"),
     }
@@ -37,7 +50,7 @@ fn show_stopped(rt: &impl Print, alloc: Global, case: &Case, ground: Ground) -> 
 
 /// A new server, and the store of what a crash leaves.
 fn left_of(alloc: Global, case: &Case, ground: Ground) -> Option<Ground> {
-    let store = crashed(alloc, ground.store)?;
+    let store = crashed(alloc, ground.into_store())?;
     ground_over(alloc, case.schedule.as_slice(), store)
 }
 
@@ -49,10 +62,9 @@ fn crashed(alloc: Global, store: PageStore<MemDisk>) -> Option<PageStore<MemDisk
 }
 
 /// Prints the store, and runs the session.
-fn show_left(rt: &impl Print, alloc: Global, case: &Case, left: Ground) -> io::Result<()> {
-    let mut left = left;
+fn show_left(rt: &impl Print, alloc: Global, case: &Case, left: &mut Ground) -> io::Result<()> {
     show_store(rt, alloc, &left.store)?;
-    show_run(rt, alloc, case, &mut left)
+    show_run(rt, alloc, case, left)
 }
 
 /// The number of decimal digits; 0 if they aren't of a number below 2^32.

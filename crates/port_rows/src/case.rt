@@ -48,22 +48,35 @@ pub fn empty(alloc: Global) -> Case {
 
 /// Takes what a line adds to the description; false if it adds nothing.
 pub fn takes(alloc: Global, case: &mut Case, word: &str, rest: &str) -> Result<bool, AllocError> {
-    match word {
-        "words" => case.words = words_of(alloc, rest)?,
-        "script" => add_line(&mut case.script, rest)?,
-        "schedule" => add_line(&mut case.schedule, rest)?,
-        "write" => case.writes.push(number_of(rest))?,
-        "fail" => case.fails.push(number_of(rest))?,
-        "told" => add_coming(alloc, &mut case.told, rest)?,
-        "arrival" => add_coming(alloc, &mut case.arrivals, rest)?,
+    let added = match word {
+        "words" => take_words(alloc, case, rest),
+        "script" => add_line(&mut case.script, rest),
+        "schedule" => add_line(&mut case.schedule, rest),
+        "write" => add_number(&mut case.writes, rest),
+        "fail" => add_number(&mut case.fails, rest),
+        "told" => add_coming(alloc, &mut case.told, rest),
+        "arrival" => add_coming(alloc, &mut case.arrivals, rest),
         _ => return Ok(false),
-    }
+    };
+    added?;
     Ok(true)
+}
+
+/// The words are those of a line from now on.
+fn take_words(alloc: Global, case: &mut Case, line: &str) -> Result<(), AllocError> {
+    case.words = words_of(alloc, line)?;
+    Ok(())
 }
 
 fn add_line(text: &mut Vec<u8>, line: &str) -> Result<(), AllocError> {
     text.extend_from_slice(line.as_bytes())?;
     text.push(b'\n')?;
+    Ok(())
+}
+
+/// Adds the number of decimal digits.
+fn add_number(numbers: &mut Vec<u32>, digits: &str) -> Result<(), AllocError> {
+    numbers.push(number_of(digits))?;
     Ok(())
 }
 

@@ -30,16 +30,17 @@ use std::io;
 
 /// Does what a line asks for; whether it ends the description.
 fn row(rt: &impl Print, alloc: Global, case: &Case, word: &str, rest: &str) -> io::Result<bool> {
-    match word {
-        "portmap" => words::show_portmap(rt, alloc, rest)?,
-        "ports" => words::show_with_ports(rt, alloc, rest)?,
-        "udp" => words::show_udp(rt, alloc, rest)?,
-        "batches" => words::show_batches(rt, alloc, rest)?,
-        "found" => session::run_over_world(rt, alloc, case)?,
-        "dialed" => session::run_by_portmap(rt, alloc, case)?,
-        "datagrams" => session::run_over_datagrams(rt, alloc, case)?,
+    let shown = match word {
+        "portmap" => words::show_portmap(rt, alloc, rest),
+        "ports" => words::show_with_ports(rt, alloc, rest),
+        "udp" => words::show_udp(rt, alloc, rest),
+        "batches" => words::show_batches(rt, alloc, rest),
+        "found" => session::run_over_world(rt, alloc, case),
+        "dialed" => session::run_by_portmap(rt, alloc, case),
+        "datagrams" => session::run_over_datagrams(rt, alloc, case),
         _ => return Ok(false),
-    }
+    };
+    shown?;
     Ok(true)
 }
 

@@ -28,15 +28,19 @@ fn streams_of(alloc: Global, case: &Case) -> Result<Streams, Memory> {
     })
 }
 
+/// What a session came to.
+#[derive(Drop)]
+struct Ran {
+    status: u8,
+    sink: MemSink,
+    /// The datagrams whose calls are printed.
+    asked: MemDatagrams,
+}
+
 /// Runs the session by a port mapper over the simulated server, and prints what was asked of the port mapper.
 pub fn run_over_world(rt: &impl Print, alloc: Global, case: &Case) -> io::Result<()> {
     match parse_schedule(alloc, case.schedule.as_slice()) {
-        Ok((mut world, _)) => {
-            if let Some(finder) = run_found_over(rt, alloc, case, &mut world)? {
-                show_calls(rt, &finder)?;
-            }
-            Ok(())
-        }
+        Ok((mut world, _)) => show_ran(rt, run_found_over(alloc, case, &mut world)),
         Err(ScheduleFault::Line(line)) => println!(rt; "  schedule {line}"),
         Err(ScheduleFault::Memory) => println!(rt; "  out of memory"),
     }
@@ -44,30 +48,19 @@ pub fn run_over_world(rt: &impl Print, alloc: Global, case: &Case) -> io::Result
 
 /// Runs the session by a port mapper over datagrams, and prints what was asked of the server.
 pub fn run_by_portmap(rt: &impl Print, alloc: Global, case: &Case) -> io::Result<()> {
-    let Ok(over) = datagrams(alloc, case.arrivals.as_slice(), &[]) else {
-        return println!(rt; "  out of memory");
-    };
-    let mut link = UdpLink::new(over);
-    run_found_over(rt, alloc, case, &mut link)?;
-    show_calls(rt, &link.into_datagrams())
+    show_ran(rt, run_found_by_datagrams(alloc, case))
 }
 
-/// Runs the session by a port mapper, and prints its status and what it wrote. The datagrams of the port mapper, unless memory runs
-/// out.
-fn run_found_over<L: Link>(
-    rt: &impl Print,
-    alloc: Global,
-    case: &Case,
-    link: &mut L,
-) -> io::Result<Option<MemDatagrams>> {
-    let (Ok(over), Ok(mut streams)) = (
-        datagrams(alloc, case.told.as_slice(), case.fails.as_slice()),
-        streams_of(alloc, case),
-    ) else {
-        println!(rt; "  out of memory")?;
-        return Ok(None);
-    };
+/// Runs a session over datagrams, and prints what was asked of the server.
+pub fn run_over_datagrams(rt: &impl Print, alloc: Global, case: &Case) -> io::Result<()> {
+    show_ran(rt, run_by_datagrams(alloc, case))
+}
+
+/// Runs the session by a port mapper, and gives the datagrams of the port mapper.
+fn run_found_over<L: Link>(alloc: Global, case: &Case, link: &mut L) -> Result<Ran, Memory> {
+    let over = datagrams(alloc, case.told.as_slice(), case.fails.as_slice())?;
     let mut finder = UdpLink::new(over);
+    let mut streams = streams_of(alloc, case)?;
     let status = run_found(
         alloc,
         case.words.as_slice(),
@@ -77,20 +70,31 @@ fn run_found_over<L: Link>(
         &mut streams.clock,
         &mut streams.sink,
     );
-    show_end(rt, status, &streams.sink)?;
-    Ok(Some(finder.into_datagrams()))
+    Ok(Ran {
+        status,
+        sink: streams.sink,
+        asked: finder.into_datagrams(),
+    })
 }
 
-/// Runs a session over datagrams, and prints its status, what it wrote and what was asked of the server.
-pub fn run_over_datagrams(rt: &impl Print, alloc: Global, case: &Case) -> io::Result<()> {
-    let (Ok(over), Ok(mut streams), Ok(words)) = (
-        datagrams(alloc, case.arrivals.as_slice(), case.fails.as_slice()),
-        streams_of(alloc, case),
-        udp_words(alloc, case.words.as_slice()),
-    ) else {
-        return println!(rt; "  out of memory");
-    };
+/// Runs the session by a port mapper over datagrams, and gives those of the server.
+fn run_found_by_datagrams(alloc: Global, case: &Case) -> Result<Ran, Memory> {
+    let over = datagrams(alloc, case.arrivals.as_slice(), &[])?;
     let mut link = UdpLink::new(over);
+    let ran = run_found_over(alloc, case, &mut link)?;
+    Ok(Ran {
+        status: ran.status,
+        sink: ran.sink,
+        asked: link.into_datagrams(),
+    })
+}
+
+/// Runs a session over datagrams, and gives them.
+fn run_by_datagrams(alloc: Global, case: &Case) -> Result<Ran, Memory> {
+    let words = udp_words(alloc, case.words.as_slice())?;
+    let over = datagrams(alloc, case.arrivals.as_slice(), case.fails.as_slice())?;
+    let mut link = UdpLink::new(over);
+    let mut streams = streams_of(alloc, case)?;
     let status = run(
         alloc,
         words.as_slice(),
@@ -99,8 +103,22 @@ pub fn run_over_datagrams(rt: &impl Print, alloc: Global, case: &Case) -> io::Re
         &mut streams.clock,
         &mut streams.sink,
     );
-    show_end(rt, status, &streams.sink)?;
-    show_calls(rt, &link.into_datagrams())
+    Ok(Ran {
+        status,
+        sink: streams.sink,
+        asked: link.into_datagrams(),
+    })
+}
+
+/// Prints the status of a session, what it wrote and what was asked, unless memory ran out.
+fn show_ran(rt: &impl Print, ran: Result<Ran, Memory>) -> io::Result<()> {
+    match ran {
+        Ok(ran) => {
+            show_end(rt, ran.status, &ran.sink)?;
+            show_calls(rt, &ran.asked)
+        }
+        Err(_) => println!(rt; "  out of memory"),
+    }
 }
 
 /// Prints the status and what was written.
