@@ -1,23 +1,11 @@
-//! What is printed.
+//! Scripts that are made.
 
+use crate::show::show_text;
 use crate::text::{number_of, size_of};
 use made_script::{made, summary};
 use std::alloc::Global;
 use std::io;
 use xdr_codec::Writer;
-
-/// Prints each line of a text.
-pub fn show_text(rt: &impl Print, bytes: &[u8]) -> io::Result<()> {
-    match std::str::from_utf8(bytes) {
-        Ok(text) => {
-            for line in text.lines() {
-                println!(rt; "  {line}")?;
-            }
-            Ok(())
-        }
-        Err(_) => println!(rt; "  no text"),
-    }
-}
 
 /// Prints how many lines the script of that size has, and how many bytes.
 pub fn show_made(rt: &impl Print, alloc: Global, rest: &str) -> io::Result<()> {
